@@ -29,7 +29,7 @@ def compiled(folder):
 
 
 def failing(kind, number, fault, is_on=False):
-    """What the library is told of a call that fails, and of each one behind it, if it is on."""
+    """What the library is told of a call that fails, and of each one after it, if it is on."""
     return f"{kind}:{number}{'+' * is_on}:{fault}"
 
 def built(trials):
@@ -160,7 +160,7 @@ def unlocked(trials, calls):
 
 
 def renamed(trials, calls):
-    """A file gives its name up, to another one or to none, right behind its lock."""
+    """A file gives its name up, to another one or to none, right after its lock."""
     for name, slot, has_next in itertools.product(COMMANDS, range(SLOTS), (False, True)):
         with trials.over("whole") as folder:
             (folder / "next").write_bytes(b"next" * 50_000)
@@ -240,7 +240,7 @@ def unsynced_files(trials, calls):
 
     def made_over(what, folder, said):
         if said == MADE:
-            # The first sync of a file behind the set, which then counts as one that is not there.
+            # The first sync of a file after the set, which then counts as one that is not there.
             check(f"{what}, which one", what, "make with a fault of sync 4 of a file")
             trials.works(what, folder)
             return

@@ -1,5 +1,5 @@
 """The cases of `edges` of how a command begins: which calls it makes before it reads, in which
-order, and what it does where the first sync of a file fails. A look makes none of these syncs."""
+order, and what it does where the first sync of a file fails. An inspection makes none of these syncs."""
 import errno, itertools
 
 from faulty_calls import failing
@@ -8,7 +8,7 @@ from trials import COMMANDS, LOST, MADE
 from trials import asked, check, check_files, file, held
 
 SYNCS, ALL = ("fsync", "fdatasync"), range(10)
-# A slot behind the set, of the start that has files in all ten.
+# A slot after the set, of the start that has files in all ten.
 BEHIND = 7
 NO_ROOM = {errno.ENOSPC: "no space left on device", errno.EDQUOT: "disk quota exceeded"}
 # A sync that fails for another reason, also that of a file that has none.
@@ -66,7 +66,7 @@ def order_of_calls(trials, calls):
 
 
 def looks_only(trials, calls):
-    """A look opens each file, and calls for nothing but reads."""
+    """An inspection opens each file, and calls for nothing but reads."""
     for start in ("ten", "whole", "absent", "short", "joined", "empty"):
         with trials.over(start) as folder:
             _, found = calls_of(calls, "examine", folder)
@@ -150,7 +150,7 @@ def interrupted(trials, calls):
 
 def unmade_by_sync(trials, calls):
     """No set is made with a file whose first sync fails, and none such is taken into a slot; one
-    behind the set is as if it was not there."""
+    after the set is as if it was not there."""
     there = (0, 1, 4, 7)
     cases = [("make", "some", number, slot) for number, slot in enumerate(there, 1)]
     cases += [("make", "ten", slot + 1, slot) for slot in range(10)]

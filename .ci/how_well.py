@@ -17,7 +17,7 @@ CASES = (
 
 
 def how_well(trials):
-    """A status and a look, as text and as JSON, with the question and without it, over copies of the same files."""
+    """A status and an inspection, as text and as JSON, with the question and without it, over copies of the same files."""
     for start, away, wanted in CASES:
         for name in ("examine", "status"):
             for more in ((), ("--json",)):

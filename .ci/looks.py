@@ -1,4 +1,4 @@
-"""What `examine` tells, taken apart; what it says that assembling would do; and a look at whatever a
+"""What `examine` tells, taken apart; what it says that assembling would do; and an inspection of whatever a
 test leaves."""
 import json, os, re, shutil, stat
 
@@ -13,12 +13,12 @@ SLOT_KEYS = ("slot", "role", "presence", "generation", "incarnation", "entry", "
 
 
 def numbers(values):
-    """What is told, with what is a number as one, and a role without the spaces behind it."""
+    """What is told, with what is a number as one, and a role without the spaces after it."""
     return [int(it) if it and it.strip().isdigit() else it and it.strip() for it in values]
 
 
 class Told:
-    """What a look tells of a set."""
+    """What an inspection tells of a set."""
 
     def __init__(self, head, slots, last):
         self.head = dict(zip(HEAD_KEYS, numbers(head.groups())))
@@ -58,7 +58,7 @@ def state_after(output):
 
 
 def foreseen(told):
-    """What a status of the set is to tell by the last line of a look."""
+    """What a status of the set is to tell by the last line of an inspection."""
     generation = told.head["generation"]
     if told.last == COMPLETE:
         return generation, 0, []
@@ -72,13 +72,13 @@ def foreseen(told):
 
 
 def is_as_foreseen(told, status, output, error):
-    """Whether a status of the set ends as the last line of a look says."""
+    """Whether a status of the set ends as the last line of an inspection says."""
     if told.last == TWO_LOST:
         return (status, output, error) == (1, "", f"{TWO_LOST}\n")
     return (status, error) == (0, "") and state_after(output) == foreseen(told)
 
 
-# A look at what a test leaves
+# An inspection of what a test leaves
 
 
 def held(folder):
@@ -118,7 +118,7 @@ def copied(folder, place):
 
 
 def look(program, folder, place):
-    """Whatever stands in a folder, looking at it ends, and changes no byte and no time of a change. Of
+    """Whatever stands in a folder, inspecting it ends, and changes no byte and no time of a change. Of
     each set that it tells a copy, in this place, assembles as it says."""
     before = held(folder), times(folder)
     status, output, error = answered([program, "examine", folder], timeout=LONGEST)
@@ -131,7 +131,7 @@ def look(program, folder, place):
 
 
 def check_outlook(program, folder, place, told):
-    """Assembling a copy does what a look told, but where one file is in two slots."""
+    """Assembling a copy does what an inspection told, but where one file is in two slots."""
     is_one_file = copied(folder, place)
     status, output, error = answered([program, "status", place, "--id", told.head["id"]], timeout=LONGEST)
     shutil.rmtree(place)

@@ -81,7 +81,7 @@ def copy_tree(to):
 
 @mounting
 def trees(sets):
-    """A tree is copied, and is the same behind a restart, also without one of the device files; no file system is made over another one."""
+    """A tree is copied, and is the same after a restart, also without one of the device files; no file system is made over another one."""
     folder = sets.copy(with_file_system(sets), "trees")
     Served(sets, folder, "--mkfs", is_mounted=True, waits=False).check_refused("the volume is not empty")
     served = Served(sets, folder, is_mounted=True)
@@ -110,12 +110,12 @@ def crashes(sets):
     folder = sets.copy(with_file_system(sets), "crashes")
     served = Served(sets, folder, is_mounted=True)
     served.end(signal.SIGKILL, -signal.SIGKILL)
-    (sets.mountpoint / "file").write_text("written behind the kill", encoding="ascii")
+    (sets.mountpoint / "file").write_text("written after the kill", encoding="ascii")
     with open(sets.mountpoint / "file", "rb"):
         Served(sets, folder, is_mounted=True, waits=False).check_refused("is still in use")
     served = Served(sets, folder, is_mounted=True)
-    if (sets.mountpoint / "file").read_text(encoding="ascii") != "written behind the kill":
-        raise Failed("a file is not as it was written behind the kill of raidmount")
+    if (sets.mountpoint / "file").read_text(encoding="ascii") != "written after the kill":
+        raise Failed("a file is not as it was written after the kill of raidmount")
     with open(sets.mountpoint / "file", "rb"):
         served.ran.send_signal(signal.SIGTERM)
         until(lambda: served.says("is in use, and is unmounted as soon as"), "the word that it is in use")
@@ -261,7 +261,7 @@ def a_failing_file(sets):
 
 @mounting
 def tutorial(sets):
-    """The commands of the page that mount print what stands behind them there."""
+    """The commands of the page that mount print what stands after them there."""
     run([TOP / ".ci/tutorial", "--root", sets.program])
     sets.count("the tutorial")
 

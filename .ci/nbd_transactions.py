@@ -26,7 +26,7 @@ def rows_after(number):
 
 def opened(path):
     base = sqlite3.connect(path, isolation_level=None)
-    # A journal that is deleted would not do: SQLite doesn't sync the folder behind that, so a transaction that was answered could be taken back.
+    # A journal that is deleted would not do: SQLite doesn't sync the folder after that, so a transaction that was answered could be taken back.
     base.execute("PRAGMA journal_mode = TRUNCATE")
     base.execute("PRAGMA synchronous = FULL")
     base.execute("CREATE TABLE IF NOT EXISTS filled (row INTEGER, part INTEGER, bytes BLOB, PRIMARY KEY (row, part))")

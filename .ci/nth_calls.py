@@ -2,7 +2,7 @@
 first, the second, and so on, until it makes no more.
 
 Whichever call fails, the command ends as ever, or with a line of docs/FORMATS.md, "Command line".
-What is not the set's is as it was. Behind a refusal that comes before the set is touched all files
+What is not the set's is as it was. After a refusal that comes before the set is touched all files
 are so; a set that was there still assembles, lacks one slot at most, and has what was
 acknowledged."""
 import errno, itertools, re
@@ -71,7 +71,7 @@ REPLIES = "ok\nok\n11*512\n12*512\na 64\n"
 OUTPUTS = {"make": MADE[1], "replace": "ok\n", "fail": "ok\n", "upgrade": "ok\n", "run": REPLIES}
 OUTPUTS.update(rebuild="complete\n", scrub="256 rows, 0 bad\n")
 TWO_LOST = (1, "", "refused 15 TwoLost\n")
-# The refusals behind which a device may have fallen in the call, and what was begun may stand.
+# The refusals after which a device may have failed in the call, and what was begun may stand.
 FALLS = (9, 11, 12, 13, 15, 16)
 
 
@@ -194,7 +194,7 @@ class Faulty:
         check(f"{self.what}, what dev7.img holds", self.found.get(file(7)), self.kept.get(file(7)))
 
     def check_set(self):
-        """What the set is, behind it."""
+        """What the set is, after it."""
         if self.name == "make" and not self.said[0]:
             self.check_synced()
             self.trials.works(self.what, self.folder)
@@ -223,10 +223,10 @@ class Faulty:
         check(f"{self.what}, then the status", said, TWO_LOST if is_in_part else NO_SET)
 
     def check_look(self):
-        """A look changes nothing, whatever it tells."""
+        """An inspection changes nothing, whatever it tells."""
         self.check_untouched()
         if self.said[2].startswith("in use"):
-            differs(self.what, "a look asks for a lock")
+            differs(self.what, "an inspection asks for a lock")
         if not self.said[0] and len([*told_in(self.what, self.said[1])]) != 1:
             differs(self.what, "another number of sets than one is told")
 

@@ -9,7 +9,7 @@ GET_FLAGS, SET_FLAGS, IMMUTABLE = 0x80086601, 0x40086602, 0x10
 WHY = "operation not permitted\n"
 # The commands that make no file, nor need that of a slot.
 GO_ON = ("status", "run", "scrub", "fail", "rebuild", "upgrade")
-# A slot that is in sync, and one behind the set, of the start that has files in all ten.
+# A slot that is in sync, and one after the set, of the start that has files in all ten.
 IN_SYNC, BEHIND = 1, 7
 
 
@@ -50,7 +50,7 @@ def goes_on(trials, name):
 
 
 def passed_over(trials):
-    """A file that can't be opened: of a slot that is missing, of one that is in sync, of both, and behind the set."""
+    """A file that can't be opened: of a slot that is missing, of one that is in sync, of both, and after the set."""
     try:
         with trials.over("given up") as folder, closed(folder, LOST):
             pass

@@ -1,5 +1,5 @@
 """The cases of `power_cuts`: what the program is given in a first start, of which any call may be
-the last, and in the next ones; and what has to be read behind a power cut."""
+the last, and in the next ones; and what has to be read after a power cut."""
 import collections
 
 from shared import ID, shape
@@ -12,7 +12,7 @@ READ = ("read a 0 32", "read a 32 32")
 ANY_SLOT = frozenset(range(SLOTS))
 ZEROS = ("00*512",) * BLOCKS
 
-# A start of the program: its words behind the folder, the lines that it is given, the device that
+# A start of the program: its words after the folder, the lines that it is given, the device that
 # answers faults from the call with this number on, and the slot whose file is away meanwhile.
 Start = collections.namedtuple("Start", "words script fault away", defaults=("", None, None))
 # A case:
@@ -50,7 +50,7 @@ WRITES = ("write a 0 11*512", "write a 8 33*512", "write a 40 44*512")
 MANY = "write a 4 " + " ".join(f"{value:02x}*512" for value in range(0x50, 0x70))
 MORE = (MANY, "write a 3 70*512 71*512 72*512", "write a 8 73*512")
 WHOLE = [make(), run("create a 64", *WRITES)]
-# What comes next, and what comes behind that where it is killed too.
+# What comes next, and what comes after that where it is killed too.
 GOES_ON = [[start("status")], [run("write a 8 d0*512")]]
 LAST = [[run("write a 8 e0*512")]]
 AGAIN = [run("read a 0 9", "write a 1 d1*512 d2*512", "write a 8 d3*512")]
@@ -175,7 +175,7 @@ def count_of(line):
 
 
 def changed(content, line):
-    """The volume behind a line."""
+    """The volume after a line."""
     word, *rest = line.split()
     if word == "create" and rest[0] == "a":
         return ZEROS

@@ -98,7 +98,7 @@ def tried(cases, folder, tell=lambda seconds: None):
 
 def faults_of(cases, output, told):
     """What is wrong with the cases, by what `rt try` wrote."""
-    # A case's output stands behind its name, and what it writes to standard error before the line of its end.
+    # A case's output stands after its name, and what it writes to standard error before the line of its end.
     written = re.split(r"^== (\w+)\n", output, flags=re.M)
     written = dict(zip(written[1::2], written[2::2]))
     lines = re.split(r"^case=(\w+) (.*)\n", told, flags=re.M)

@@ -2,7 +2,7 @@
    the system's (LD_PRELOAD), with what is to happen in variables:
 
    FAULTS   a list of `KIND:NUMBER:ERRNO`, with a space between two: the call of that kind with this
-            number fails, counted from 1; with `NUMBER+` also each one behind it. Kinds: `open`,
+            number fails, counted from 1; with `NUMBER+` also each one after it. Kinds: `open`,
             `create` (an open that may create), `lock`, `stat`, `sync` of a file, `names` (a sync of
             a folder), `cut`, `read`, `write`, `unlink`, `path` (what a link leads to), `memory`.
    SEEN     a file that is made where a call failed, or what else is asked for here was done.
@@ -14,9 +14,9 @@
             `fdatasync`, `read`, `write`, `cut`.
    PUT_NAME, PUT_FROM   right before an open that may create a path whose last part is PUT_NAME, the
             file PUT_FROM takes that path.
-   LOCK_TO, LOCK_FROM   right behind the lock of the file LOCK_TO the file LOCK_FROM takes its name,
+   LOCK_TO, LOCK_FROM   right after the lock of the file LOCK_TO the file LOCK_FROM takes its name,
             or it has none.
-   LOCK_STOP   the process stops right behind its lock of this number. */
+   LOCK_STOP   the process stops right after its lock of this number. */
 #define _GNU_SOURCE
 #include <dlfcn.h>
 #include <errno.h>

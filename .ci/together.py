@@ -1,5 +1,5 @@
 """The cases of `edges` in which two programs come to one set: at once, one while another one has
-the files, and one behind another that was killed."""
+the files, and one after another that was killed."""
 import contextlib, fcntl, itertools, os, pathlib, re, signal, subprocess
 from concurrent.futures import ThreadPoolExecutor
 
@@ -106,7 +106,7 @@ def pair(trials, start, names, rounds, is_creating=False):
 
 
 def look_beside(trials, name):
-    """A look that starts together with a command ends with 0, or finds no set where there was none.
+    """An inspection that starts together with a command ends with 0, or finds no set where there was none.
     The command ends as ever. Returns how often they started."""
     start = "empty" if name == "make" else start_of([name])
     with trials.over(start) as folder:
@@ -119,7 +119,7 @@ def look_beside(trials, name):
             check(f"{what}, the command", said, whole)
             check_files(what, found, after)
             if start != "empty" or looked != NO_SET:
-                check(f"{what}, the look", (looked[0], looked[2]), (0, ""))
+                check(f"{what}, the inspection", (looked[0], looked[2]), (0, ""))
                 check(f"{what}, the sets that are told", len([*told_in(what, looked[1])]), 1)
             trials.count()
     return ROUNDS
@@ -150,7 +150,7 @@ def pairs(trials):
 
 
 def in_use_by_another(trials):
-    """Each file is locked by this process in turn, also one behind the set, and one of no set."""
+    """Each file is locked by this process in turn, also one after the set, and one of no set."""
     slots = [("ten", slot) for slot in (*range(SLOTS), 7)]
     for (start, slot), how in itertools.product(slots, (fcntl.LOCK_EX, fcntl.LOCK_SH)):
         with trials.over(start) as folder, open(folder / file(slot), "rb") as opened:
@@ -276,11 +276,11 @@ def stopped(trials):
             trials.count()
 
 
-# One that is stopped by the library, right behind some of its locks
+# One that is stopped by the library, right after some of its locks
 
 
 def stopped_at(calls, name, folder, lock):
-    """A command that stops itself behind this many locks."""
+    """A command that stops itself after this many locks."""
     seen = calls.new_path()
     env = calls.environment(seen, {"LOCK_STOP": lock})
     with open(calls.new_path(), "w+b") as given:
@@ -291,7 +291,7 @@ def stopped_at(calls, name, folder, lock):
         os.unlink(given.name)
     state = os.waitid(os.P_PID, ran.pid, os.WSTOPPED | os.WEXITED | os.WNOWAIT)
     seen.unlink(missing_ok=True)
-    check(f"whether {name} stops behind {lock} locks", state.si_code, os.CLD_STOPPED)
+    check(f"whether {name} stops after {lock} locks", state.si_code, os.CLD_STOPPED)
     return ran
 
 
@@ -301,7 +301,7 @@ def start_to_stop(name):
 
 
 def stopped_behind_locks(trials, calls):
-    """Each command is stopped behind its first lock and behind its last one while each command
+    """Each command is stopped after its first lock and after its last one while each command
     starts, and then goes on as ever."""
     for name, lock in itertools.product(COMMANDS, (1, SLOTS)):
         start = start_to_stop(name)
@@ -309,7 +309,7 @@ def stopped_behind_locks(trials, calls):
             whole, after = trials.ask(name, folder), held(folder)
         with trials.over(start) as folder:
             with ended(stopped_at(calls, name, folder, lock)) as ran:
-                what = f"while a {name} is stopped behind {lock} locks"
+                what = f"while a {name} is stopped after {lock} locks"
                 trials.each_refused(what, ANY_IN_USE, folder)
                 trials.look(folder)
                 ran.send_signal(signal.SIGCONT)

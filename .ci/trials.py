@@ -78,7 +78,7 @@ class Trials:
 
     def begin(self):
         """Makes the starts: a set with a volume, one whose slot is given up, one with a new device
-        there, one whose file is away there or too short, one with files behind the set, and some
+        there, one whose file is away there or too short, one with files after the set, and some
         files of no set, of which one is too short."""
         starts = self.starts
         starts["whole"] = self.after("empty", ("make", "made\n"), ("run", "ok\n" * 3))
@@ -113,7 +113,7 @@ class Trials:
 
     @contextlib.contextmanager
     def over(self, start):
-        """Such a folder, for a while. A look at what is left there changes nothing."""
+        """Such a folder, for a while. An inspection of what is left there changes nothing."""
         folder = self.put(start)
         yield folder
         self.look(folder)
@@ -123,7 +123,7 @@ class Trials:
         look(self.program, folder, self.top / self.new_name())
 
     def run(self, line, script="", before=(), **how):
-        """Runs the program with these words, behind those that are before it."""
+        """Runs the program with these words, after those that are before it."""
         with tempfile.TemporaryFile(buffering=0) as given:
             given.write(script.encode())
             given.seek(0)

@@ -3,7 +3,7 @@
    variables:
 
    CALLS_LOG     the file to whose end a record of each call goes, once it was made.
-   CALLS_STOP    a number: the process is killed right behind the call with this number, counted
+   CALLS_STOP    a number: the process is killed right after the call with this number, counted
                  from 1, or right before it where a `-` stands before the number.
    CALLS_FAULT   `SLOT:NUMBER`: each call on the file of this slot ends with EIO, from the call with
                  this number on.
@@ -34,7 +34,7 @@
     static __typeof__(&name) real; \
     if (!real) real = (__typeof__(&name))dlsym(RTLD_NEXT, #name)
 
-/* LONGEST: the seconds behind which the process is ended. */
+/* LONGEST: the seconds after which the process is ended. */
 enum { FILES = 4096, NONE = 255, LONGEST = 60 };
 struct record { uint8_t kind, slot, zeros[6]; uint64_t at; uint64_t bytes; };
 /* Of each open file its slot plus 1, or 0 where it is no device file. */
@@ -71,7 +71,7 @@ static void end(void) { kill(getpid(), SIGKILL); }
 static void before(void) {
     if (++made == -stop) end();
 }
-/* Right behind it, with what is noted of it where it was done. */
+/* Right after it, with what is noted of it where it was done. */
 static void behind(int done, int kind, int slot, uint64_t at, uint64_t bytes, const void *data) {
     if (done) note(kind, slot, at, bytes, data);
     if (made == stop) end();

@@ -2,7 +2,7 @@
 
 unsynced.c records the calls, also over several starts of the program, of which each but the last
 was killed. What they wrote is in the system's page cache at once, and on the disk for sure where
-the file was synced since. A sector of 512 bytes is never torn: behind a power cut it holds what it
+the file was synced since. A sector of 512 bytes is never torn: after a power cut it holds what it
 held at the last sync, or anything that was written to it since then. A file that was lengthened or
 cut, and not synced, has one of its lengths since, with zeros where nothing is. A file that was
 created is there for sure where its folder was synced since.
@@ -22,7 +22,7 @@ Outcome = collections.namedtuple("Outcome", "status output told calls")
 # What is known of starts that read the same so far: which bytes are read next, and what comes then
 # by these.
 Next = collections.namedtuple("Next", "slot at bytes by")
-# Kinds of calls behind which a start is beyond its syncs at open, and those that change nothing.
+# Kinds of calls after which a start is beyond its syncs at open, and those that change nothing.
 BEYOND, SILENT = "RCWTUDE", "SOR"
 
 
@@ -219,7 +219,7 @@ def begins(image, one):
 
 
 def behind(image, calls):
-    """What files hold behind these calls."""
+    """What files hold after these calls."""
     changing = [call for call in calls if call.kind in "CWTU"]
     slots = {call.slot for call in changing}
     disk = Disk({slot: content for slot, content in image.items() if slot in slots})
@@ -281,7 +281,7 @@ class Program:
         self.there = dict(image)
 
     def run(self, image, one, stop=0):
-        """Runs a start over files that hold this, and kills it behind a call, if one is given."""
+        """Runs a start over files that hold this, and kills it after a call, if one is given."""
         self.put(image)
         self.runs += 1
         script = one.script.encode()
@@ -306,11 +306,11 @@ class Program:
         return Outcome(status, output, told, calls)
 
     def kill(self, image, one, calls):
-        """Kills a start really, behind these calls, of which the log has to tell, and no other."""
+        """Kills a start really, after these calls, of which the log has to tell, and no other."""
         counted = sum(call.kind not in "SO" for call in calls)
         came = self.run(image, one, counted)
         if came.status != -signal.SIGKILL or came.calls != calls:
-            text = f"killed behind call {counted}, has status {came.status}, or other calls"
+            text = f"killed after call {counted}, has status {came.status}, or other calls"
             raise Failed(f"{one.words[0]}, {text}")
 
     def check(self, one, calls):

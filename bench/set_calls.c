@@ -1,7 +1,7 @@
 /* set_calls rebuild|scrub FOLDER ROWS: the device calls of a whole rebuild, or of a scrub, of a set of 4 members with so many rows.
 
    A scrub reads each member's sector of each row. A rebuild of slot 1 goes in steps of 64 rows. A step reads for each of its rows the sectors of the other
-   members, and writes that of slot 1, which is synced behind the last. Then the table is published: the sector of the superblock is written on each other slot,
+   members, and writes that of slot 1, which is synced after the last. Then the table is published: the sector of the superblock is written on each other slot,
    each of these is synced, and slot 1 gets it last, with a sync. What the sectors hold is left out: none is worked out and none is compared. */
 #define _GNU_SOURCE
 #include <fcntl.h>

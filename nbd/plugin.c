@@ -38,7 +38,7 @@ enum {
     MOST_BLOCKS = 32,
     /* So many lines at most have no reply yet. A plugin that is killed leaves no more for the program to do before it lets the set go. */
     MOST_LINES = 16,
-    /* `write`, a name, a number, and the blocks, each behind a space. */
+    /* `write`, a name, a number, and the blocks, each after a space. */
     LINE_BYTES = 64 + MOST_BLOCKS * (1 + DIGITS),
     PIPE_BYTES = 1 << 20,
     TEXT_BYTES = 1 << 16,
@@ -127,7 +127,7 @@ static char *put_digits(char *to, const unsigned char *bytes, size_t many)
     return to + 2 * many;
 }
 
-/* Writes a block behind a space. */
+/* Writes a block after a space. */
 static char *put_block(char *to, const unsigned char *block)
 {
     *to++ = ' ';
@@ -276,7 +276,7 @@ static int begin(void)
     return 0;
 }
 
-/* Waits for a reply, without the lock, and reads what is there behind what was read. It says whether there is more to come. */
+/* Waits for a reply, without the lock, and reads what is there after what was read. It says whether there is more to come. */
 static bool read_more(void)
 {
     struct pollfd awaited = {.fd = program.replies, .events = POLLIN};
@@ -721,7 +721,7 @@ static int config_complete(void)
     return program_path != NULL ? 0 : keep(&program_path, strdup("raidtool"));
 }
 
-/* Tries the start while errors still reach the terminal. The program that serves is started behind the fork. */
+/* Tries the start while errors still reach the terminal. The program that serves is started after the fork. */
 static int get_ready(void)
 {
     /* nbdkit does so, too, but later. */

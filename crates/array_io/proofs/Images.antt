@@ -1,6 +1,6 @@
 -- What images mean, and what puts and losses leave of that.
 pub mod Back
-pub mod Behind
+pub mod Beyond
 pub mod CaseAfter
 pub mod Choice
 pub mod Codecs
@@ -14,8 +14,8 @@ pub mod NoEntry
 pub mod Parts
 pub mod Put
 pub mod Rows
-pub mod SameBehind
-pub mod SameBehindStable
+pub mod SameBeyond
+pub mod SameBeyondStable
 pub mod SameList
 pub mod SayingTheSame
 pub mod Spellings

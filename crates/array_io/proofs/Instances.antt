@@ -26,7 +26,7 @@ use Rattle.array_io.specs.Believed.Fresh.{IsFresh, zeros_of}
 use Rattle.array_io.specs.Believed.Holds.{row_count}
 use Rattle.array_io.specs.Believed.Moments.{HoldsThroughout}
 use Rattle.array_io.specs.Believed.Settled.{IsLostSlot, IsSettled, rows_by}
-use Rattle.array_io.specs.Believed.Views.{ArrayView, Fell, GoesOn, RestsOn, StaysButForFalls}
+use Rattle.array_io.specs.Believed.Views.{ArrayView, DeviceFailed, GoesOn, RestsOn, StaysButForFailures}
 use Rattle.array_io.proofs.Reading.Scanning.{own_value}
 use Rattle.array_io.proofs.Laws.Beginning.{holds_at_rest, state_in_sync}
 use Rattle.array_io.proofs.Images.Codecs.{spellings}
@@ -104,7 +104,7 @@ settled_after_reads zero devices table number h lost V settled = settled
 settled_after_reads (suc n) devices table number h lost V settled =
     settled_after_read devices table number (after_reads n h) lost V (settled_after_reads n devices table number h lost V settled)
 
--- at each moment of them what a stop may leave holds
+-- at each moment of them what a crash may leave holds
 held_in_reads : (n devices : ℕ) (table : Table) (number : ℕ) (h : History) (lost : Option Lost) (V : List Bytes) → IsSettled devices table number h lost V
     → HoldsThroughout table devices lost (V ∷ []) h (after_reads n h)
 held_in_reads zero devices table number h lost V settled = here (holds_at_rest devices table number h lost V settled)
@@ -130,13 +130,13 @@ goes_on_in_reads n array = record {
   its_slots = λ has. record { of_bank = has.of_bank; fit = has.fit };
 }
 
-not_fallen : (slot : ℕ) (array new : ArrayView) → new.panel.down slot ≡ array.panel.down slot → Fell slot array.panel new.panel → ⊥
-not_fallen slot array new same fell = false≢true (sym fell.was_up ∙ sym same ∙ fell.is_down)
+not_failed : (slot : ℕ) (array new : ArrayView) → new.panel.down slot ≡ array.panel.down slot → DeviceFailed slot array.panel new.panel → ⊥
+not_failed slot array new same failed = false≢true (sym failed.was_up ∙ sym same ∙ failed.is_down)
 
-pub stays_in_reads : (honest : Type 0) (n : ℕ) (array : ArrayView) (ended : Type 0) → StaysButForFalls honest array (with_reads n array) ended
+pub stays_in_reads : (honest : Type 0) (n : ℕ) (array : ArrayView) (ended : Type 0) → StaysButForFailures honest array (with_reads n array) ended
 stays_in_reads honest n array ended = record {
   table = inl refl;
-  fallen = λ is goes slot of_set fell. absurd (not_fallen slot array (with_reads n array) refl fell);
+  failure = λ is goes slot of_set failed. absurd (not_failed slot array (with_reads n array) refl failed);
 }
 
 -- each of them is a call that a bank may make of a device that is up
@@ -190,10 +190,10 @@ goes_on_at_rest array = record {
   its_slots = λ has. has;
 }
 
-pub stays_at_rest : (honest : Type 0) (array : ArrayView) (ended : Type 0) → StaysButForFalls honest array array ended
+pub stays_at_rest : (honest : Type 0) (array : ArrayView) (ended : Type 0) → StaysButForFailures honest array array ended
 stays_at_rest honest array ended = record {
   table = inl refl;
-  fallen = λ is goes slot of_set fell. absurd (not_fallen slot array array refl fell);
+  failure = λ is goes slot of_set failed. absurd (not_failed slot array array refl failed);
 }
 
 -- the members' own sectors in a row

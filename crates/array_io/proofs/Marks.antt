@@ -1,5 +1,5 @@
 -- A slot is marked missing.
-pub mod FallenMarked
+pub mod FailedMarked
 pub mod MarkMissing
 pub mod MarkedEnd
 pub mod MarkedWhole

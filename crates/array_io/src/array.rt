@@ -12,8 +12,8 @@ mod put;
 pub(crate) mod read;
 
 pub use self::mark::{is_other_out, mark_slot};
-pub use self::put::{done_or_mark, put_on_journal, put_on_members};
-pub use self::read::value_or_mark;
+pub use self::put::{done_or_fail_slot, put_on_journal, put_on_members};
+pub use self::read::value_or_fail_slot;
 
 /// A set that was made or assembled. The fields are open to the crates that make, assemble, rebuild and scrub it.
 #[derive(Drop)]

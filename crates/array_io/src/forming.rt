@@ -141,7 +141,7 @@ fn put_given(geometry: &Geometry, rows: &[u32], sectors: &[(u64, Sector)], entry
 
 // The XOR of the i-th row with what the entry holds of it, and the members' sectors elsewhere. Only the old sectors of the
 // members that the entry holds are read: the row with those is sound, and each is taken out and the new one put in.
-fn sum_by_delta<B: Bank>(
+fn read_modify_write<B: Bank>(
     bank: &mut B,
     table: &mut Table,
     entry: &Entry,
@@ -171,7 +171,7 @@ fn sum_by_delta<B: Bank>(
 }
 
 // The same XOR, for which only the sectors of the members that the entry doesn't hold are read.
-fn sum_of_all<B: Bank>(
+fn reconstruct_write<B: Bank>(
     bank: &mut B,
     table: &mut Table,
     entry: &Entry,
@@ -215,7 +215,7 @@ fn reads_of(live: &Live, member: u8, row: u32) -> u32
 }
 
 // Whether the old values of the sectors that the entry holds of the i-th row take no more reads than those of the others.
-fn reads_fewer(table: &Table, entry: &Entry, i: usize, row: u32) -> bool
+fn prefers_read_modify_write(table: &Table, entry: &Entry, i: usize, row: u32) -> bool
     requires row { row < rows_of table.now.geometry.chunk table.now.geometry.stripes }
     requires place { i < length (numbers_of entry.now) }
     ensures { IsTrue result ↔ (reads_below table.now row (λ member. has_bit (row_mask entry.now i) member) table.now.geometry.members
@@ -253,10 +253,10 @@ fn sum_row<B: Bank>(
     ensures sums { SumsRow (B.honest bank.old) entry.now i row table.old table.new (B.panel bank.old) (B.panel bank.new)
         (B.history bank.old) (B.history bank.new) sum.new result }
 {
-    if reads_fewer(table, entry, i, row) {
-        sum_by_delta(bank, table, entry, i, row, sum)
+    if prefers_read_modify_write(table, entry, i, row) {
+        read_modify_write(bank, table, entry, i, row, sum)
     } else {
-        sum_of_all(bank, table, entry, i, row, sum)
+        reconstruct_write(bank, table, entry, i, row, sum)
     }
 }
 

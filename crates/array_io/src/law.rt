@@ -10,7 +10,7 @@ mod run_begins;
 mod small_core;
 mod stale_content;
 
-pub use between_runs::a_stop_then_a_start;
+pub use between_runs::a_crash_then_a_start;
 pub use device_rules::a_start_is_one_of;
 pub use first_run::settled_begins;
 pub use fresh_set::fresh_set_holds;

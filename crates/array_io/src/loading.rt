@@ -34,7 +34,7 @@ pub fn load_entry<B: Bank>(
         → OnOk result (sector_at entry.new i member
         ≡ sector_of (seen (B.history bank.old) journal) (body_start seal.now.number + rank geometry.now.members seal.now.form i member)) }
     ensures others_stay { (other : ℕ) → B.honest bank.old → other ≢ journal → is_down (B.history bank.new) other ≡ is_down (B.history bank.old) other }
-    ensures none_fell { (device : ℕ) → B.honest bank.old → OnOk result (is_down (B.history bank.new) device ≡ is_down (B.history bank.old) device) }
+    ensures none_failed { (device : ℕ) → B.honest bank.old → OnOk result (is_down (B.history bank.new) device ≡ is_down (B.history bank.old) device) }
     ensures err { IfErr result (λ stop. IsCauseOf (B.panel bank.new) stop × ((stop ≡ Stop.Worn) ⊎ (stop ≡ Stop.Down journal))) }
 {
     let members = geometry.members;
@@ -48,7 +48,7 @@ pub fn load_entry<B: Bank>(
 }
 
 // Reads the sectors that the i-th row of a seal holds, of so many members, from the journal into that row of the entry, whose
-// mask says the same. They stand from a sector on, up to sector 519 at most; it answers the sector behind them.
+// mask says the same. They stand from a sector on, up to sector 519 at most; it answers the sector after them.
 fn load_row<B: Bank>(
     bank: &mut B,
     journal: u8,
@@ -67,14 +67,14 @@ fn load_row<B: Bank>(
     ensures panel { IsLater (B.panel bank.old) (B.panel bank.new) }
     ensures honest { B.honest bank.old ↔ B.honest bank.new }
     ensures read { B.honest bank.old → HasRead (B.history bank.old) (B.history bank.new) }
-    ensures behind { IfOk result (λ at. at ≡ first + count_held (holds members seal.now.form i) members) }
+    ensures beyond { IfOk result (λ at. at ≡ first + count_held (holds members seal.now.form i) members) }
     ensures numbers { numbers_of entry.new ≡ numbers_of entry.old }
     ensures form { form_of entry.new ≡ form_of entry.old }
     ensures loaded { (member : ℕ) → B.honest bank.old → member < members → holds members seal.now.form i member ≡ true
         → OnOk result (sector_at entry.new i member ≡ sector_of (seen (B.history bank.old) journal) (first + count_held (holds members seal.now.form i) member)) }
     ensures others { (other member : ℕ) → other ≢ i → member < MOST_MEMBERS → sector_at entry.new other member ≡ sector_at entry.old other member }
     ensures others_stay { (other : ℕ) → B.honest bank.old → other ≢ journal → is_down (B.history bank.new) other ≡ is_down (B.history bank.old) other }
-    ensures none_fell { (device : ℕ) → B.honest bank.old → OnOk result (is_down (B.history bank.new) device ≡ is_down (B.history bank.old) device) }
+    ensures none_failed { (device : ℕ) → B.honest bank.old → OnOk result (is_down (B.history bank.new) device ≡ is_down (B.history bank.old) device) }
     ensures err { IfErr result (λ stop. IsCauseOf (B.panel bank.new) stop × ((stop ≡ Stop.Worn) ⊎ (stop ≡ Stop.Down journal))) }
 {
     let mut at = first;

@@ -195,7 +195,7 @@ pub(crate) fn put(rt: &impl Abort, image: &mut Image, slot: usize, at: usize, se
     }
 }
 
-/// The bytes of which the members' sectors of a row are full. Behind the members they are 0.
+/// The bytes of which the members' sectors of a row are full. After the members they are 0.
 pub(crate) type Bytes = [u8; 4];
 
 /// Puts a row on so many members.
@@ -207,21 +207,25 @@ pub(crate) fn put_row(rt: &impl Abort, image: &mut Image, members: u8, row: u32,
 }
 
 /// A device, and the call from which on it goes down.
-pub(crate) type Fall = (usize, u64);
+pub(crate) type Failure = (usize, u64);
 
-fn plan_of(rt: &impl Abort, falls: &[Fall]) -> Plan {
+fn plan_of(rt: &impl Abort, failures: &[Failure]) -> Plan {
     let mut plan = Plan::NONE;
-    for fall in falls {
-        assert!(rt; fall.0 < 10);
-        plan.down[fall.0] = Some(fall.1);
+    for failure in failures {
+        assert!(rt; failure.0 < 10);
+        plan.down[failure.0] = Some(failure.1);
     }
     plan
 }
 
 /// A bank that begins with this image, of 5 to 10 slots.
-pub(crate) fn bank_of(rt: &(impl Abort + AllocGlobal), image: Image, falls: &[Fall]) -> MemBank {
+pub(crate) fn bank_of(
+    rt: &(impl Abort + AllocGlobal),
+    image: Image,
+    failures: &[Failure],
+) -> MemBank {
     assert!(rt; matches!(image.slots.len(), 5..=10));
-    let bank = MemBank::new(rt.alloc(), image, plan_of(rt, falls), 1_000);
+    let bank = MemBank::new(rt.alloc(), image, plan_of(rt, failures), 1_000);
     bank.expect(rt, "memory")
 }
 

@@ -1,14 +1,14 @@
-//! Images of a stop, made by hand: what they say of the logical sectors, by the definitions.
+//! Images of a crash, made by hand: what they say of the logical sectors, by the definitions.
 use super::*;
 use crate::testing::{Slots, WHOLE, WITHOUT_2};
 
 mod calls;
 mod commit;
 mod copied_entry;
+mod crashes;
 mod publish;
 mod rebuild_step;
 mod steps;
-mod stops;
 
 use steps::{Ask, Put, Step, run};
 

@@ -18,11 +18,11 @@ never result stop answered is = cc
 pub member_is_read : (honest : Type 0) (slots : LiveSlots) (member row : ℕ) (old_panel new_panel : Panel) (old new : History) → IsLater old_panel new_panel → HasRead old new
     → ((device : ℕ) → is_down new device ≡ is_down old device)
     → ReadsMember honest slots member row old_panel new_panel old new (value (rows_of slots (readable old)) row member) (Ok tt)
-member_is_read honest slots member row old_panel new_panel old new later reads none_fell = record {
+member_is_read honest slots member row old_panel new_panel old new later reads none_failed = record {
   later = later;
   reads = λ fair. reads;
   gives = λ fair answered. refl;
-  stays = λ fair device other. none_fell device;
+  stays = λ fair device other. none_failed device;
   cause = λ stop is. absurd (never (Ok tt) stop refl is);
   named = λ device is. absurd (never (Ok tt) (Down device) refl is);
 }

@@ -6,7 +6,7 @@ use Rattle.sector_model.specs.declared.sector.Stop.{Stop}
 use Rattle.sector_model.specs.declared.sector.Stop.TheVariants.{Down, Worn}
 use Rattle.sector_model.specs.Bank.{IsCauseOf, IsLater, IsTrueTo, Panel, after_read, after_try}
 use Rattle.sector_model.specs.History.{After, Bytes, History, disk_of, is_down, sector_of, seen}
-use Rattle.sector_model.specs.declared.event.Event.TheVariants.{Quiet, Fell}
+use Rattle.sector_model.specs.declared.event.Event.TheVariants.{Quiet, DeviceFailed}
 use Rattle.sector_model.specs.Readable.{readable}
 use Rattle.sector_model.specs.Reads.{HasRead}
 use Rattle.sector_model.proofs.Readable.{readable_up}
@@ -15,7 +15,7 @@ use Rattle.sector_model.proofs.Reading.{read_both, seen_read}
 use Rattle.layout_map.specs.declared.sizes.TheConstants.{FIRST_ROW}
 use Rattle.parity.specs.Xor.{zero_sector}
 use Rattle.degraded.specs.LiveView.{AtMostOneOut, CanRead, IsStopOf}
-use Rattle.degraded.specs.ReadMember.{LiveSlots, OnlyNamedFell, ReadsMember, RebuildingMember, is_below, is_read, rows_of}
+use Rattle.degraded.specs.ReadMember.{LiveSlots, OnlyNamedFailed, ReadsMember, RebuildingMember, is_below, is_read, rows_of}
 use Rattle.degraded.specs.RowValue.{value}
 use Rattle.degraded.proofs.Values.{known, value-own}
 
@@ -80,18 +80,18 @@ stop_of slots row dev panel (Err (Down d)) in_set is (down, inr same) =
 stop_of slots row dev panel (Err Worn) in_set is (calls, which) = calls
 
 -- one read of a device, or none: only that device may have gone down, where an error names it
-pub one_fell : (old new : History) (panel : Panel) (dev : ℕ) (result : Result (Unit {0}) Stop) → new ≡ after_try (after_read dev) result old
-    → IfErr result (λ stop. IsCauseOf panel stop × ((stop ≡ Worn) ⊎ (stop ≡ Down dev))) → OnlyNamedFell result old new
-one_fell old new panel dev (Ok done) is err = λ device other. ap (λ (h : History). is_down h device) is
-one_fell old new panel dev (Err Worn) is err = λ device other. ap (λ (h : History). is_down h device) is
-one_fell old new panel dev (Err (Down d)) is (down, inl worn) = absurd (cc)
-one_fell old new panel dev (Err (Down d)) is (down, inr same) = λ device other.
+pub one_failed : (old new : History) (panel : Panel) (dev : ℕ) (result : Result (Unit {0}) Stop) → new ≡ after_try (after_read dev) result old
+    → IfErr result (λ stop. IsCauseOf panel stop × ((stop ≡ Worn) ⊎ (stop ≡ Down dev))) → OnlyNamedFailed result old new
+one_failed old new panel dev (Ok done) is err = λ device other. ap (λ (h : History). is_down h device) is
+one_failed old new panel dev (Err Worn) is err = λ device other. ap (λ (h : History). is_down h device) is
+one_failed old new panel dev (Err (Down d)) is (down, inl worn) = absurd (cc)
+one_failed old new panel dev (Err (Down d)) is (down, inr same) = λ device other.
     ap (λ (h : History). is_down h device) is ∙ by_case device (λ here. other (ap (λ (k : ℕ). Err (Down k)) (named ∙ sym here))) (is_down old dev)
   where
     named : d ≡ dev
     named = cc
 
-    by_case : (device : ℕ) → device ≢ dev → (b : Bool) → is_down (After (cond b Quiet (Fell dev)) old) device ≡ is_down old device
+    by_case : (device : ℕ) → device ≢ dev → (b : Bool) → is_down (After (cond b Quiet (DeviceFailed dev)) old) device ≡ is_down old device
     by_case device apart true = refl
     by_case device apart false = ap (λ (b : Bool). b || is_down old device) (ne_eqb device dev apart)
 
@@ -110,7 +110,7 @@ own_given slots row member h to (Err stop) is given = tt
 -- the promise of reading a member's row, from its parts
 pub reads_member : (honest : Type 0) (slots : LiveSlots) (member row : ℕ) (old_panel new_panel : Panel) (old new : History) (to : Bytes) (result : Result (Unit {0}) Stop)
     → IsLater old_panel new_panel → (honest → HasRead old new) → (honest → OnOk result (to ≡ value (rows_of slots (readable old)) row member))
-    → (honest → OnlyNamedFell result old new) → IfErr result (IsStopOf slots row new_panel) → ReadsMember honest slots member row old_panel new_panel old new to result
+    → (honest → OnlyNamedFailed result old new) → IfErr result (IsStopOf slots row new_panel) → ReadsMember honest slots member row old_panel new_panel old new to result
 reads_member honest slots member row old_panel new_panel old new to result later reads gives stays err = record {
   later = later;
   reads = reads;

@@ -39,8 +39,8 @@ rows_of slots image = record {
 }
 
 -- only the device that an error names may have gone down
-abbrev pub OnlyNamedFell : Result (Unit {0}) Stop → (old new : History) → Type 0
-OnlyNamedFell result old new = (device : ℕ) → result ≢ Err (Down device) → is_down new device ≡ is_down old device
+abbrev pub OnlyNamedFailed : Result (Unit {0}) Stop → (old new : History) → Type 0
+OnlyNamedFailed result old new = (device : ℕ) → result ≢ Err (Down device) → is_down new device ≡ is_down old device
 
 -- `read_member(bank, live, member, row, to)`: the member's own sector where it counts, else the XOR of the others, by reads alone.
 -- Only a device that `Down` names may have gone down: a member whose sector counts and whose device is down; `Worn` where no further call can be counted.
@@ -49,5 +49,5 @@ pub record ReadsMember (honest : Type 0) (slots : LiveSlots) (member row : ℕ) 
   pub reads : honest → HasRead old new
   pub gives : honest → result ≡ Ok tt → to ≡ value (rows_of slots (readable old)) row member
   pub cause : (stop : Stop) → result ≡ Err stop → IsCauseOf new_panel stop
-  pub stays : honest → OnlyNamedFell result old new
+  pub stays : honest → OnlyNamedFailed result old new
   pub named : (device : ℕ) → result ≡ Err (Down device) → (device < slots.members) × (is_read slots row device ≡ true)

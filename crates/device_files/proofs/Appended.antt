@@ -10,9 +10,9 @@ replicate_more (suc n) m =
     ap (λ (l : List ℕ). 0 ∷ l) (replicate_more n m) ∙ ap (λ (k : ℕ). replicate {A = ℕ} k 0) same
 
 -- zeros after zeros
-pub zeros_behind : (old now new : List ℕ) (done n : ℕ) → now ≡ old ++ replicate {A = ℕ} done 0 → new ≡ now ++ replicate {A = ℕ} n 0
+pub zeros_after : (old now new : List ℕ) (done n : ℕ) → now ≡ old ++ replicate {A = ℕ} done 0 → new ≡ now ++ replicate {A = ℕ} n 0
     → new ≡ old ++ replicate {A = ℕ} (done + n) 0
-zeros_behind old now new done n before grown =
+zeros_after old now new done n before grown =
     grown ∙ ap (λ (l : List ℕ). l ++ replicate {A = ℕ} n 0) before ∙ append_assoc old (replicate {A = ℕ} done 0) (replicate {A = ℕ} n 0) ∙ ap (λ (l : List ℕ). old ++ l) (replicate_more done n)
 
 -- the first of so many zeros are zeros

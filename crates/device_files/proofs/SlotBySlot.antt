@@ -8,9 +8,9 @@ use Rattle.device_files.specs.declared.locked.Before.TheVariants.{Same}
 use Rattle.device_files.specs.DeviceFiles.{AreOthersKept, IsTakenBack, before_in, file_in}
 
 -- what holds of each file below a slot, and of its own, where each other is as it was
-pub made_behind : {F : Type 0} (P : ℕ → Option F → Type 0) (was is : List (Option F)) (slot : ℕ) → ((k : ℕ) → k < slot → P k (file_in was k))
+pub made_after : {F : Type 0} (P : ℕ → Option F → Type 0) (was is : List (Option F)) (slot : ℕ) → ((k : ℕ) → k < slot → P k (file_in was k))
     → AreOthersKept was is slot → P slot (file_in is slot) → (k : ℕ) → k < slot + 1 → P k (file_in is k)
-made_behind P was is slot below others here =
+made_after P was is slot below others here =
     below_more (λ k. P k (file_in is k)) slot
     (λ k under. let apart : k ≢ slot = omega (arith, under) in subst (P k) (sym (others k apart)) (below k under)) here
 
@@ -25,10 +25,10 @@ kept_at P was is slot all others here k = elim (cases_eq k slot) [
 -- the files after a slot are what they were at first
 pub untouched_next : {F : Type 0} (first was is : List (Option F)) (slot : ℕ) → ((k : ℕ) → slot ≤ k → file_in was k ≡ file_in first k)
     → AreOthersKept was is slot → (k : ℕ) → slot + 1 ≤ k → file_in is k ≡ file_in first k
-untouched_next first was is slot behind others k from =
+untouched_next first was is slot beyond others k from =
     let apart : k ≢ slot = omega (arith, from) in
     let on : slot ≤ k = omega (arith, from) in
-    others k apart ∙ behind k on
+    others k apart ∙ beyond k on
 
 -- what was noted of the files below a slot is taken back, and of its own
 pub taken_next : {F : Type 0} (told : F → List ℕ) (Removed : ℕ → Type 0) (notes_first notes : List Before) (first was is : List (Option F)) (slot : ℕ) → notes ≡ notes_first
@@ -36,11 +36,11 @@ pub taken_next : {F : Type 0} (told : F → List ℕ) (Removed : ℕ → Type 0)
     → ((k : ℕ) → slot ≤ k → file_in was k ≡ file_in first k) → AreOthersKept was is slot
     → IsTakenBack told (Removed slot) (before_in notes slot) (file_in was slot) (file_in is slot)
     → (k : ℕ) → k < slot + 1 → IsTakenBack told (Removed k) (before_in notes_first k) (file_in first k) (file_in is k)
-taken_next told Removed notes_first notes first was is slot same below behind others here =
+taken_next told Removed notes_first notes first was is slot same below beyond others here =
     let on : slot ≤ slot = omega arith in
-    made_behind (λ k file. IsTakenBack told (Removed k) (before_in notes_first k) (file_in first k) file) was is slot below others
+    made_after (λ k file. IsTakenBack told (Removed k) (before_in notes_first k) (file_in first k) file) was is slot below others
     (subst (λ (all : List Before). IsTakenBack told (Removed slot) (before_in all slot) (file_in first slot) (file_in is slot)) same
-    (subst (λ file. IsTakenBack told (Removed slot) (before_in notes slot) file (file_in is slot)) (behind slot on) here))
+    (subst (λ file. IsTakenBack told (Removed slot) (before_in notes slot) file (file_in is slot)) (beyond slot on) here))
 
 -- a file of which nothing was noted is as it was
 pub same_next : {F : Type 0} (notes_first notes : List Before) (first was is : List (Option F)) (slot : ℕ) → notes ≡ notes_first
@@ -48,11 +48,11 @@ pub same_next : {F : Type 0} (notes_first notes : List Before) (first was is : L
     → ((k : ℕ) → slot ≤ k → file_in was k ≡ file_in first k) → AreOthersKept was is slot
     → (before_in notes slot ≡ Same → file_in is slot ≡ file_in was slot)
     → (k : ℕ) → before_in notes_first k ≡ Same → file_in is k ≡ file_in first k
-same_next notes_first notes first was is slot same all behind others here k none = elim (cases_eq k slot) [
+same_next notes_first notes first was is slot same all beyond others here k none = elim (cases_eq k slot) [
   | inl at ↦
       let on : slot ≤ slot = omega arith in
       let none_here : before_in notes slot ≡ Same = ap (λ (all : List Before). before_in all slot) same ∙ ap (λ (j : ℕ). before_in notes_first j) (sym at) ∙ none in
-      subst (λ (j : ℕ). file_in is j ≡ file_in first j) (sym at) (here none_here ∙ behind slot on)
+      subst (λ (j : ℕ). file_in is j ≡ file_in first j) (sym at) (here none_here ∙ beyond slot on)
   | inr apart ↦ others k apart ∙ all k none
 ]
 

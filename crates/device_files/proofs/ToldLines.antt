@@ -30,8 +30,8 @@ part_of_more old new text more is = record {
 }
 
 -- what stands in front was written before
-pub part_behind : (old mid new : Option (List ℕ)) (front text : List ℕ) → Appends old mid front → AppendsPart mid new text → AppendsPart old new (front ++ text)
-part_behind old mid new front text before is = record {
+pub part_after : (old mid new : Option (List ℕ)) (front text : List ℕ) → Appends old mid front → AppendsPart mid new text → AppendsPart old new (front ++ text)
+part_after old mid new front text before is = record {
   part = front ++ is.part;
   is_part = record {
     rest = is.is_part.rest;
@@ -42,7 +42,7 @@ part_behind old mid new front text before is = record {
 }
 
 -- what is written after a text is written of both
-pub writes_behind : (done : Result (Unit {0}) Refusal) (old mid new : Option (List ℕ)) (front text : List ℕ) → Appends old mid front → WritesText mid new text done
+pub writes_after : (done : Result (Unit {0}) Refusal) (old mid new : Option (List ℕ)) (front text : List ℕ) → Appends old mid front → WritesText mid new text done
     → WritesText old new (front ++ text) done
-writes_behind (Ok value) old mid new front text before wrote = record { ok = Appends-trans old mid new front text before wrote.ok; part = tt; kind = tt }
-writes_behind (Err refusal) old mid new front text before wrote = record { ok = tt; part = part_behind old mid new front text before wrote.part; kind = wrote.kind }
+writes_after (Ok value) old mid new front text before wrote = record { ok = Appends-trans old mid new front text before wrote.ok; part = tt; kind = tt }
+writes_after (Err refusal) old mid new front text before wrote = record { ok = tt; part = part_after old mid new front text before wrote.part; kind = wrote.kind }

@@ -63,7 +63,7 @@ impl<S: Files + AllocGlobal> FolderSync for SystemFolders<'_, S> {
 
     fn linked_folder(&self, path: &str) -> io::Result<Option<PathBuf>> {
         match fs::symlink_metadata(self.rt, path) {
-            Ok(found) if found.is_symlink() => folder_behind(fs::canonicalize(self.rt, path)),
+            Ok(found) if found.is_symlink() => folder_of_target(fs::canonicalize(self.rt, path)),
             Ok(_) => Ok(None),
             Err(error) => none_if_absent(error),
         }
@@ -71,7 +71,7 @@ impl<S: Files + AllocGlobal> FolderSync for SystemFolders<'_, S> {
 }
 
 // The folder of the file to which a link leads; none where it leads nowhere.
-fn folder_behind(file: io::Result<PathBuf>) -> io::Result<Option<PathBuf>>
+fn folder_of_target(file: io::Result<PathBuf>) -> io::Result<Option<PathBuf>>
     ensures nowhere { IfErr file (λ error. SaysAbsent error → result ≡ Ok None) }
     ensures fault { IfErr file (λ error. ¬ SaysAbsent error → result ≡ Err error) }
     ensures there { OnOk file (IsOk result) }

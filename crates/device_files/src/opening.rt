@@ -183,7 +183,7 @@ pub(super) fn open_claimed<P: Paths>(
 where
     P::Open: Lock,
     ensures ours { IfOk result (λ file. IfSome file (λ locked. P.Open.is_ours locked.file)) }
-    ensures looked { OnOk result (P.leading_other paths.now path.now false) }
+    ensures inspected { OnOk result (P.leading_other paths.now path.now false) }
     ensures regular { IfOk result (λ file. IfSome file (λ locked. P.other locked.file false)) }
     ensures other { result ≡ Err OpenFault.NotRegular → P.leading_other paths.now path.now true ⊎ ((locked : P.Open) × P.other locked true) }
 {

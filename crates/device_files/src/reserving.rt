@@ -16,7 +16,7 @@ use std::io;
 /// than so many, and syncs it. No byte that is there is changed, also where that fails, and what the file was is noted, so
 /// that `undo` takes it back.
 ///
-/// `NoFile` where the file could not be created, lengthened or synced, `InUse` where another program has it, each with this
+/// `NoFile` where the file could not be created, lengthened or synced, `InUse` where another program has locked it, each with this
 /// slot, and `Memory` where an allocation was refused.
 pub fn lengthen_slot<D: SlotFiles>(
     alloc: Global,

@@ -9,12 +9,12 @@ pub first_byte : (bytes : List ℕ) (version : ℕ) → bytes ≡ first_sector v
 unfolding first_sector
 first_byte bytes version is = ap (λ (xs : List ℕ). get_or xs 0 0) is
 
--- what is behind that
-pub behind_first : (bytes : List ℕ) (version : ℕ) → bytes ≡ first_sector version → drop 1 bytes ≡ zeros 511
+-- what is after that
+pub past_first : (bytes : List ℕ) (version : ℕ) → bytes ≡ first_sector version → drop 1 bytes ≡ zeros 511
 unfolding first_sector
-behind_first bytes version is = ap (drop 1) is
+past_first bytes version is = ap (drop 1) is
 
--- a byte with zeros behind it
+-- a byte with zeros after it
 pub first_spelled : (bytes : List ℕ) → length bytes ≡ 512 → drop 1 bytes ≡ zeros 511 → bytes ≡ first_sector (get_or bytes 0 0 + 1)
 unfolding first_sector
 first_spelled [] long rest = absurd (omega arith)

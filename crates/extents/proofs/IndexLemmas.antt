@@ -80,7 +80,7 @@ slot_is_one owners one volume place two other place' map at_one at_two same = el
 
 -- a volume from 32 on has no extent
 pub none_from_32 : (owners : List (Option Owned)) (volume : ℕ) → IsExtentMap owners → MOST_VOLUMES ≤ volume → count_of owners volume ≡ 0
-none_from_32 owners volume map behind = elim (cases_lt 0 (count_of owners volume)) [
+none_from_32 owners volume map beyond = elim (cases_lt 0 (count_of owners volume)) [
   | inl some ↦
       let there = ((extents_are_counted owners map).places volume).extent_at 0 some in
       absurd (omega (arith, map.volumes there.0 volume 0 there.1))
@@ -142,7 +142,7 @@ count_adds owners counts extent owned so_far within at below_32 =
     is_not : (owned : Owned) (volume : ℕ) → (volume ≡ owned.volume → ⊥) → is_of volume (Some owned) ≡ false
     is_not owned volume other = grind (arith, nat_tests)
 
--- the first volumes' starts are summed up, and behind them are the counts
+-- the first volumes' starts are summed up, and after them are the counts
 pub record AreStartsBelow (owners : List (Option Owned)) (starts : List ℕ) (volume : ℕ) : Type 0 where
   pub long : length starts ≡ MOST_VOLUMES + 1
   pub done : (v : ℕ) → v ≤ volume → get_or starts v 0 ≡ counted_below owners v
@@ -279,8 +279,8 @@ part_is_extents owners packed volume first end map are_packed part = record {
 
 -- a volume without extents has an empty part
 pub none_are_extents : (owners : List (Option Owned)) (volume : ℕ) → IsExtentMap owners → MOST_VOLUMES ≤ volume → AreExtentsOf owners volume []
-none_are_extents owners volume map behind = record {
-  count = sym (none_from_32 owners volume map behind);
+none_are_extents owners volume map beyond = record {
+  count = sym (none_from_32 owners volume map beyond);
   each = λ place below. absurd (omega arith);
   all = λ extent place at. absurd (omega (arith, map.volumes extent volume place at));
 }

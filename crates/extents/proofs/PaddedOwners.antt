@@ -22,7 +22,7 @@ none_free n k = elim (cases_lt k n) [
   | inr beyond ↦ get_or_past (replicate n None) k None (omega (arith, beyond, length-replicate {A = Option Owned} n None))
 ]
 
--- each extent has the owner that it has in the map, and those behind it are free
+-- each extent has the owner that it has in the map, and those after it are free
 pub owner_padded : (owners : List (Option Owned)) (extent : ℕ) → owner_of (owners_padded owners) extent ≡ owner_of owners extent
 unfolding owners_padded
 owner_padded owners extent = elim (cases_lt extent (length owners)) [
@@ -39,7 +39,7 @@ pub take_padded : (owners : List (Option Owned)) → take (length owners) (owner
 unfolding owners_padded
 take_padded owners = take_at owners (replicate (MOST_EXTENTS - length owners) None) (length owners) refl
 
--- what has each of the map's owners, and is free behind them, is all of them
+-- what has each of the map's owners, and is free after them, is all of them
 pub copied_all : (owners new : List (Option Owned)) → length owners ≤ MOST_EXTENTS → AreCopiedBelow owners new MOST_EXTENTS → new ≡ owners_padded owners
 copied_all owners new most copied = ext_get_or None new (owners_padded owners) (copied.long ∙ sym (length-padded owners most))
     (λ extent within. copied.below extent (omega (arith, within, copied.long)) ∙ sym (owner_padded owners extent))

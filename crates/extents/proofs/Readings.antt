@@ -21,7 +21,7 @@ cell_cut version sectors number width each wide many =
     ∙ ap (λ (n : ℕ). cell width n 1 sectors number) (sym many)
     ∙ cut (width * (number % each)) width (get_or sectors (1 + number / each) [])
 
--- behind the records of the version there is none
+-- after the records of the version there is none
 pub none_is_at : (version : ℕ) (sectors : List (List ℕ)) (number : ℕ) → most_volumes version ≤ number → IsRecordAt version sectors number None
 none_is_at version sectors number past = record {
   spelled = λ below. absurd (omega arith);

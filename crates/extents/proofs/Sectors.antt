@@ -36,28 +36,28 @@ pub spelling_is : (version : ℕ) (records : List (Option Record)) (extents : Li
 unfolding spelling
 spelling_is version records extents sectors long each = fill_by_all (sector_of version records extents) sectors (table_length version) [] long each
 
--- behind the first sector come those of records
+-- after the first sector come those of records
 pub sector_of_records : (version : ℕ) (records : List (Option Record)) (extents : List (Option Owned)) (k s : ℕ) → k ≡ 1 + s → s < record_sectors version
     → sector_of version records extents k ≡ record_sector version records s
 sector_of_records version records extents k s is below =
-    let behind = 1 + record_sectors version in
+    let beyond = 1 + record_sectors version in
     let other : eqb k 0 ≡ false = ne_eqb k 0 (λ zero_is. omega arith) in
-    let before : ltb k behind ≡ true = lt-ltb k behind (omega arith) in
+    let before : ltb k beyond ≡ true = lt-ltb k beyond (omega arith) in
     let number : k - 1 ≡ s = omega arith in
-    ap (λ (b : Bool). cond b (first_sector version) (cond (ltb k behind) (record_sector version records (k - 1)) (extent_sector extents (k - behind)))) other
-    ∙ ap (λ (b : Bool). cond b (record_sector version records (k - 1)) (extent_sector extents (k - behind))) before
+    ap (λ (b : Bool). cond b (first_sector version) (cond (ltb k beyond) (record_sector version records (k - 1)) (extent_sector extents (k - beyond)))) other
+    ∙ ap (λ (b : Bool). cond b (record_sector version records (k - 1)) (extent_sector extents (k - beyond))) before
     ∙ ap (record_sector version records) number
 
--- behind those come the sectors of extents
+-- after those come the sectors of extents
 pub sector_of_extents : (version : ℕ) (records : List (Option Record)) (extents : List (Option Owned)) (k s : ℕ) → k ≡ 1 + record_sectors version + s
     → sector_of version records extents k ≡ extent_sector extents s
 sector_of_extents version records extents k s is =
-    let behind = 1 + record_sectors version in
+    let beyond = 1 + record_sectors version in
     let other : eqb k 0 ≡ false = ne_eqb k 0 (λ zero_is. omega arith) in
-    let past : ltb k behind ≡ false = le-ltb k behind (omega arith) in
-    let number : k - behind ≡ s = omega arith in
-    ap (λ (b : Bool). cond b (first_sector version) (cond (ltb k behind) (record_sector version records (k - 1)) (extent_sector extents (k - behind)))) other
-    ∙ ap (λ (b : Bool). cond b (record_sector version records (k - 1)) (extent_sector extents (k - behind))) past
+    let past : ltb k beyond ≡ false = le-ltb k beyond (omega arith) in
+    let number : k - beyond ≡ s = omega arith in
+    ap (λ (b : Bool). cond b (first_sector version) (cond (ltb k beyond) (record_sector version records (k - 1)) (extent_sector extents (k - beyond)))) other
+    ∙ ap (λ (b : Bool). cond b (record_sector version records (k - 1)) (extent_sector extents (k - beyond))) past
     ∙ ap (extent_sector extents) number
 
 -- what is written for one sector
@@ -73,12 +73,12 @@ wrote_records version records extents k each bytes some below as_many is =
     ∙ ap (λ (n : ℕ). flat_map (record_bytes version) (take n (drop (n * (k - 1)) records))) as_many
     ∙ sym (sector_of_records version records extents k (k - 1) (omega arith) (omega arith))
 
-pub wrote_extents : (version : ℕ) (records : List (Option Record)) (extents : List (Option Owned)) (k behind : ℕ) (bytes : List ℕ) → behind ≡ 1 + record_sectors version → behind ≤ k
-    → bytes ≡ flat_map owner_bytes (take (128 * (k - behind) + 128 - 128 * (k - behind)) (drop (128 * (k - behind)) extents)) → bytes ≡ sector_of version records extents k
+pub wrote_extents : (version : ℕ) (records : List (Option Record)) (extents : List (Option Owned)) (k beyond : ℕ) (bytes : List ℕ) → beyond ≡ 1 + record_sectors version → beyond ≤ k
+    → bytes ≡ flat_map owner_bytes (take (128 * (k - beyond) + 128 - 128 * (k - beyond)) (drop (128 * (k - beyond)) extents)) → bytes ≡ sector_of version records extents k
 unfolding extent_sector
-wrote_extents version records extents k behind bytes place past is =
-    is ∙ ap (flat_map owner_bytes) (sym (cut (128 * (k - behind)) 128 extents))
-    ∙ sym (sector_of_extents version records extents k (k - behind) (omega arith))
+wrote_extents version records extents k beyond bytes place past is =
+    is ∙ ap (flat_map owner_bytes) (sym (cut (128 * (k - beyond)) 128 extents))
+    ∙ sym (sector_of_extents version records extents k (k - beyond) (omega arith))
 
 -- names that are no longer than those of the version, in a part of the records
 pub part_short : (version : ℕ) (records : List (Option Record)) (at n : ℕ) → ((volume : ℕ) → IsShort version (record_of records volume))
@@ -163,7 +163,7 @@ room_of records extents table number owner at =
     let most = extents_most (record_of records owner.volume) in
     let long = table.all_records in
     record {
-      volume = ⊎_elim (λ below. omega arith) (λ behind. absurd (let none : extents_of EXTENT_SECTORS (record_of records owner.volume) ≡ 0 = ap (extents_of EXTENT_SECTORS) (get_or_past records owner.volume None (omega arith)) in omega arith)) (cases_lt owner.volume MOST_VOLUMES);
+      volume = ⊎_elim (λ below. omega arith) (λ beyond. absurd (let none : extents_of EXTENT_SECTORS (record_of records owner.volume) ≡ 0 = ap (extents_of EXTENT_SECTORS) (get_or_past records owner.volume None (omega arith)) in omega arith)) (cases_lt owner.volume MOST_VOLUMES);
       place = omega arith;
     }
 

@@ -17,15 +17,15 @@ use Rattle.extents.specs.Checks.{IsNamed, IsFirstNamed, IsFirstAt, OwnersFit, Al
 use Rattle.layout_map.specs.declared.sizes.TheConstants.{EXTENT_SECTORS, MOST_EXTENTS}
 use Rattle.extents.specs.declared.volume_table.TheConstants.{MOST_VOLUMES}
 
--- a record behind the last takes no extent
-none_behind : (records : List (Option Record)) (volume : ℕ) → length records ≡ MOST_VOLUMES → MOST_VOLUMES ≤ volume → extents_of EXTENT_SECTORS (record_of records volume) ≡ 0
-none_behind records volume long behind = ap (extents_of EXTENT_SECTORS) (get_or_past records volume None (omega arith))
+-- a record after the last takes no extent
+none_beyond_end : (records : List (Option Record)) (volume : ℕ) → length records ≡ MOST_VOLUMES → MOST_VOLUMES ≤ volume → extents_of EXTENT_SECTORS (record_of records volume) ≡ 0
+none_beyond_end records volume long beyond = ap (extents_of EXTENT_SECTORS) (get_or_past records volume None (omega arith))
 
 -- each volume has its places
 places_from : (records : List (Option Record)) (extents : List (Option Owned)) → length records ≡ MOST_VOLUMES → OwnersFit EXTENT_SECTORS records extents → AllPlacesOccur EXTENT_SECTORS records extents
     → (volume : ℕ) → (volume < MOST_VOLUMES) ⊎ (MOST_VOLUMES ≤ volume) → HasPlaces extents volume (extents_of EXTENT_SECTORS (record_of records volume))
 places_from records extents long fit occur volume side = record {
-  extent_at = ⊎_elim (λ below. occur volume below) (λ behind place within. absurd (omega (arith, none_behind records volume long behind))) side;
+  extent_at = ⊎_elim (λ below. occur volume below) (λ beyond place within. absurd (omega (arith, none_beyond_end records volume long beyond))) side;
   below = λ extent place at. (fit extent (record { volume = volume; place = place }) at).within;
   once = λ first second place one other.
       let owner : Owned = record { volume = volume; place = place } in
@@ -65,7 +65,7 @@ read_at xs i x within is = get_or_default xs i None x within ∙ sym is
 
 -- what is there is within the list
 pub some_within : {X : Type 0} (xs : List (Option X)) (i : ℕ) (x : X) → get_or xs i None ≡ Some x → i < length xs
-some_within xs i x at = ⊎_elim (λ below. below) (λ behind. absurd (let past : get_or xs i None ≡ None = get_or_past xs i None behind in let no : ⊥ = cc in no)) (cases_lt i (length xs))
+some_within xs i x at = ⊎_elim (λ below. below) (λ beyond. absurd (let past : get_or xs i None ≡ None = get_or_past xs i None beyond in let no : ⊥ = cc in no)) (cases_lt i (length xs))
 
 -- what is at no place before this one
 pub none_before : (number other : ℕ) → (other < number → ⊥) → number ≤ other
@@ -152,11 +152,11 @@ pub all_of_version : (version : ℕ) (records : List (Option Record)) → length
 all_of_version version records long none short = record {
   few = λ volume past. ⊎_elim
       (λ (below : volume < MOST_VOLUMES). none volume below past)
-      (λ (behind : MOST_VOLUMES ≤ volume). get_or_past records volume None (omega (arith, long)))
+      (λ (beyond : MOST_VOLUMES ≤ volume). get_or_past records volume None (omega (arith, long)))
       (cases_lt volume MOST_VOLUMES);
   short = λ volume. ⊎_elim
       (λ (below : volume < MOST_VOLUMES). short volume below)
-      (λ (behind : MOST_VOLUMES ≤ volume) used is. absurd (let past : record_of records volume ≡ None = get_or_past records volume None (omega (arith, long)) in let no : ⊥ = cc in no))
+      (λ (beyond : MOST_VOLUMES ≤ volume) used is. absurd (let past : record_of records volume ≡ None = get_or_past records volume None (omega (arith, long)) in let no : ⊥ = cc in no))
       (cases_lt volume MOST_VOLUMES);
   sized = λ volume used is. used.most;
 }

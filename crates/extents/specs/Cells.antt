@@ -17,7 +17,7 @@ abbrev pub SpellRecords : (version : ℕ) → List (List ℕ) → List (Option R
 SpellRecords version sectors records = (number : ℕ) → number < most_volumes version
     → cell (record_width version) (records_a_sector version) 1 sectors number ≡ record_bytes version (slice_index_or records number None)
 
--- the record of this number: its cell spells it, or there is none, behind those of the version
+-- the record of this number: its cell spells it, or there is none, after those of the version
 pub record IsRecordAt (version : ℕ) (sectors : List (List ℕ)) (number : ℕ) (one : Option Record) : Type 0 where
   pub spelled : number < most_volumes version → cell (record_width version) (records_a_sector version) 1 sectors number ≡ record_bytes version one
   pub few : most_volumes version ≤ number → one ≡ None

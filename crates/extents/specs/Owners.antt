@@ -2,7 +2,7 @@
 use Rattle.std.specs.Prelude.{◌≡◌, ℕ, ◌<◌, List, Option, Some, None, slice_index_or}
 use Rattle.extents.specs.declared.owned.Owned.{Owned}
 
--- who has an extent; those behind the list are free
+-- who has an extent; those after the list are free
 abbrev pub owner_of : List (Option Owned) → ℕ → Option Owned
 owner_of owners extent = slice_index_or owners extent None
 

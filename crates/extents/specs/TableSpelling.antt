@@ -11,7 +11,7 @@ use Rattle.extents.specs.Versions.{record_width, records_a_sector, record_sector
 unfoldable pub zeros : ℕ → List ℕ
 zeros n = replicate n 0
 
--- a record in use: the length of the name, the name with zeros behind it up to the blocks, the blocks, and zeros
+-- a record in use: the length of the name, the name with zeros after it up to the blocks, the blocks, and zeros
 unfoldable pub used_bytes : (version : ℕ) → Record → List ℕ
 used_bytes version one =
     (length one.name.bytes.items ∷ []) ++ one.name.bytes.items ++ zeros (blocks_at version - (1 + length one.name.bytes.items))
@@ -39,7 +39,7 @@ extent_sector extents number = flat_map owner_bytes (take 128 (drop (128 * numbe
 unfoldable pub first_sector : (version : ℕ) → List ℕ
 first_sector version = (version - 1) ∷ zeros 511
 
--- sector 0 has the version; behind it come the records, and then the extents
+-- sector 0 has the version; after it come the records, and then the extents
 abbrev pub sector_of : (version : ℕ) → List (Option Record) → List (Option Owned) → ℕ → List ℕ
 sector_of version records extents number =
     if number == 0 then first_sector version

@@ -7,7 +7,7 @@ use Rattle.extents.specs.Versions.{IsVersion, extent_blocks, most_blocks, most_n
 use Rattle.layout_map.specs.declared.sizes.TheConstants.{MOST_EXTENTS}
 use Rattle.extents.specs.declared.volume_table.TheConstants.{MOST_VOLUMES}
 
--- the record of this number; behind the list there is none
+-- the record of this number; after the list there is none
 abbrev pub record_of : List (Option Record) → ℕ → Option Record
 record_of records volume = slice_index_or records volume None
 

@@ -31,7 +31,7 @@ fn read_version(from: &[Sector]) -> Option<u8>
     version_of(&from[0])
 }
 
-// The record of this number that the sectors spell; none behind those of the version.
+// The record of this number that the sectors spell; none after those of the version.
 fn record_at(version: u8, from: &[Sector; TABLE_SECTORS], number: usize) -> Option<Option<Record>>
     requires { number < MOST_VOLUMES }
     ensures some { IfSome result (λ r. IsRecordAt version from.now number r) }
@@ -86,26 +86,26 @@ impl VolumeTable {
         requires { number < table_length self.now.version }
         ensures { to.new ≡ sector_of self.now.version self.now.records self.now.extents number }
     {
-        let behind = 1 + record_sectors(self.version);
+        let beyond = 1 + record_sectors(self.version);
         if number == 0 {
             to.fill(0);
             to[0] = self.version - 1;
-        } else if number < behind {
+        } else if number < beyond {
             let each = records_a_sector(self.version);
             let first = each * (number - 1);
             let records = &self.records[..];
             write_records(self.version, &records[first..first + each], to);
         } else {
-            let first = 128 * (number - behind);
+            let first = 128 * (number - beyond);
             let extents = &self.extents[..];
             write_owners(&extents[first..first + 128], to);
         }
     }
 
-    /// Writes the one spelling of the table, over whatever the sectors of its version held. Those behind stay.
+    /// Writes the one spelling of the table, over whatever the sectors of its version held. Those after them stay.
     pub fn encode(&self, to: &mut [Sector; TABLE_SECTORS])
         ensures spelled { Spell to.new self.now }
-        ensures behind { drop (table_length self.now.version) to.new ≡ drop (table_length self.now.version) to.old }
+        ensures beyond { drop (table_length self.now.version) to.new ≡ drop (table_length self.now.version) to.old }
     {
         let length = table_length(self.version);
         for (number, sector) in to[..length].iter_mut().enumerate() {
@@ -113,7 +113,7 @@ impl VolumeTable {
         }
     }
 
-    /// The table that the sectors begin with, of a set with so many extents. Sectors behind those of its version are not looked at.
+    /// The table that the sectors begin with, of a set with so many extents. Sectors after those of its version are not looked at.
     ///
     /// None where they spell no table: where sector 0 is not a version and zeros, a record has no good name, one that is
     /// too long for the version, 0 blocks or more than 65,536, or a byte other than 0 outside its fields, two names

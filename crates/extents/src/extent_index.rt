@@ -10,9 +10,9 @@ use crate::volume_table::MOST_VOLUMES;
 /// The extents that are not free, one volume's after the other's, each volume's in order of place.
 #[derive(Drop)]
 pub struct ExtentIndex {
-    /// Where the extents of each volume begin in `packed`, and behind the last volume's where all end.
+    /// Where the extents of each volume begin in `packed`, and after the last volume's where all end.
     pub starts: [u16; MOST_VOLUMES + 1],
-    /// The extents of volume 0 in order of place, then those of volume 1, and so on; what is behind them says nothing.
+    /// The extents of volume 0 in order of place, then those of volume 1, and so on; what is after them says nothing.
     pub packed: [u16; MAX_EXTENTS],
 }
 
@@ -28,7 +28,7 @@ impl ExtentIndex {
     }
 }
 
-// How many extents each volume has, one place behind the volume's own; 0 at place 0.
+// How many extents each volume has, one place after the volume's own; 0 at place 0.
 fn counts_of(owners: &[Option<Owned>]) -> [u16; MOST_VOLUMES + 1]
     requires { IsExtentMap owners.now }
     ensures long { length result ≡ MOST_VOLUMES + 1 }

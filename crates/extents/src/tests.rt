@@ -14,7 +14,7 @@ const A_64: &[u8] =
 const A_65: &[u8] =
     b"\x01\x61\x00\x00\x00\x00\x00\x00\x00\x00\x00\x00\x00\x00\x00\x00\x00\x00\x00\x00\x00\x00\x00\x00\x00\x00\x00\x00\x41\x00\x00\x00";
 
-// What the sectors behind those of version 1 hold: no table, so that whoever looks at them or changes them is seen.
+// What the sectors after those of version 1 hold: no table, so that whoever looks at them or changes them is seen.
 const LEFT: u8 = 0xa5;
 
 // Writes bytes into a sector, from this place on.
@@ -82,7 +82,7 @@ fn check_table(rt: &impl Abort, table: &VolumeTable, version: u8, blocks: u32) {
     check_records(rt, &table.records, blocks);
 }
 
-// Checks that the table has these sectors, and leaves those behind them.
+// Checks that the table has these sectors, and leaves those after them.
 fn check_sectors(rt: &impl Abort, table: &VolumeTable, expected: &[Sector; 25]) {
     let mut sectors = [[LEFT; 512]; 25];
     table.encode(&mut sectors);
@@ -107,7 +107,7 @@ fn table_vectors(rt: HostRuntime) {
     volume_table_law();
 }
 
-// The table of version 1 of `a` with 64 blocks: behind sector 0, which is `01` and 511 zeros, sector 1 of version 2 begins
+// The table of version 1 of `a` with 64 blocks: after sector 0, which is `01` and 511 zeros, sector 1 of version 2 begins
 // with `0161`, 62 zeros and `40000000`, and sector 17 with `01000000`. All else is zero.
 #[test]
 fn upgraded_vector(rt: HostRuntime) {

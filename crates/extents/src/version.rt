@@ -50,8 +50,8 @@ pub fn table_length(version: u8) -> usize
     1 + record_sectors(version) + 8
 }
 
-// Whether each byte behind the first is zero.
-fn is_zero_behind(first: &Sector) -> bool
+// Whether each byte after the first is zero.
+fn is_zero_beyond(first: &Sector) -> bool
     ensures { IsTrue result ↔ (drop 1 first.now ≡ zeros 511) }
 {
     &first[1..] == [0; 511].as_slice()
@@ -63,7 +63,7 @@ pub fn version_of(first: &Sector) -> Option<u8>
     ensures exact { (version : ℕ) → IsVersion version → first.now ≡ first_sector version → result ≡ Some version }
 {
     let byte = first[0];
-    if byte >= LAST_VERSION || !is_zero_behind(first) {
+    if byte >= LAST_VERSION || !is_zero_beyond(first) {
         return None;
     }
     Some(byte + 1)

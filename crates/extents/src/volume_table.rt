@@ -45,7 +45,7 @@ impl VolumeTable {
     }
 
     /// Changes the record of a volume, below 64, and the owners of the extents to those of a map of at most 1,024, so that they are a table again
-    /// (conditions). The extents behind the map are free.
+    /// (conditions). The extents after the map are free.
     pub fn set(&mut self, volume: u8, entry: Option<Record>, map: &ExtentMap)
         requires of_table { volume < MOST_VOLUMES }
         requires most { length map.now ≤ MOST_EXTENTS }
@@ -83,7 +83,7 @@ fn found_in(records: &[Option<Record>], name: &[u8]) -> Option<Found>
     None
 }
 
-// Writes the owners of a map's extents; those behind it are free.
+// Writes the owners of a map's extents; those after it are free.
 fn copy_owners(map: &ExtentMap, to: &mut [Option<Owned>])
     requires most { length map.now ≤ MOST_EXTENTS }
     requires long { length to.old ≡ MOST_EXTENTS }

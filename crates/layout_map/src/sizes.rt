@@ -3,7 +3,7 @@
 /// The most members of a set, and so the sectors that an entry has room for in each of its rows.
 pub const MOST_MEMBERS: u8 = 8;
 
-/// The data sectors below the first extent: the table of volumes, and a reserve behind it.
+/// The data sectors below the first extent: the table of volumes, and a reserve after it.
 pub const RESERVED_SECTORS: u64 = 64;
 /// The data sectors of an extent, each a block of a volume.
 pub const EXTENT_SECTORS: u64 = 64;
@@ -17,9 +17,9 @@ pub const FIRST_ROW: u32 = 8;
 
 /// The halves of a journal: one for the entries with even numbers, and one for those with odd numbers.
 pub const HALVES: u32 = 2;
-/// The sector of a journal with the seal of half 0, behind which that of half 1 stands.
+/// The sector of a journal with the seal of half 0, after which that of half 1 stands.
 pub const FIRST_SEAL: u32 = 2;
-/// The sector of a journal with which the body of half 0 begins, behind which that of half 1 stands.
+/// The sector of a journal with which the body of half 0 begins, after which that of half 1 stands.
 pub const FIRST_BODY: u32 = 8;
 /// The sectors of a half's body: as many as the most rows of the most members.
 pub const BODY_SECTORS: u32 = 256;

@@ -52,10 +52,10 @@ put_chunk_in_rest at n s v short within =
     let rest = drop at s in
     let part = take n rest in
     let long : length part ≡ n = length-take-le n rest (omega (arith, length-drop at s)) in
-    let behind : drop (length v) part ++ drop n rest ≡ drop (length v) rest =
+    let beyond : drop (length v) part ++ drop n rest ≡ drop (length v) rest =
     sym (drop-append-le (length v) part (drop n rest) (omega (arith, long))) ∙ ap (drop (length v)) (take-append-drop n rest) in
     ap (λ t. take at s ++ (t ++ drop n rest)) (put_chunk_is 0 part v (omega (arith, long)))
-    ∙ ap (λ t. take at s ++ t) (append_assoc v (drop (length v) part) (drop n rest) ∙ ap (λ t. v ++ t) behind)
+    ∙ ap (λ t. take at s ++ t) (append_assoc v (drop (length v) part) (drop n rest) ∙ ap (λ t. v ++ t) beyond)
     ∙ sym (put_chunk_is at s v (omega arith))
 
 -- vectors of zeros

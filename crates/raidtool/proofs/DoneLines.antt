@@ -25,7 +25,7 @@ use Rattle.raidtool.specs.Stops.{IsBlamed}
 use Rattle.set_commands.specs.Run.{Streams}
 use Rattle.raidtool.specs.Tool.{IsBlamedIn, IsChecked, IsCutOff, IsDoneIn, IsEndOf, IsEndOfLine, IsFirst, IsMisshapen, IsNone, IsPartWritten, IsStopOf, IsWritten, PassesNone, WasRefused, WasStopped, folder_text, id_text}
 use Rattle.command_line.proofs.Asked.{SameInvocation}
-use Rattle.raidtool.proofs.LooksTold.{looks_written}
+use Rattle.raidtool.proofs.InspectionsTold.{inspections_written}
 use Rattle.raidtool.proofs.Repaired.{told_progress, told_scrub}
 use Rattle.raidtool.proofs.Statuses.{told_status}
 
@@ -39,7 +39,7 @@ written_of (Replace folder id slot) honest bank was is does = does.1
 written_of (Rebuild folder id steps) honest bank was is does = told_progress honest id steps bank _ does
 written_of (Scrub folder id) honest bank was is does = told_scrub honest id bank _ does
 written_of (Upgrade folder id) honest bank was is does = does.1
-written_of (Examine folder id json check) honest bank was is does = looks_written honest id json bank was.contents is.contents does
+written_of (Examine folder id json check) honest bank was is does = inspections_written honest id json bank was.contents is.contents does
 
 same_sizes : (a b c m n k : ℕ) (geometry : Geometry) → a ≡ m → b ≡ n → c ≡ k → HasSizes m n k geometry → HasSizes a b c geometry
 same_sizes a b c m n k geometry first second third has = rw (first, second, third) has
@@ -85,9 +85,9 @@ no_make line other bad = bad
 -- a line that needs no file to be made may pass over one
 pub passes_some : (line : Invocation) → ((folder : Bor Text) (id : List ℕ) (members chunk stripes : ℕ) → line ≡ Make folder id members chunk stripes → ⊥)
     → ((folder : Bor Text) (id : Option (List ℕ)) (json check : Bool) → line ≡ Examine folder id json check → ⊥) → PassesNone line → ⊥
-passes_some (Make folder id members chunk stripes) no_make no_look none = no_make folder id members chunk stripes refl
-passes_some (Examine folder id json check) no_make no_look none = no_look folder id json check refl
-passes_some line no_make no_look none = none
+passes_some (Make folder id members chunk stripes) no_make no_inspection none = no_make folder id members chunk stripes refl
+passes_some (Examine folder id json check) no_make no_inspection none = no_inspection folder id json check refl
+passes_some line no_make no_inspection none = none
 
 -- of two lines that the same words ask for, one passes over no file where the other doesn't
 pub passes_none_too : (a b : Invocation) → SameInvocation a b → PassesNone a → PassesNone b
@@ -101,18 +101,18 @@ passes_none_too a b same none = absurd none
 
 -- of two lines that the same words ask for, it was done in one folder
 pub done_in_too : {F L : Type 0} (Opens : (path : List ℕ) → Result (Option F) OpenFault → Type 0) (IsSafe : F → Type 0)
-    (Looks : (path : List ℕ) → Result (Option L) OpenFault → Type 0) (IsSynced : (folder : List ℕ) → Type 0) (a b : Invocation)
-    → SameInvocation a b → IsDoneIn Opens IsSafe Looks IsSynced b → IsDoneIn Opens IsSafe Looks IsSynced a
-done_in_too Opens IsSafe Looks IsSynced (Run f i) (Run g j) same done = rw (same.0, same.1) done
-done_in_too Opens IsSafe Looks IsSynced (Make f i members chunk stripes) (Make g j m c s) same done = rw (same.0, same.2.members_same) done
-done_in_too Opens IsSafe Looks IsSynced (Status f i json check) (Status g j as_json as_check) same done = rw (same.0, same.1) done
-done_in_too Opens IsSafe Looks IsSynced (Fail f i slot) (Fail g j other) same done = rw (same.0, same.1) done
-done_in_too Opens IsSafe Looks IsSynced (Replace f i slot) (Replace g j other) same done = rw (same.0, same.1, same.2) done
-done_in_too Opens IsSafe Looks IsSynced (Rebuild f i steps) (Rebuild g j others) same done = rw (same.0, same.1) done
-done_in_too Opens IsSafe Looks IsSynced (Scrub f i) (Scrub g j) same done = rw (same.0, same.1) done
-done_in_too Opens IsSafe Looks IsSynced (Upgrade f i) (Upgrade g j) same done = rw (same.0, same.1) done
-done_in_too Opens IsSafe Looks IsSynced (Examine f i json check) (Examine g j as_json as_check) same done = rw same.0 done
-done_in_too Opens IsSafe Looks IsSynced a b same done = absurd same
+    (Inspects : (path : List ℕ) → Result (Option L) OpenFault → Type 0) (IsSynced : (folder : List ℕ) → Type 0) (a b : Invocation)
+    → SameInvocation a b → IsDoneIn Opens IsSafe Inspects IsSynced b → IsDoneIn Opens IsSafe Inspects IsSynced a
+done_in_too Opens IsSafe Inspects IsSynced (Run f i) (Run g j) same done = rw (same.0, same.1) done
+done_in_too Opens IsSafe Inspects IsSynced (Make f i members chunk stripes) (Make g j m c s) same done = rw (same.0, same.2.members_same) done
+done_in_too Opens IsSafe Inspects IsSynced (Status f i json check) (Status g j as_json as_check) same done = rw (same.0, same.1) done
+done_in_too Opens IsSafe Inspects IsSynced (Fail f i slot) (Fail g j other) same done = rw (same.0, same.1) done
+done_in_too Opens IsSafe Inspects IsSynced (Replace f i slot) (Replace g j other) same done = rw (same.0, same.1, same.2) done
+done_in_too Opens IsSafe Inspects IsSynced (Rebuild f i steps) (Rebuild g j others) same done = rw (same.0, same.1) done
+done_in_too Opens IsSafe Inspects IsSynced (Scrub f i) (Scrub g j) same done = rw (same.0, same.1) done
+done_in_too Opens IsSafe Inspects IsSynced (Upgrade f i) (Upgrade g j) same done = rw (same.0, same.1) done
+done_in_too Opens IsSafe Inspects IsSynced (Examine f i json check) (Examine g j as_json as_check) same done = rw same.0 done
+done_in_too Opens IsSafe Inspects IsSynced a b same done = absurd same
 
 -- both hold where it was done
 pub both_done : (P Q : Type 0) (done : Result (Unit {0}) FolderFault) → OnOk done P → OnOk done Q → OnOk done (P × Q)
@@ -121,23 +121,23 @@ both_done P Q (Err fault) first second = tt
 
 -- a line that needs no file to be made was done in the folder whose files were opened
 pub served_in : {F L : Type 0} (Opens : (path : List ℕ) → Result (Option F) OpenFault → Type 0) (IsSafe : F → Type 0)
-    (Looks : (path : List ℕ) → Result (Option L) OpenFault → Type 0) (IsSynced : (folder : List ℕ) → Type 0) (line : Invocation) (done : Result (Unit {0}) FolderFault)
+    (Inspects : (path : List ℕ) → Result (Option L) OpenFault → Type 0) (IsSynced : (folder : List ℕ) → Type 0) (line : Invocation) (done : Result (Unit {0}) FolderFault)
     → ((folder : Bor Text) (id : List ℕ) (members chunk stripes : ℕ) → line ≡ Make folder id members chunk stripes → ⊥)
     → ((folder : Bor Text) (id : List ℕ) (slot : ℕ) → line ≡ Replace folder id slot → ⊥)
     → ((folder : Bor Text) (id : Option (List ℕ)) (json check : Bool) → line ≡ Examine folder id json check → ⊥)
-    → OnOk done (WereTaken IsSafe (λ slot. Opens (slot_path (folder_text line) slot)) (λ _. ⊥) (IsMissingIn (id_text line))) → OnOk done (IsDoneIn Opens IsSafe Looks IsSynced line)
-served_in Opens IsSafe Looks IsSynced (Make folder id members chunk stripes) done no_make no_replace no_look opened = absurd (no_make folder id members chunk stripes refl)
-served_in Opens IsSafe Looks IsSynced (Replace folder id slot) done no_make no_replace no_look opened = absurd (no_replace folder id slot refl)
-served_in Opens IsSafe Looks IsSynced (Examine folder id json check) done no_make no_replace no_look opened = absurd (no_look folder id json check refl)
-served_in Opens IsSafe Looks IsSynced line done no_make no_replace no_look opened = opened
+    → OnOk done (WereTaken IsSafe (λ slot. Opens (slot_path (folder_text line) slot)) (λ _. ⊥) (IsMissingIn (id_text line))) → OnOk done (IsDoneIn Opens IsSafe Inspects IsSynced line)
+served_in Opens IsSafe Inspects IsSynced (Make folder id members chunk stripes) done no_make no_replace no_inspection opened = absurd (no_make folder id members chunk stripes refl)
+served_in Opens IsSafe Inspects IsSynced (Replace folder id slot) done no_make no_replace no_inspection opened = absurd (no_replace folder id slot refl)
+served_in Opens IsSafe Inspects IsSynced (Examine folder id json check) done no_make no_replace no_inspection opened = absurd (no_inspection folder id json check refl)
+served_in Opens IsSafe Inspects IsSynced line done no_make no_replace no_inspection opened = opened
 
 -- and what is blamed is what opening its files, or creating them, came to
 pub served_blamed : {F Made L : Type 0} (Opens : (path : List ℕ) → Result (Option F) OpenFault → Type 0) (Creates : (path : List ℕ) → Result Made CreateFault → Type 0)
-    (HasFailed : F → Type 0) (Looks : (path : List ℕ) → Result (Option L) OpenFault → Type 0) (line : Invocation) (done : Result (Unit {0}) FolderFault)
+    (HasFailed : F → Type 0) (Inspects : (path : List ℕ) → Result (Option L) OpenFault → Type 0) (line : Invocation) (done : Result (Unit {0}) FolderFault)
     → ((folder : Bor Text) (id : Option (List ℕ)) (json check : Bool) → line ≡ Examine folder id json check → ⊥)
-    → IfErr done (IsBlamed Opens Creates HasFailed (folder_text line)) → IfErr done (IsBlamedIn Opens Creates HasFailed Looks line)
-served_blamed Opens Creates HasFailed Looks (Examine folder id json check) done no_look blamed = absurd (no_look folder id json check refl)
-served_blamed Opens Creates HasFailed Looks line done no_look blamed = blamed
+    → IfErr done (IsBlamed Opens Creates HasFailed (folder_text line)) → IfErr done (IsBlamedIn Opens Creates HasFailed Inspects line)
+served_blamed Opens Creates HasFailed Inspects (Examine folder id json check) done no_inspection blamed = absurd (no_inspection folder id json check refl)
+served_blamed Opens Creates HasFailed Inspects line done no_inspection blamed = blamed
 
 -- ---- what stopped it
 

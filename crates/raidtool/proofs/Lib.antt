@@ -1,6 +1,6 @@
 pub mod Checked
 pub mod DoneLines
-pub mod LooksTold
+pub mod InspectionsTold
 pub mod MadeFiles
 pub mod MakeEnds
 pub mod Needs

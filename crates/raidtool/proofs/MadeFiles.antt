@@ -4,7 +4,7 @@ use Rattle.std.proofs.lemmas.Bool.{cases_eq}
 use Rattle.std.specs.Prelude.{Result}
 use Rattle.device_files.specs.declared.locked.Before.{Before}
 use Rattle.device_files.specs.DeviceFiles.{AreOtherNotesKept, AreOthersKept, HasMade, IsNotedOf, StaysOrMade, before_in, file_in, lengthened}
-use Rattle.device_files.proofs.SlotBySlot.{kept_at, made_behind}
+use Rattle.device_files.proofs.SlotBySlot.{kept_at, made_after}
 use Rattle.raidtool.specs.FolderFiles.{IsNotedIn}
 
 -- the files are long enough below a slot and in it, where that one was made so of what it was at first
@@ -13,21 +13,21 @@ pub long_next : {F : Type 0} (Made : ℕ → F → Type 0) (told : F → List �
     → ((k : ℕ) → slot ≤ k → file_in was k ≡ file_in first k) → bytes ≡ need slot → AreOthersKept was is slot
     → HasMade (Made slot) (file_in was slot) (file_in is slot) (λ old new. told new ≡ lengthened bytes (told old))
     → (k : ℕ) → k < slot + 1 → HasMade (Made k) (file_in first k) (file_in is k) (λ old new. told new ≡ lengthened (need k) (told old))
-long_next Made told need first was is slot bytes below behind enough others here =
+long_next Made told need first was is slot bytes below beyond enough others here =
     let on : slot ≤ slot = omega arith in
-    made_behind (λ k file. HasMade (Made k) (file_in first k) file (λ old new. told new ≡ lengthened (need k) (told old))) was is slot below others
+    made_after (λ k file. HasMade (Made k) (file_in first k) file (λ old new. told new ≡ lengthened (need k) (told old))) was is slot below others
     (subst (λ (n : ℕ). HasMade (Made slot) (file_in first slot) (file_in is slot) (λ old new. told new ≡ lengthened n (told old))) enough
-    (subst (λ file. HasMade (Made slot) file (file_in is slot) (λ old new. told new ≡ lengthened bytes (told old))) (behind slot on) here))
+    (subst (λ file. HasMade (Made slot) file (file_in is slot) (λ old new. told new ≡ lengthened bytes (told old))) (beyond slot on) here))
 
 -- no byte of a file is changed, where none was before, and none of that of a slot since
 pub kept_next : {F : Type 0} (Made : ℕ → F → Type 0) (Holds : F → F → Type 0) (first was is : List (Option F)) (slot : ℕ)
     → ((k : ℕ) → StaysOrMade (Made k) (file_in first k) (file_in was k) Holds)
     → ((k : ℕ) → slot ≤ k → file_in was k ≡ file_in first k) → AreOthersKept was is slot
     → StaysOrMade (Made slot) (file_in was slot) (file_in is slot) Holds → (k : ℕ) → StaysOrMade (Made k) (file_in first k) (file_in is k) Holds
-kept_next Made Holds first was is slot all behind others here =
+kept_next Made Holds first was is slot all beyond others here =
     let on : slot ≤ slot = omega arith in
     kept_at (λ k file. StaysOrMade (Made k) (file_in first k) file Holds) was is slot all others
-    (subst (λ file. StaysOrMade (Made slot) file (file_in is slot) Holds) (behind slot on) here)
+    (subst (λ file. StaysOrMade (Made slot) file (file_in is slot) Holds) (beyond slot on) here)
 
 -- what is noted of each file, where that of each but one of a slot is as it was, and of that one it is noted
 pub noted_next : {F Fault : Type 0} (told : F → List ℕ) (Creates : ℕ → Result (F × Before) Fault → Type 0) (need : ℕ → ℕ) (first was is : List (Option F))
@@ -37,22 +37,22 @@ pub noted_next : {F Fault : Type 0} (told : F → List ℕ) (Creates : ℕ → R
     → bytes ≡ need slot → AreOthersKept was is slot → AreOtherNotesKept notes_was notes_is slot
     → IsNotedOf told (Creates slot) bytes (before_in notes_was slot) (file_in was slot) (file_in is slot) (before_in notes_is slot)
     → (k : ℕ) → IsNotedIn told (Creates k) (need k) (before_in notes_first k) (file_in first k) (file_in is k) (before_in notes_is k)
-noted_next told Creates need first was is notes_first notes_was notes_is slot bytes all behind unnoted enough others other_notes here k = elim (cases_eq k slot) [
+noted_next told Creates need first was is notes_first notes_was notes_is slot bytes all beyond unnoted enough others other_notes here k = elim (cases_eq k slot) [
   | inl same ↦
       let on : slot ≤ slot = omega arith in
       subst (λ (j : ℕ). IsNotedIn told (Creates j) (need j) (before_in notes_first j) (file_in first j) (file_in is j) (before_in notes_is j)) (sym same)
       (inl (subst (λ (n : ℕ). IsNotedOf told (Creates slot) n (before_in notes_first slot) (file_in first slot) (file_in is slot) (before_in notes_is slot)) enough
       (subst (λ note. IsNotedOf told (Creates slot) bytes note (file_in first slot) (file_in is slot) (before_in notes_is slot)) (unnoted slot on)
-      (subst (λ file. IsNotedOf told (Creates slot) bytes (before_in notes_was slot) file (file_in is slot) (before_in notes_is slot)) (behind slot on) here))))
+      (subst (λ file. IsNotedOf told (Creates slot) bytes (before_in notes_was slot) file (file_in is slot) (before_in notes_is slot)) (beyond slot on) here))))
   | inr apart ↦
       subst (λ file. IsNotedIn told (Creates k) (need k) (before_in notes_first k) (file_in first k) file (before_in notes_is k)) (sym (others k apart))
       (subst (λ note. IsNotedIn told (Creates k) (need k) (before_in notes_first k) (file_in first k) (file_in was k) note) (sym (other_notes k apart)) (all k))
 ]
 
--- what is noted of the files behind a slot is what it was at first
+-- what is noted of the files after a slot is what it was at first
 pub notes_next : (first was is : List Before) (slot : ℕ) → ((k : ℕ) → slot ≤ k → before_in was k ≡ before_in first k)
     → AreOtherNotesKept was is slot → (k : ℕ) → slot + 1 ≤ k → before_in is k ≡ before_in first k
-notes_next first was is slot behind others k from =
+notes_next first was is slot beyond others k from =
     let apart : k ≢ slot = omega (arith, from) in
     let on : slot ≤ k = omega (arith, from) in
-    others k apart ∙ behind k on
+    others k apart ∙ beyond k on

@@ -1,4 +1,4 @@
--- The slots behind a set are looked at, one after another.
+-- The slots after a set are inspected, one after another.
 use Rattle.std.proofs.Common.{◌≡◌, ◌⊎◌, ◌<◌, ◌≤◌, ◌+◌, inl, inr, arith, sym, subst, refl, ℕ, true, false, List, Option, Some, None, Ok}
 use Rattle.std.specs.Prelude.{Result}
 use Rattle.std.specs.Option.{is_some}
@@ -12,51 +12,51 @@ use Rattle.sector_model.proofs.Panels.{later_both, later_same}
 use Rattle.sector_model.proofs.Reading.{read_both, read_none}
 use Rattle.superblock.specs.declared.table.Superblock.{Superblock}
 use Rattle.superblock.specs.Newest.{SlotCountsNone}
-use Rattle.array_io.specs.Believed.ReadWhole.{NoneFell}
+use Rattle.array_io.specs.Believed.ReadWhole.{NoDeviceFailed}
 use Rattle.recovery.specs.Finding.{Finds, NewestFound}
 use Rattle.recovery.specs.Making.{BankView}
-use Rattle.recovery.proofs.Finding.{Honest, none_fell_first, none_fell_second, same_readable}
+use Rattle.recovery.proofs.Finding.{Honest, none_failed_first, none_failed_second, same_readable}
 
--- the slots from one on and below another were looked at, and in none a superblock counts
-pub record LookedTo (honest : Type 0) (id : List ℕ) (first n : ℕ) (old now : BankView) : Type 0 where
+-- the slots from one on and below another were inspected, and in none a superblock counts
+pub record InspectedTo (honest : Type 0) (id : List ℕ) (first n : ℕ) (old now : BankView) : Type 0 where
   pub later : IsLater old.panel now.panel
   pub reads : honest → HasRead old.history now.history
-  pub none : honest → NoneFell old.panel now.panel → (slot : ℕ) → first ≤ slot → slot < n → SlotCountsNone id old.panel.devices slot (readable old.history slot)
+  pub none : honest → NoDeviceFailed old.panel now.panel → (slot : ℕ) → first ≤ slot → slot < n → SlotCountsNone id old.panel.devices slot (readable old.history slot)
 
-pub looked_none : (honest : Type 0) (id : List ℕ) (first : ℕ) (old : BankView) → LookedTo honest id first first old old
-looked_none honest id first old = record {
+pub inspected_none : (honest : Type 0) (id : List ℕ) (first : ℕ) (old : BankView) → InspectedTo honest id first first old old
+inspected_none honest id first old = record {
   later = later_same old.panel;
   reads = λ fair. read_none old.history;
   none = λ fair stay slot from below. absurd (omega (arith, from, below));
 }
 
 module _ (honest honest_mid : Type 0) (on : honest → honest_mid) (id : List ℕ) (first n : ℕ) (old mid new : BankView) (is_old : honest → Honest old)
-    (is_mid : honest → Honest mid) (looked : LookedTo honest id first n old mid) where
+    (is_mid : honest → Honest mid) (inspected : InspectedTo honest id first n old mid) where
   -- what was found in the next slot
   pub found_next : (found : Option Superblock) → (answer : Result (Option Superblock) Refusal) → answer ≡ Ok found
       → Finds honest_mid id mid.panel.devices (NewestFound id mid.panel.devices n) mid new answer
-      → honest → NoneFell old.panel new.panel → NewestFound id old.panel.devices n (readable old.history) found
+      → honest → NoDeviceFailed old.panel new.panel → NewestFound id old.panel.devices n (readable old.history) found
   found_next found answer is finds h stay =
-      let first_stay = none_fell_first old.panel mid.panel new.panel finds.later stay in
-      let second_stay = none_fell_second old.panel mid.panel new.panel looked.later stay in
-      let same : readable mid.history ≡ readable old.history = same_readable old mid (is_old h) (is_mid h) looked.later (looked.reads h) first_stay in
+      let first_stay = none_failed_first old.panel mid.panel new.panel finds.later stay in
+      let second_stay = none_failed_second old.panel mid.panel new.panel inspected.later stay in
+      let same : readable mid.history ≡ readable old.history = same_readable old mid (is_old h) (is_mid h) inspected.later (inspected.reads h) first_stay in
       let sought : NewestFound id mid.panel.devices n (readable mid.history) found = finds.sought (on h) second_stay found is in
       let there : NewestFound id mid.panel.devices n (readable old.history) found = subst (λ (image : Slots). NewestFound id mid.panel.devices n image found) same sought in
-      subst (λ (devices : ℕ). NewestFound id devices n (readable old.history) found) looked.later.devices there
+      subst (λ (devices : ℕ). NewestFound id devices n (readable old.history) found) inspected.later.devices there
 
   -- it has none
-  pub looked_next : (answer : Result (Option Superblock) Refusal) → answer ≡ Ok None → Finds honest_mid id mid.panel.devices (NewestFound id mid.panel.devices n) mid new answer
-      → LookedTo honest id first (n + 1) old new
-  looked_next answer is finds = record {
-    later = later_both old.panel mid.panel new.panel looked.later finds.later;
-    reads = λ fair. read_both (looked.reads fair) (finds.reads (on fair));
+  pub inspected_next : (answer : Result (Option Superblock) Refusal) → answer ≡ Ok None → Finds honest_mid id mid.panel.devices (NewestFound id mid.panel.devices n) mid new answer
+      → InspectedTo honest id first (n + 1) old new
+  inspected_next answer is finds = record {
+    later = later_both old.panel mid.panel new.panel inspected.later finds.later;
+    reads = λ fair. read_both (inspected.reads fair) (finds.reads (on fair));
     none = λ fair stay slot from below. by_case fair stay slot from below (cases_lt slot n);
   }
     where
-      by_case : honest → NoneFell old.panel new.panel → (slot : ℕ) → first ≤ slot → slot < n + 1 → (slot < n) ⊎ (n ≤ slot) → SlotCountsNone id old.panel.devices slot (readable old.history slot)
-      by_case fair stay slot from below (inl before) = looked.none fair (none_fell_first old.panel mid.panel new.panel finds.later stay) slot from before
-      by_case fair stay slot from below (inr behind) =
-          let at : n ≡ slot = omega (arith, behind, below) in
+      by_case : honest → NoDeviceFailed old.panel new.panel → (slot : ℕ) → first ≤ slot → slot < n + 1 → (slot < n) ⊎ (n ≤ slot) → SlotCountsNone id old.panel.devices slot (readable old.history slot)
+      by_case fair stay slot from below (inl before) = inspected.none fair (none_failed_first old.panel mid.panel new.panel finds.later stay) slot from before
+      by_case fair stay slot from below (inr beyond) =
+          let at : n ≡ slot = omega (arith, beyond, below) in
           subst (λ (k : ℕ). SlotCountsNone id old.panel.devices k (readable old.history k)) at (found_next None answer is finds fair stay)
 
 -- one was found

@@ -54,7 +54,7 @@ IsDone line was is = (bank : BankView) × DoesOn line OfFiles bank was is
 abbrev pub IsMadeSet : (id : List ℕ) → Geometry → Type 0
 IsMadeSet id geometry = (bank : BankView) × MakesOn OfFiles id geometry bank
 
--- the set of an id, or each set, was looked at on such a bank, and what was found was written
+-- the set of an id, or each set, was inspected on such a bank, and what was found was written
 abbrev pub IsExamined : (id : Option (List ℕ)) (json : Bool) (was is : Option (List ℕ)) → Type 0
 IsExamined id json was is = (bank : BankView) × ExaminesOn OfFiles id json bank was is
 

@@ -30,14 +30,14 @@ WereOpened Opens folder = (files : List (Option _)) × ((slot : ℕ) → slot < 
 abbrev pub IsNotedIn : {F Fault : Type 0} → (told : F → List ℕ) (Creates : Result (F × Before) Fault → Type 0) → ℕ → (was : Before) (old new : Option F) (is : Before) → Type 0
 IsNotedIn told Creates bytes was old new is = IsNotedOf told Creates bytes was old new is ⊎ ((new ≡ old) × (is ≡ was))
 
--- where the file of a slot is named, this holds of each slot below it, and that of each behind it
+-- where the file of a slot is named, this holds of each slot below it, and that of each after it
 abbrev pub IsStoppedAt : (Done Untouched : ℕ → Type 0) → FolderFault → Type 0
 IsStoppedAt Done Untouched (NoFile slot) = ((other : ℕ) → other < slot → Done other) × ((other : ℕ) → slot < other → Untouched other)
 IsStoppedAt Done Untouched (InUse slot) = ((other : ℕ) → other < slot → Done other) × ((other : ℕ) → slot < other → Untouched other)
 IsStoppedAt Done Untouched fault = Unit {0}
 
 -- Each file of a set of this geometry is made long enough, one after another: no byte that was there is changed, what each was is noted, and where one can't
--- be, those below it are done and those behind it untouched.
+-- be, those below it are done and those after it untouched.
 abbrev pub MakesFiles : {F : Type 0} → (tells : Bool) (told : F → List ℕ) (IsSafe HasFailed : F → Type 0)
     (Creates : (path : List ℕ) → Result (F × Before) CreateFault → Type 0) → (folder : List ℕ) → Geometry
     → (was is : List (Option F)) (notes_were notes_are : List Before) → Result (Unit {0}) FolderFault → Type 0

@@ -39,11 +39,11 @@ IsBlamed Opens Creates HasFailed folder (NotSafe slot shortage) = (file : _) × 
 IsBlamed Opens Creates HasFailed folder fault = Unit {0}
 
 -- the file of a slot is named as not opened for reading only where that is what opening its path came to
-abbrev pub IsLookBlamed : {F : Type 0} → (Looks : (path : List ℕ) → Result (Option F) OpenFault → Type 0) → (folder : List ℕ) → FolderFault → Type 0
-IsLookBlamed Looks folder (InUse slot) = Looks (slot_path folder slot) (Err OpenFault.Busy)
-IsLookBlamed Looks folder (NotOpened slot reason) = Looks (slot_path folder slot) (Err (OpenFault.Barred reason))
-IsLookBlamed Looks folder (NotRegular slot) = Looks (slot_path folder slot) (Err OpenFault.NotRegular)
-IsLookBlamed Looks folder fault = Unit {0}
+abbrev pub IsInspectionBlamed : {F : Type 0} → (Inspects : (path : List ℕ) → Result (Option F) OpenFault → Type 0) → (folder : List ℕ) → FolderFault → Type 0
+IsInspectionBlamed Inspects folder (InUse slot) = Inspects (slot_path folder slot) (Err OpenFault.Busy)
+IsInspectionBlamed Inspects folder (NotOpened slot reason) = Inspects (slot_path folder slot) (Err (OpenFault.Barred reason))
+IsInspectionBlamed Inspects folder (NotRegular slot) = Inspects (slot_path folder slot) (Err OpenFault.NotRegular)
+IsInspectionBlamed Inspects folder fault = Unit {0}
 
 -- the files of a set of so many members could not be made: the file of one of its slots, or a folder, or memory ran out
 abbrev pub IsFileFault : ℕ → FolderFault → Type 0

@@ -20,15 +20,15 @@ use Rattle.device_files.specs.DeviceFiles.{IsMissingIn, slot_path}
 use Rattle.raidtool.specs.FolderFiles.{WereOpened, WereTaken}
 use Rattle.raidtool.specs.Done.{IsDone, OfFiles}
 use Rattle.set_commands.specs.Run.{Streams}
-use Rattle.set_commands.specs.Healths.{HealthOn, LooksHealth}
+use Rattle.set_commands.specs.Healths.{HealthOn, InspectsHealth}
 use Rattle.set_commands.specs.declared.serving.health.Health.{Health}
 use Rattle.set_commands.specs.declared.serving.health.Health.TheVariants.{Complete, Incomplete, Unassembled}
 use Rattle.recovery.specs.Making.{BankView}
-use Rattle.set_commands.specs.Examining.{IsExamineEnd, IsLookText}
+use Rattle.set_commands.specs.Examining.{IsExamineEnd, IsInspectionText}
 use Rattle.set_commands.specs.Fresh.{IsFreshEnd}
 use Rattle.report.specs.Replies.{made_line, progress_line, refusal_line, reply_text, scrub_line}
 use Rattle.device_files.specs.Faults.{fault_line, IsToldLine}
-use Rattle.raidtool.specs.Stops.{IsBlamed, IsLookBlamed, IsMakeEnd, IsMakeFault, IsServeFault, IsSlotFault, IsTold}
+use Rattle.raidtool.specs.Stops.{IsBlamed, IsInspectionBlamed, IsMakeEnd, IsMakeFault, IsServeFault, IsSlotFault, IsTold}
 use Rattle.set_commands.specs.Serving.{IsEnd, IsFailEnd, IsRebuildEnd, IsReplaceEnd, IsScrubEnd, IsTellEnd, told_text}
 use Rattle.report.specs.Written.{AppendsPart}
 use Rattle.command_line.specs.declared.Invocation.{Invocation}
@@ -127,17 +127,17 @@ pub record IsScrubTold (IsWritten : List ℕ → Type 0) : Type 0 where
   pub report : Report
   pub written : IsWritten (scrub_line report)
 
--- the text tells of these looks one after another, each of the set of this id, if one is given
-abbrev pub AreLooks : (id : Option (List ℕ)) (json : Bool) → List Examined → List ℕ → Type 0
-AreLooks id json [] text = text ≡ []
-AreLooks id json (one ∷ more) text = (first : List ℕ) × (rest : List ℕ) × IsLookText json one first × IfSome id (λ its. one.table.id ≡ its)
-    × AreLooks id json more rest × (text ≡ first ++ rest)
+-- the text tells of these inspections one after another, each of the set of this id, if one is given
+abbrev pub AreInspections : (id : Option (List ℕ)) (json : Bool) → List Examined → List ℕ → Type 0
+AreInspections id json [] text = text ≡ []
+AreInspections id json (one ∷ more) text = (first : List ℕ) × (rest : List ℕ) × IsInspectionText json one first × IfSome id (λ its. one.table.id ≡ its)
+    × AreInspections id json more rest × (text ≡ first ++ rest)
 
 -- what was found of sets, of one at least, is a text of which this holds
-pub record IsLookTold (id : Option (List ℕ)) (json : Bool) (IsWritten : List ℕ → Type 0) : Type 0 where
+pub record IsInspectionTold (id : Option (List ℕ)) (json : Bool) (IsWritten : List ℕ → Type 0) : Type 0 where
   pub examined : List Examined
   pub text : List ℕ
-  pub looks : AreLooks id json examined text
+  pub inspections : AreInspections id json examined text
   pub some : text ≢ []
   pub written : IsWritten text
 
@@ -151,7 +151,7 @@ IsWritten (Replace folder id slot) old new = Appends old new (reply_text Done)
 IsWritten (Rebuild folder id steps) old new = IsProgressTold steps (Appends old new)
 IsWritten (Scrub folder id) old new = IsScrubTold (Appends old new)
 IsWritten (Upgrade folder id) old new = Appends old new (reply_text Done)
-IsWritten (Examine folder id json check) old new = IsLookTold id json (Appends old new)
+IsWritten (Examine folder id json check) old new = IsInspectionTold id json (Appends old new)
 
 -- a beginning of that
 abbrev pub IsPartWritten : Invocation → (old new : Option (List ℕ)) → Type 0
@@ -163,7 +163,7 @@ IsPartWritten (Replace folder id slot) old new = AppendsPart old new (reply_text
 IsPartWritten (Rebuild folder id steps) old new = IsProgressTold steps (AppendsPart old new)
 IsPartWritten (Scrub folder id) old new = IsScrubTold (AppendsPart old new)
 IsPartWritten (Upgrade folder id) old new = AppendsPart old new (reply_text Done)
-IsPartWritten (Examine folder id json check) old new = IsLookTold id json (AppendsPart old new)
+IsPartWritten (Examine folder id json check) old new = IsInspectionTold id json (AppendsPart old new)
 
 -- ---- what standard error gets
 
@@ -223,23 +223,23 @@ id_text (Scrub folder id) = id
 id_text (Upgrade folder id) = id
 id_text (Examine folder id json check) = []
 
--- The files of a line's folder were opened, and each that was used is safe; or for reading alone where its sets were looked at. The folder was synced where a
+-- The files of a line's folder were opened, and each that was used is safe; or for reading alone where its sets were inspected. The folder was synced where a
 -- set was made, and where a slot was given a device, and no file that is made a part of the set was given up for its sync. One that is there and could not be
 -- opened was passed over only where the set calls its slot missing.
 abbrev pub IsDoneIn : {F L : Type 0} → (Opens : (path : List ℕ) → Result (Option F) OpenFault → Type 0) (IsSafe : F → Type 0)
-    (Looks : (path : List ℕ) → Result (Option L) OpenFault → Type 0) (IsSynced : (folder : List ℕ) → Type 0) → Invocation → Type 0
-IsDoneIn Opens IsSafe Looks IsSynced (Make folder id members chunk stripes) =
+    (Inspects : (path : List ℕ) → Result (Option L) OpenFault → Type 0) (IsSynced : (folder : List ℕ) → Type 0) → Invocation → Type 0
+IsDoneIn Opens IsSafe Inspects IsSynced (Make folder id members chunk stripes) =
     WereTaken IsSafe (λ slot. Opens (slot_path folder.now slot)) (λ slot. slot < members + 2) (λ _. ⊥) × IsSynced folder.now
-IsDoneIn Opens IsSafe Looks IsSynced (Replace folder id slot) =
+IsDoneIn Opens IsSafe Inspects IsSynced (Replace folder id slot) =
     WereTaken IsSafe (λ other. Opens (slot_path folder.now other)) (λ other. other ≡ slot) (λ other. (other ≢ slot) × IsMissingIn id other) × IsSynced folder.now
-IsDoneIn Opens IsSafe Looks IsSynced (Examine folder id json check) = WereOpened Looks folder.now
-IsDoneIn Opens IsSafe Looks IsSynced line = WereTaken IsSafe (λ slot. Opens (slot_path (folder_text line) slot)) (λ _. ⊥) (IsMissingIn (id_text line))
+IsDoneIn Opens IsSafe Inspects IsSynced (Examine folder id json check) = WereOpened Inspects folder.now
+IsDoneIn Opens IsSafe Inspects IsSynced line = WereTaken IsSafe (λ slot. Opens (slot_path (folder_text line) slot)) (λ _. ⊥) (IsMissingIn (id_text line))
 
 -- a device file is named only where that is what opening its path came to, or creating it, or a call of a file, or opening it for reading alone
 abbrev pub IsBlamedIn : {F Made L : Type 0} → (Opens : (path : List ℕ) → Result (Option F) OpenFault → Type 0) (Creates : (path : List ℕ) → Result Made CreateFault → Type 0)
-    (HasFailed : F → Type 0) (Looks : (path : List ℕ) → Result (Option L) OpenFault → Type 0) → Invocation → FolderFault → Type 0
-IsBlamedIn Opens Creates HasFailed Looks (Examine folder id json check) fault = IsLookBlamed Looks folder.now fault
-IsBlamedIn Opens Creates HasFailed Looks line fault = IsBlamed Opens Creates HasFailed (folder_text line) fault
+    (HasFailed : F → Type 0) (Inspects : (path : List ℕ) → Result (Option L) OpenFault → Type 0) → Invocation → FolderFault → Type 0
+IsBlamedIn Opens Creates HasFailed Inspects (Examine folder id json check) fault = IsInspectionBlamed Inspects folder.now fault
+IsBlamedIn Opens Creates HasFailed Inspects line fault = IsBlamed Opens Creates HasFailed (folder_text line) fault
 
 -- the words asked for a line that a device file or a folder stopped, rightly blamed, and that was told; this is the same as before
 pub record WasStopped (words : List Text) (Blamed : Invocation → FolderFault → Type 0) (Told : List ℕ → Type 0) (Same : Type 0) : Type 0 where
@@ -296,7 +296,7 @@ IsNotStarted kind status old new = status ≡ 1
 -- so well is the set of a line on a bank, or the worst of its sets and of what was; of other lines it is what was
 abbrev pub HealthOf : Invocation → (honest : Type 0) (bank : BankView) (was is : Health) → Type 0
 HealthOf (Status folder id json check) honest bank was is = HealthOn honest id bank is
-HealthOf (Examine folder id json check) honest bank was is = LooksHealth honest id bank was is
+HealthOf (Examine folder id json check) honest bank was is = InspectsHealth honest id bank was is
 HealthOf line honest bank was is = is ≡ was
 
 -- so it is on some bank of files, which tell nothing

@@ -1,7 +1,7 @@
 //! Standard input and standard output of the program.
 //!
-//! Replies to lines that begin with `read ` are gathered, and leave together: before any other line is given to be done, before the system is asked for
-//! more of the script, and when the gathered bytes fill their buffer. So whoever types or pipes lines has each answer before he is waited for, each
+//! Replies to lines that begin with `read ` are buffered, and leave together: before any other line is given to be done, before the system is asked for
+//! more of the script, and when the buffered bytes fill their buffer. So whoever types or pipes lines has each answer before he is waited for, each
 //! command that changes a volume begins once all replies before it are with the system, and many reads cost few calls of the system.
 //!
 //! The script and the writer share the replies, in a cell, and no contract says what a cell holds.
@@ -18,28 +18,28 @@ use std::alloc::Global;
 use std::cell::{RefCell, RefMut};
 use std::io::{self, BufRead, BufReader, BufWriter, ErrorKind, Read, Write};
 
-// The bytes of replies that are gathered before they leave.
-const GATHERED: usize = 65_536;
+// The bytes of replies that are buffered before they leave.
+const BUFFERED_BYTES: usize = 65_536;
 
 // How a line begins whose reply may wait.
 const READ: &[u8] = b"read ";
 
 // Replies that were written, and may not have left yet.
-struct Gathered<W: Write + Drop> {
+struct BufferedReplies<W: Write + Drop> {
     writer: BufWriter<W>,
     // Some could not leave. Nothing more is tried then.
     is_broken: bool,
 }
 
-impl<W: Write + Drop> Gathered<W> {
-    // No replies yet. `OutOfMemory` where there is no place to gather them.
-    fn new(alloc: Global, writer: W) -> io::Result<Gathered<W>>
-        ensures inner { IfOk result (λ gathered. writer_inner gathered.writer ≡ writer) }
+impl<W: Write + Drop> BufferedReplies<W> {
+    // No replies yet. `OutOfMemory` where there is no place to buffer them.
+    fn new(alloc: Global, writer: W) -> io::Result<BufferedReplies<W>>
+        ensures inner { IfOk result (λ buffered. writer_inner buffered.writer ≡ writer) }
         ensures left { IfOk result HasLeft }
         ensures err { IfErr result (λ error. error_kind error ≡ ErrorKind.OutOfMemory) }
     {
-        let writer = BufWriter::with_capacity(alloc, GATHERED, writer)?;
-        Ok(Gathered {
+        let writer = BufWriter::with_capacity(alloc, BUFFERED_BYTES, writer)?;
+        Ok(BufferedReplies {
             writer,
             is_broken: false,
         })
@@ -88,7 +88,7 @@ impl<W: Write + Drop> Gathered<W> {
         self.send()
     }
 
-    // Gathers replies. Where they fill the buffer, they leave. After a fault of the writer nothing
+    // Buffers replies. Where they fill the buffer, they leave. After a fault of the writer nothing
     // more is tried, unless it was an interruption, after which a call is made again.
     fn write(&mut self, bytes: &[u8]) -> io::Result<usize>
         ensures bound { WritesAtMost result bytes.now }
@@ -126,10 +126,10 @@ fn is_fault(taken: &io::Result<usize>) -> bool
     }
 }
 
-impl<W: Write + Drop> Drop for Gathered<W> {
-    // What is gathered is tried once more, unless some could not leave.
+impl<W: Write + Drop> Drop for BufferedReplies<W> {
+    // What is buffered is tried once more, unless some could not leave.
     fn drop(self) {
-        let Gathered { writer, is_broken } = self;
+        let BufferedReplies { writer, is_broken } = self;
         if is_broken {
             let (_writer, _unsent) = writer.into_parts();
         }
@@ -139,18 +139,18 @@ impl<W: Write + Drop> Drop for Gathered<W> {
 /// Replies that were written, and may not have left yet.
 #[derive(Drop)]
 pub struct Replies<W: Write + Drop> {
-    gathered: RefCell<Gathered<W>>,
+    buffered: RefCell<BufferedReplies<W>>,
 }
 
 impl<W: Write + Drop> Replies<W> {
-    /// No replies yet. `OutOfMemory` where there is no place to gather them.
+    /// No replies yet. `OutOfMemory` where there is no place to buffer them.
     pub fn new(alloc: Global, writer: W) -> io::Result<Replies<W>>
         ensures begun { OnOk result (IsBegun writer) }
         ensures err { IfErr result (λ error. error_kind error ≡ ErrorKind.OutOfMemory) }
     {
-        let gathered = Gathered::new(alloc, writer)?;
+        let buffered = BufferedReplies::new(alloc, writer)?;
         Ok(Replies {
-            gathered: RefCell::new(gathered),
+            buffered: RefCell::new(buffered),
         })
     }
 
@@ -160,7 +160,7 @@ impl<W: Write + Drop> Replies<W> {
         ensures sent { OnOk result (WasSent W.contents) }
         ensures stopped { IfErr result (λ error. IsStopped W.contents ⊎ (error_kind error ≡ ErrorKind.Other)) }
     {
-        self.lent()?.send()
+        self.borrowed()?.send()
     }
 
     // Makes way for the line that these bytes begin.
@@ -169,15 +169,15 @@ impl<W: Write + Drop> Replies<W> {
         ensures stopped { IfErr result (λ error. (IsStopped W.contents × ¬ MayWait line.now)
             ⊎ (error_kind error ≡ ErrorKind.Other)) }
     {
-        self.lent()?.make_way(line)
+        self.borrowed()?.make_way(line)
     }
 
-    // What is gathered. No call keeps it beyond its end, so it is never in use.
-    fn lent(&self) -> io::Result<RefMut<'_, Gathered<W>>>
+    // What is buffered. No call keeps it beyond its end, so it is never in use.
+    fn borrowed(&self) -> io::Result<RefMut<'_, BufferedReplies<W>>>
         ensures { IfErr result (λ error. error_kind error ≡ ErrorKind.Other) }
     {
-        match self.gathered.try_borrow_mut() {
-            Ok(gathered) => Ok(gathered),
+        match self.buffered.try_borrow_mut() {
+            Ok(buffered) => Ok(buffered),
             Err(_) => Err(io::Error::from(ErrorKind::Other)),
         }
     }
@@ -227,13 +227,13 @@ impl<R: Read + Drop, W: Write + Drop> BufRead for Script<'_, R, W> {
 /// Where replies are written.
 #[derive(Drop)]
 pub struct Output<'a, W: Write + Drop> {
-    /// What gathers them.
+    /// What buffers them.
     pub replies: &'a Replies<W>,
 }
 
 impl<W: Write + Drop> Write for Output<'_, W> {
     fn write(&mut self, buf: &[u8]) -> io::Result<usize> {
-        self.replies.lent()?.write(buf)
+        self.replies.borrowed()?.write(buf)
     }
 
     fn flush(&mut self) -> io::Result<()> {

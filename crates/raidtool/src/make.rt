@@ -19,7 +19,7 @@ use device_files::{
     bytes_of, lengthen_slot, open_folder, refuse_barred, refuse_unsynced, sync_folders, undo,
 };
 use layout_map::Geometry;
-use on_bank::make_watched;
+use on_bank::make_with_progress;
 use other_set::refuse_other;
 use report::replies::write_made;
 use set_commands::Meter;
@@ -34,7 +34,7 @@ use stripe_journal::Entry;
 ///
 /// First all files of the folder are opened, locked and synced, as `open_folder` says. `NoFile` names the first of the set's
 /// whose sync failed, `NotOpened` the first that is there and could not be opened, be it the set's or not, and `OtherSet` a
-/// slot behind the set that has a superblock of this id; nothing is touched then. Each of the set's files that is absent is created, and each
+/// slot after the set that has a superblock of this id; nothing is touched then. Each of the set's files that is absent is created, and each
 /// that is too short is lengthened by zero bytes; none is shortened, and no byte that is there is changed, before the
 /// making of the set begins. `NoFile` names the first file that this could not be done with, and `NotSynced` says that
 /// a folder could not be synced. The set itself is refused with `NotUsable`, `Worn` or `Memory`.
@@ -124,7 +124,7 @@ where
     refuse_other_set(rt.alloc(), files, &id, geometry.members + 2)?;
     make_files(rt.alloc(), disk, folder, &geometry, files)?;
     let bank = bank_over(rt.alloc(), files)?;
-    make_watched(bank, rt, entry, id, geometry)?;
+    make_with_progress(bank, rt, entry, id, geometry)?;
     Ok(())
 }
 

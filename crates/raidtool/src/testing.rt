@@ -18,7 +18,7 @@ pub(crate) fn same<T: PartialEq + Debug + Drop>(rt: &impl Abort, got: T, want: T
     assert_eq!(rt; got, want);
 }
 
-/// The words of a line, behind each of which a `|` stands, that of the last one left out where the word is not
+/// The words of a line, after each of which a `|` stands, that of the last one left out where the word is not
 /// empty. For `@` the folder is put in, and for `H` the id of the sets. Lines in tables are written so, since a
 /// text costs the check of a test less than its words.
 pub(crate) fn words_in<'a>(

@@ -12,12 +12,12 @@ ghost use Rattle.raidtool.specs.FolderFiles.{WereOpened, WereTaken};
 ghost use Rattle.raidtool.specs.Done.{DoesOn, IsDone, IsExamined, IsPartExamined};
 ghost use Rattle.set_commands.specs.Examining.{IsExamineEnd};
 ghost use Rattle.device_files.specs.Faults.{IsToldLine};
-ghost use Rattle.raidtool.specs.Stops.{HasPassed, IsBlamed, IsLookBlamed, IsServeFault, IsTold, IsToldAfter};
+ghost use Rattle.raidtool.specs.Stops.{HasPassed, IsBlamed, IsInspectionBlamed, IsServeFault, IsTold, IsToldAfter};
 ghost use Rattle.set_commands.specs.Fresh.{RunsFresh};
 ghost use Rattle.set_commands.specs.Run.{streams};
 ghost use Rattle.raidtool.specs.Tool.{ComesFirst, IsAsked, IsBlamedIn, IsCutOff, IsDoneIn, IsEndOf, IsEndOfLine, IsFirst, IsMemoryFault, IsMisshapen, IsPartWritten, IsRun, PassesNone, IsServed, IsServing, IsStopOf, IsWritten, WasRefused, WasStopped, bad_id_line, checked_status, folder_text, id_text};
 ghost use Rattle.raidtool.specs.Tool.{HasHealth, HealthOf, IsChecked, WasIncomplete, WasUnassembled};
-ghost use Rattle.set_commands.specs.Healths.{LooksHealth};
+ghost use Rattle.set_commands.specs.Healths.{InspectsHealth};
 ghost use Rattle.raidtool.specs.Done.{OfFiles};
 ghost use Rattle.recovery.specs.Making.{BankView};
 
@@ -26,15 +26,15 @@ use crate::replacing::replace_in_folder;
 use clap::error::ErrorKind;
 use command_line::{Invocation, InvocationFault, parse_invocation};
 use device_files::{
-    FolderFault, FolderSync, Growing, Lock, Locked, LookFiles, SlotFiles, bank_over, bank_to_read,
-    folder_status, look_at_folder, open_folder, pass_over,
+    FolderFault, FolderSync, Growing, InspectFiles, Lock, Locked, SlotFiles, bank_over,
+    bank_to_read, folder_status, inspect_folder, open_folder, pass_over,
 };
 use layout_map::Geometry;
 use report::replies::{Answer, write_reply, write_text};
 use sector_model::{Bank, Refusal};
 use set_commands::{
-    Health, Meter, Watched, apply_on, examine_on, most_rows, rebuild_on, serve_fresh, serve_on,
-    tell_on,
+    Health, Meter, ProgressBank, apply_on, examine_on, most_rows, rebuild_on, serve_fresh,
+    serve_on, tell_on,
 };
 use std::alloc::Global;
 use std::fs::OpenFile;
@@ -55,11 +55,11 @@ use volume_table::Event;
 /// rebuild and a scrub with how far the one came and what the other found. Where a device file can't be opened that the set
 /// doesn't need, it is done without, which is written to `err` as `without dev1.img: read-only file system`.
 ///
-/// A status or a look that asks how well a set is (`--check`) ends with 3 where it is not complete, and with 4 where it would
+/// A status or an inspection that asks how well a set is (`--check`) ends with 3 where it is not complete, and with 4 where it would
 /// not be assembled, or was refused with `NoSet`, `BadTable`, `TwoLost` or `Worn`.
 ///
 /// Over a folder, each device file is opened once, and locked until the line is done; when all are locked, each is synced
-/// before any is read. For a look at its sets it is opened for reading alone, and neither locked nor synced.
+/// before any is read. For an inspection of its sets it is opened for reading alone, and neither locked nor synced.
 pub(crate) fn tool<S, D, R: BufRead, W: Write, E: Write>(
     rt: &S,
     disk: &D,
@@ -71,7 +71,7 @@ pub(crate) fn tool<S, D, R: BufRead, W: Write, E: Write>(
 where
     S: Files + Meter + AllocGlobal,
     S::File: FileExt + Lock,
-    D: SlotFiles<File = Locked<S::File>> + LookFiles + FolderSync,
+    D: SlotFiles<File = Locked<S::File>> + InspectFiles + FolderSync,
     ensures status { result ≤ 4 }
 
     // 0: it was asked for and done, a script was read to its end, and what the line writes was written.
@@ -85,12 +85,12 @@ where
     ensures silent { result ≡ 0 → words.now ≡ [] → err.new ≡ err.old }
     ensures written { (line : Invocation) → AsksFor (texts words.now) line → result ≡ 0 → IsWritten line (W.contents out.old) (W.contents out.new) }
     ensures in_folder { (line : Invocation) → AsksFor (texts words.now) line → result ≡ 0 → IsDoneIn (D.opens disk.now)
-        ⟦<Locked<S::File> as Growing>⟧.is_safe (D.looks disk.now) (λ folder. D.is_safe disk.now folder ⊎ D.is_never disk.now folder) line }
+        ⟦<Locked<S::File> as Growing>⟧.is_safe (D.inspects disk.now) (λ folder. D.is_safe disk.now folder ⊎ D.is_never disk.now folder) line }
 
     // 1: it was asked for, or memory ran out, and the refusal was told, or the fault of a device file.
     ensures refused { result ≡ 1 → WasRefused (IsEndOf (texts words.now)) (λ text. IsToldAfter E.contents text err.old err.new) ((reader.new ≡ reader.old) × (out.new ≡ out.old))
         ⊎ WasStopped (texts words.now) (IsBlamedIn (D.opens disk.now) (D.creates disk.now)
-        ⟦<Locked<S::File> as Growing>⟧.has_failed (D.looks disk.now))
+        ⟦<Locked<S::File> as Growing>⟧.has_failed (D.inspects disk.now))
         (λ text. IsToldAfter E.contents text err.old err.new) ((reader.new ≡ reader.old) × (out.new ≡ out.old)) }
     ensures unwritten { (line : Invocation) → AsksFor (texts words.now) line → ¬ IsRun line → result ≡ 1 → (out.new ≡ out.old)
         ⊎ IsCutOff line (W.contents out.old) (W.contents out.new) (λ text. IsToldAfter E.contents text err.old err.new) }
@@ -153,15 +153,15 @@ fn do_line<S, D, R: BufRead, W: Write, E: Write>(
 where
     S: Files + Meter + AllocGlobal,
     S::File: FileExt + Lock,
-    D: SlotFiles<File = Locked<S::File>> + LookFiles + FolderSync,
-    ensures in_folder { OnOk result (IsDoneIn (D.opens disk.now) ⟦<Locked<S::File> as Growing>⟧.is_safe (D.looks disk.now)
+    D: SlotFiles<File = Locked<S::File>> + InspectFiles + FolderSync,
+    ensures in_folder { OnOk result (IsDoneIn (D.opens disk.now) ⟦<Locked<S::File> as Growing>⟧.is_safe (D.inspects disk.now)
         (λ folder. D.is_safe disk.now folder ⊎ D.is_never disk.now folder) line.entry) }
     ensures does { OnOk result (IsDone line.entry
         (streams (R.remaining reader.old) (W.contents out.old)) (streams (R.remaining reader.new) (W.contents out.new))) }
     ensures read { IsRun line.entry → R.remaining reader.old ≢ None → OnOk result (R.remaining reader.new ≡ Some []) }
     ensures stopped { IfErr result (IsStopOf line.entry) }
     ensures named { IfErr result (IsBlamedIn (D.opens disk.now) (D.creates disk.now)
-        ⟦<Locked<S::File> as Growing>⟧.has_failed (D.looks disk.now) line.entry) }
+        ⟦<Locked<S::File> as Growing>⟧.has_failed (D.inspects disk.now) line.entry) }
     ensures alone { IfErr result (λ fault. IsFirst fault → (reader.new ≡ reader.old) × (out.new ≡ out.old)) }
     ensures unwritten { ¬ IsRun line.entry → IfErr result (λ fault. fault ≢ FolderFault.Refused Refusal.WriteFault → out.new ≡ out.old) }
     ensures cut { ¬ IsRun line.entry → IfErr result (λ fault. fault ≡ FolderFault.Refused Refusal.WriteFault
@@ -230,8 +230,8 @@ fn id_of(line: &Invocation<'_>) -> [u8; 16]
     }
 }
 
-// Looks at the sets on the device files of a folder, which are opened for reading alone.
-fn examine_folder<D: LookFiles, W: Write>(
+// Inspects the sets on the device files of a folder, which are opened for reading alone.
+fn examine_folder<D: InspectFiles, W: Write>(
     alloc: Global,
     disk: &D,
     folder: &str,
@@ -240,16 +240,16 @@ fn examine_folder<D: LookFiles, W: Write>(
     out: &mut W,
     health: &mut Health,
 ) -> Result<(), FolderFault>
-    ensures health { OnOk result ((bank : BankView) × LooksHealth OfFiles id bank health.old health.new) }
-    ensures looked { OnOk result (WereOpened (D.looks disk.now) folder.now) }
+    ensures health { OnOk result ((bank : BankView) × InspectsHealth OfFiles id bank health.old health.new) }
+    ensures inspected { OnOk result (WereOpened (D.inspects disk.now) folder.now) }
     ensures examined { OnOk result (IsExamined id json (W.contents out.old) (W.contents out.new)) }
     ensures stopped { IfErr result (IsServeFault IsExamineEnd) }
-    ensures named { IfErr result (IsLookBlamed (D.looks disk.now) folder.now) }
+    ensures named { IfErr result (IsInspectionBlamed (D.inspects disk.now) folder.now) }
     ensures unwritten { IfErr result (λ fault. fault ≢ FolderFault.Refused Refusal.WriteFault → out.new ≡ out.old) }
     ensures cut { IfErr result (λ fault. fault ≡ FolderFault.Refused Refusal.WriteFault
         → IsPartExamined id json (W.contents out.old) (W.contents out.new)) }
 {
-    let files = look_at_folder(alloc, disk, folder)?;
+    let files = inspect_folder(alloc, disk, folder)?;
     let bank = bank_to_read(alloc, &files)?;
     examine_on(alloc, bank, id, json, out, health)?;
     Ok(())
@@ -334,11 +334,11 @@ where
             apply_on(rt.alloc(), bank, entry, id, &Event::Fail { slot }, out)
         }
         Invocation::Rebuild { id, steps, .. } => {
-            let bank = Watched::of_set(bank, rt, id, most_rows(steps));
+            let bank = ProgressBank::of_set(bank, rt, id, most_rows(steps));
             rebuild_on(bank, entry, id, steps, out)
         }
         Invocation::Scrub { id, .. } => {
-            let bank = Watched::of_set(bank, rt, id, u64::MAX);
+            let bank = ProgressBank::of_set(bank, rt, id, u64::MAX);
             apply_on(rt.alloc(), bank, entry, id, &Event::Scrub, out)
         }
         Invocation::Upgrade { id, .. } => {

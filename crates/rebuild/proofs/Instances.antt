@@ -8,7 +8,7 @@ use Rattle.array_io.specs.Believed.Holds.{row_count}
 use Rattle.superblock.specs.declared.state.State.TheVariants.{Missing}
 use Rattle.superblock.specs.NextTables.{slots_of}
 use Rattle.superblock.specs.Tables.{state_at}
-use Rattle.array_io.specs.Believed.Views.{ArrayView, Fell}
+use Rattle.array_io.specs.Believed.Views.{ArrayView, DeviceFailed}
 use Rattle.array_io.proofs.Instances.{goes_on_at_rest, keeps_at_rest}
 use Rattle.rebuild.specs.Rebuilding.{IsAfterStep, IsNoReplacing, IsNoStep, IsNotMissing, IsNothingToRebuild, IsRebuilding, OthersKeepTheirs, Position, Progress, Replaces, StepsRebuild, stepped}
 
@@ -18,10 +18,10 @@ others_at_rest array slot other of_set apart = record { state = inl refl }
 flags_differ : true ≡ false → ⊥
 flags_differ e = cc
 
--- no device falls where nothing is done
-none_fell : {honest ended : Type 0} (array : ArrayView) → honest → ¬ ended → (slot : ℕ) → slot < slots_of array.table → Fell slot array.panel array.panel
+-- no device fails where nothing is done
+none_failed : {honest ended : Type 0} (array : ArrayView) → honest → ¬ ended → (slot : ℕ) → slot < slots_of array.table → DeviceFailed slot array.panel array.panel
     → state_at array.table.states slot ≡ Missing
-none_fell array fair open_still slot of_set fell = absurd (flags_differ (sym fell.is_down ∙ fell.was_up))
+none_failed array fair open_still slot of_set failed = absurd (flags_differ (sym failed.is_down ∙ failed.was_up))
 
 -- a slot that is not missing is not replaced
 pub not_missing_is_refused : (honest : Type 0) (slot : ℕ) (array : ArrayView) → IsNotMissing array.table slot → Replaces honest slot array array (Err NotMissing)
@@ -32,7 +32,7 @@ not_missing_is_refused honest slot array not_missing = record {
   joined = λ answered. absurd (cc);
   may_join = λ answered. absurd (cc);
   refused = λ refusal is. inl refl;
-  fallen = none_fell array;
+  failure = none_failed array;
   nothing = λ is. (refl, refl);
   keeps = keeps_at_rest honest array _;
   cause = λ refusal refused. IfErr-at_err (λ (r : Refusal). IsNoReplacing array array slot r) refused (not_missing, refl);
@@ -47,7 +47,7 @@ no_step_is_refused honest rows array nothing = record {
   stepped = λ progress answered member is. absurd (nothing member is);
   has_member = λ progress answered. absurd (cc);
   refused = λ refusal is member rebuilding. inl refl;
-  fallen = λ fair open_still. none_fell array fair open_still;
+  failure = λ fair open_still. none_failed array fair open_still;
   own = λ refusal refused member is. absurd (nothing member is);
   nothing = λ still. (refl, refl);
   keeps = keeps_at_rest honest array _;
@@ -68,7 +68,7 @@ no_rows_tell_the_position honest array member is = record {
       (no_rows (row_count array.table) array.table.position, array.table.allowed.position_below member is.state, inl (refl, refl));
   has_member = λ progress answered nothing. nothing member is;
   refused = λ refusal same other is_too. inl refl;
-  fallen = λ fair open_still. none_fell array fair open_still;
+  failure = λ fair open_still. none_failed array fair open_still;
   own = λ refusal refused. absurd (cc);
   nothing = λ nothing. absurd (nothing member is);
   keeps = keeps_at_rest honest array _;

@@ -36,7 +36,7 @@ use Rattle.array_io.proofs.Tables.PublishImages.{gets_how}
 use Rattle.array_io.proofs.Reading.ReadCall.{sectors_of}
 use Rattle.array_io.proofs.Rest.SettledAgain.{rests_one}
 use Rattle.array_io.proofs.Images.Spellings.{Spellings}
-use Rattle.array_io.proofs.Tables.StepEnds.{one_falls, takes_rests, takes_throughout}
+use Rattle.array_io.proofs.Tables.StepEnds.{one_fails, takes_rests, takes_throughout}
 use Rattle.array_io.proofs.Tables.StepHolds.{step_not_older, step_slots}
 use Rattle.array_io.proofs.Tables.StepMarked.{left_rests, left_throughout}
 use Rattle.rebuild.specs.Joining.{IsTableAfter, MayJoin, PublishesLast}
@@ -66,7 +66,7 @@ its_slots_next panel table next slot can = record {
       ]);
 }
 
--- no device falls while a slot is marked missing to the end
+-- no device fails while a slot is marked missing to the end
 pub marked_down : (honest : Type 0) (slot : ℕ) (old_panel new_panel : Panel) (table new_table : Table) (old new : History) (answer : Answer) → state_at table.states slot ≢ Missing
     → MarksOn honest slot old_panel new_panel table new_table old new answer → honest → answer ≡ Ok tt → (device : ℕ) → is_down new device ≡ is_down old device
 marked_down honest slot old_panel new_panel table new_table old new answer there (inl left) fair ok device = by_why left.why
@@ -168,7 +168,7 @@ module _ (spellings : Spellings) (honest : Type 0) (number : ℕ) (table next : 
     goes_on = goes_on;
     number = refl;
     taken = λ is. (refl, published.up slot done refl);
-    fell = λ is. absurd (cc);
+    failed = λ is. absurd (cc);
     table = inr (inl refl);
     others = λ fair open_still other apart. (true_new fair).down other
         ∙ made_down (subst (λ (b : Bool). Made (publish_calls next (Some slot) published.sectors) b old new) (ap is_ok done) (published.made fair)) other
@@ -189,7 +189,7 @@ module _ (spellings : Spellings) (honest : Type 0) (number : ℕ) (table next : 
     goes_on = stays_on;
     number = refl;
     taken = λ is. absurd (cc);
-    fell = λ is. absurd (cc);
+    failed = λ is. absurd (cc);
     table = inl refl;
     others = λ fair open_still. absurd (open_still ends);
     moments = moments;
@@ -217,7 +217,7 @@ module _ (spellings : Spellings) (honest : Type 0) (number : ℕ) (table next : 
       of_set (inr same) = absurd (apart (sym (same_some slot device same)))
 
   -- the slot's device is down, once the others have the table
-  module _ (missing : Table) (final_panel : Panel) (final : History) (answer : Answer) (fell : result ≡ Err (stop.Down slot))
+  module _ (missing : Table) (final_panel : Panel) (final : History) (answer : Answer) (failed : result ≡ Err (stop.Down slot))
       (marks : MarksOn honest slot new_panel final_panel next missing new final answer) (true_final : honest → IsTrueTo final_panel final) where
     abbrev Then : ArrayView
     Then = view_of final_panel final missing number
@@ -226,7 +226,7 @@ module _ (spellings : Spellings) (honest : Type 0) (number : ℕ) (table next : 
     of_next = omega (arith, can.step.of_set, step_slots table next slot can.step)
 
     down : new_panel.down slot ≡ true
-    down = published.cause (stop.Down slot) fell
+    down = published.cause (stop.Down slot) failed
 
     its_new : HasItsSlots next new_panel
     its_new = its_slots_later next old_panel new_panel published.later (its_slots_next old_panel table next slot can)
@@ -253,24 +253,24 @@ module _ (spellings : Spellings) (honest : Type 0) (number : ℕ) (table next : 
         → HoldsThroughout table old_panel.devices lost (V ∷ []) old final
     left_moments fair lost V rests may = by_lost (λ l. HoldsThroughout table old_panel.devices l (V ∷ []) old final) lost V rests (λ one own settled.
         left_throughout spellings honest old_panel.devices number table next missing slot one V old_panel new_panel final_panel old new final result answer published
-        (takes_from spellings old_panel.devices number table next slot one V published.sectors old (joins_from fair one V own settled may)) fair fell (is_down_new fair) marks)
+        (takes_from spellings old_panel.devices number table next slot one V published.sectors old (joins_from fair one V own settled may)) fair failed (is_down_new fair) marks)
 
     -- the slot is missing
-    pub joined_and_fell : answer ≡ Ok tt → PublishesLast honest next slot Was Then (Ok false)
-    joined_and_fell ok = record {
+    pub joined_and_failed : answer ≡ Ok tt → PublishesLast honest next slot Was Then (Ok false)
+    joined_and_failed ok = record {
       goes_on = goes;
       number = refl;
       taken = λ is. absurd (cc);
-      fell = λ is. (marked_then (as_call.marked ok), down_final);
+      failed = λ is. (marked_then (as_call.marked ok), down_final);
       table = table_then;
       others = λ fair open_still other apart. (true_final fair).down other ∙ still_down fair other
-          ∙ one_falls (publish_calls next (Some slot) published.sectors) (is_ok result) old new slot other (published.made fair).performed (sym ((true_old fair).down slot) ∙ can.up) (is_down_new fair) apart
+          ∙ one_fails (publish_calls next (Some slot) published.sectors) (is_ok result) old new slot other (published.made fair).performed (sym ((true_old fair).down slot) ∙ can.up) (is_down_new fair) apart
           ∙ sym ((true_old fair).down other);
       moments = left_moments;
       rests = λ fair open_still lost V rests may. by_lost (λ l. RestsAfter l Then V) lost V rests (λ one own settled.
           rests_one final_panel old_panel.devices number table missing (Some one) V final (as_call.goes_on.later.devices ∙ published.later.devices)
           (left_rests spellings honest old_panel.devices number table next missing slot one V old_panel new_panel final_panel old new final result answer published
-          (takes_from spellings old_panel.devices number table next slot one V published.sectors old (joins_from fair one V own settled may)) fair fell (is_down_new fair) marks ok
+          (takes_from spellings old_panel.devices number table next slot one V published.sectors old (joins_from fair one V own settled may)) fair failed (is_down_new fair) marks ok
           (sectors_of final_panel final (true_final fair))));
       cause = λ refusal is. absurd (cc);
     }
@@ -288,7 +288,7 @@ module _ (spellings : Spellings) (honest : Type 0) (number : ℕ) (table next : 
       goes_on = goes;
       number = refl;
       taken = λ same. absurd (cc);
-      fell = λ same. absurd (cc);
+      failed = λ same. absurd (cc);
       table = table_then;
       others = λ fair open_still. absurd (open_still (ends marks));
       moments = left_moments;
@@ -331,7 +331,7 @@ published_as more is = record {
   goes_on = is.goes_on;
   number = is.number;
   taken = is.taken;
-  fell = is.fell;
+  failed = is.failed;
   table = is.table;
   others = λ fair. is.others (more fair);
   moments = λ fair. is.moments (more fair);

@@ -100,8 +100,8 @@ module _ (spellings : Spellings) (devices number : ℕ) (table next : Table) (sl
     rows = λ row within below counts. ap (λ (c : Content). sector_of (disk_of c) (FIRST_ROW + row)) read ∙ from.may.own row within below counts;
     live = live;
     away = away;
-    sealed = λ behind. (entry behind).sealed;
-    bodies = λ behind. (entry behind).bodies;
+    sealed = λ beyond. (entry beyond).sealed;
+    bodies = λ beyond. (entry beyond).bodies;
   }
 
   -- by the next table what has its incarnation is live
@@ -134,7 +134,7 @@ module _ (spellings : Spellings) (devices number : ℕ) (table next : Table) (sl
     same_takes = takes (λ image is chosen. inl (same_live image is chosen))
         (stale_on devices table next slot step one.away
         (subst (λ (k : ℕ). AllStale devices table k one.away) from.own (from.settled.none_back (subst (λ (k : ℕ). state_at table.states k ≢ Missing) (sym from.own) there))))
-        (λ behind. absurd (omega (arith, behind, rebuilding_then table slot there from.out)))
+        (λ beyond. absurd (omega (arith, beyond, rebuilding_then table slot there from.out)))
 
   -- where it is a new one, which was prepared
   module _ (joined : incarnation_at next.incarnations slot ≡ incarnation_at table.incarnations slot + 1) (prepared : IsPrepared devices table slot mid) where

@@ -32,21 +32,21 @@ use Rattle.array_io.proofs.Images.Counting.{none_counts}
 use Rattle.array_io.proofs.Laws.Fresh.{in_sync_not_missing}
 use Rattle.array_io.proofs.Images.LossBefore.{HoldsBy, WasLost, holds_by_table}
 use Rattle.array_io.proofs.Images.Put.{put_elsewhere, put_same, put_there}
-use Rattle.array_io.proofs.Images.SameBehind.{AgreeBehind, AreSameBehind, agree_same, numbers_behind, rows_behind}
-use Rattle.array_io.proofs.Images.SameBehind.{steps_behind}
+use Rattle.array_io.proofs.Images.SameBeyond.{AgreeBeyond, AreSameBeyond, agree_same, numbers_beyond, rows_beyond}
+use Rattle.array_io.proofs.Images.SameBeyond.{steps_beyond}
 use Rattle.array_io.proofs.Laws.SettledFresh.{zeros_are}
 use Rattle.array_io.proofs.Images.Spellings.{Spellings}
 
--- A moment while the device of a missing slot is written since `old`: a stop leaves in each sector what it might have
--- left before, or on that device zeros in the two places of superblocks, and anything behind them; the devices are the
--- same, and of the others reads give the same; what was down is down, and behind the set's slots no device fell.
+-- A moment while the device of a missing slot is written since `old`: a crash leaves in each sector what it might have
+-- left before, or on that device zeros in the two places of superblocks, and anything after them; the devices are the
+-- same, and of the others reads give the same; what was down is down, and after the set's slots no device failed.
 pub record IsMissingPut (slots slot : ℕ) (old h : History) : Type 0 where
   pub holds : (device at : ℕ) (value : Bytes) → MayHold h device at value
       → MayHold old device at value ⊎ ((device ≡ slot) × (at < SUPERBLOCK_PLACES → value ≡ replicate 512 0))
   pub start : (device : ℕ) → start_of h device ≡ start_of old device
   pub stays_down : (device : ℕ) → is_down old device ≡ true → is_down h device ≡ true
   pub others_seen : (device : ℕ) → device ≢ slot → seen h device ≡ seen old device
-  pub behind_stay : (device : ℕ) → slots ≤ device → is_down h device ≡ is_down old device
+  pub beyond_stay : (device : ℕ) → slots ≤ device → is_down h device ≡ is_down old device
 
 differ : true ≡ false → ⊥
 differ is = cc
@@ -112,7 +112,7 @@ module _ (spellings : Spellings) (devices : ℕ) (table : Table) (slot : ℕ)
   live_back : (d : ℕ) → IsLive devices table d (image d) → image d ≡ before d
   live_back d live = sym ((put d).elsewhere (live_apart d (image d) live))
 
-  same_live : AreSameBehind devices table table before image
+  same_live : AreSameBeyond devices table table before image
   same_live = record {
     same_id = refl;
     same_geometry = refl;
@@ -126,7 +126,7 @@ module _ (spellings : Spellings) (devices : ℕ) (table : Table) (slot : ℕ)
       live = subst (IsLive devices table member) (live_back member trusted.live) trusted.live;
       rebuilt = trusted.rebuilt;
     };
-    agree = λ d live. subst (AgreeBehind (before d)) (live_there d live) (agree_same (before d));
+    agree = λ d live. subst (AgreeBeyond (before d)) (live_there d live) (agree_same (before d));
   }
 
   in_full_there : (d : ℕ) → IsInFull devices table d (before d) → IsInFull devices table d (image d)
@@ -152,7 +152,7 @@ module _ (spellings : Spellings) (devices : ℕ) (table : Table) (slot : ℕ)
 
   holds_put : HoldsIn devices table X image
   holds_put =
-      let rows = rows_behind devices table table before image X same_live
+      let rows = rows_beyond devices table table before image X same_live
       (record { sound = holds.sound; listed = holds.listed }) in
       record {
         chosen = chosen_now;
@@ -163,13 +163,13 @@ module _ (spellings : Spellings) (devices : ℕ) (table : Table) (slot : ℕ)
         one_content = λ d. (all_known d).as_new;
         sound = rows.sound;
         listed = rows.listed;
-        in_step = steps_behind devices table table before image same_live holds.in_step;
+        in_step = steps_beyond devices table table before image same_live holds.in_step;
       }
 
   number_put : (number : ℕ) → HaveNumber devices table number before → HaveNumber devices table number image
-  number_put number = numbers_behind devices table table before image number same_live
+  number_put number = numbers_beyond devices table table before image number same_live
 
--- one case that a stop leaves at such a moment
+-- one case that a crash leaves at such a moment
 
 module _ (spellings : Spellings) (devices : ℕ) (table : Table) (number slot : ℕ) (old : History) (one : Lost)
     (V : List Bytes)
@@ -201,7 +201,7 @@ module _ (spellings : Spellings) (devices : ℕ) (table : Table) (number slot : 
   slot_back : (d : ℕ) → d ≢ slot → (content : Content) → SlotMayHold h d content → SlotMayHold old d content
   slot_back d apart None down = elim (cases_lt d (slots_of table)) [
     | inl within ↦ absurd (differ (sym down ∙ others_up d within apart))
-    | inr behind ↦ sym (is.behind_stay d behind) ∙ down
+    | inr beyond ↦ sym (is.beyond_stay d beyond) ∙ down
   ]
   slot_back d apart (Some disk) held = (
     λ none. held.0 (is.start d ∙ none),

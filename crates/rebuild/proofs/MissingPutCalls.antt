@@ -1,9 +1,9 @@
 -- Device calls that write the device of a missing slot, and read others: what each moment of them is, and which device
--- fell in them.
+-- failed in them.
 use Rattle.std.proofs.Common.{◌≡◌, ◌≢◌, ◌⊎◌, inl, inr, ℕ, ◌<◌, Bool, true, false, cond, List, [], ◌∷◌, ◌++◌}
 use Rattle.std.proofs.Common.{replicate, refl, sym, ◌∙◌, ap, subst, arith}
 use Rattle.std.proofs.lemmas.Bool.{cases_eq}
-use Rattle.sector_model.specs.declared.event.Event.TheVariants.{Quiet, Fell}
+use Rattle.sector_model.specs.declared.event.Event.TheVariants.{Quiet, DeviceFailed}
 use Rattle.sector_model.specs.Calls.{Call, Flush, Made, Performs, Read, Write, after_call, device_of}
 use Rattle.sector_model.specs.History.{After, Bytes, History, MayHold, is_down, sector_of, seen}
 use Rattle.sector_model.specs.Moments.{Contents, LeavesWithin, Throughout}
@@ -53,7 +53,7 @@ kept_others slots slot old (Flush device) same = record {
 kept_others slots slot old (Read device at) within = record { keeps = read }
   where
     fault : (b : Bool) (h : History) → OthersSeen slot old h
-        → OthersSeen slot old (After (cond b Quiet (Fell device)) h)
+        → OthersSeen slot old (After (cond b Quiet (DeviceFailed device)) h)
     fault true h before = record { same = before.same }
     fault false h before = record { same = before.same }
 
@@ -75,7 +75,7 @@ is_put slots slot old h is = record {
   start = is.0.1.start;
   stays_down = is.0.1.stays_down;
   others_seen = is.1.same;
-  behind_stay = λ device behind. is.0.1.others_down device (λ within. absurd (omega (arith, within, behind)));
+  beyond_stay = λ device beyond. is.0.1.others_down device (λ within. absurd (omega (arith, within, beyond)));
 }
 
 kept_put : (slots slot : ℕ) (old : History) → slot < slots → (call : Call) → IsMissingCall slots slot call
@@ -118,35 +118,35 @@ missing_throughout slots slot of_set {calls = calls} {old = old} {new = new} all
       record { same = λ device apart. refl },
     ) made)
 
--- which device fell
+-- which device failed
 
 differ : true ≡ false → ⊥
 differ is = cc
 
-fell_alone : (calls : List Call) (old new : History) (slot : ℕ) → Performs calls false old new
+failed_alone : (calls : List Call) (old new : History) (slot : ℕ) → Performs calls false old new
     → is_down old slot ≡ false → is_down new slot ≡ true
     → (other : ℕ) → other ≢ slot → is_down new other ≡ is_down old other
-fell_alone [] old new slot (all, is) up down other apart = absurd (cc)
-fell_alone (call ∷ calls) old new slot (inl (none, inl is)) up down other apart =
+failed_alone [] old new slot (all, is) up down other apart = absurd (cc)
+failed_alone (call ∷ calls) old new slot (inl (none, inl is)) up down other apart =
     absurd (differ (sym down ∙ ap (λ (h : History). is_down h slot) is ∙ up))
-fell_alone (call ∷ calls) old new slot (inl (none, inr is)) up down other apart =
+failed_alone (call ∷ calls) old new slot (inl (none, inr is)) up down other apart =
     elim (cases_eq slot (device_of call)) [
       | inl same ↦ ap (λ (h : History). is_down h other) is
           ∙ (stays_off_call (λ d. d ≡ slot) call false old (sym same)).others_down other apart
       | inr differs ↦ absurd (differ (sym down ∙ ap (λ (h : History). is_down h slot) is
           ∙ (kept_up slot call differs).keeps false old up))
     ]
-fell_alone (call ∷ calls) old new slot (inr (was_up, rest)) up down other apart =
-    fell_alone calls (after_call call true old) new slot rest (down_after (call ∷ []) old slot ∙ up) down other apart
+failed_alone (call ∷ calls) old new slot (inr (was_up, rest)) up down other apart =
+    failed_alone calls (after_call call true old) new slot rest (down_after (call ∷ []) old slot ∙ up) down other apart
     ∙ down_after (call ∷ []) old other
 
--- Where the slot's device fell in calls, no other did.
-pub alone_fell : {calls : List Call} {old new : History} (slot : ℕ) → Made calls false old new
+-- Where the slot's device failed in calls, no other did.
+pub alone_failed : {calls : List Call} {old new : History} (slot : ℕ) → Made calls false old new
     → is_down old slot ≡ false → is_down new slot ≡ true
     → (other : ℕ) → other ≢ slot → is_down new other ≡ is_down old other
-alone_fell {calls = calls} {old = old} {new = new} slot made = fell_alone calls old new slot made.performed
+alone_failed {calls = calls} {old = old} {new = new} slot made = failed_alone calls old new slot made.performed
 
--- Nothing is pending where what a stop leaves on the slot's device is what reads give, if it is up.
+-- Nothing is pending where what a crash leaves on the slot's device is what reads give, if it is up.
 pub missing_pending : (slots slot : ℕ) (old h : History) → NothingPending old → IsMissingPut slots slot old h
     → ((device : ℕ) → device ≢ slot → is_down h device ≡ is_down old device)
     → (is_down h slot ≡ false → (at : ℕ) (value : Bytes) → MayHold h slot at value

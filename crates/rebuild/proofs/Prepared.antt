@@ -38,7 +38,7 @@ use Rattle.array_io.proofs.Images.Spellings.{Spellings}
 use Rattle.rebuild.specs.Preparing.{IsJournalBeside, IsPrepared}
 use Rattle.rebuild.specs.PreparingCalls.{clear_calls, copy_of, zeros}
 
--- What a stop leaves on a device is what reads give.
+-- What a crash leaves on a device is what reads give.
 abbrev pub IsSafe : (device : ℕ) → History → Type 0
 IsSafe device h = (at : ℕ) (value : Bytes) → MayHold h device at value → value ≡ sector_of (seen h device) at
 
@@ -221,7 +221,7 @@ pub journal_prepared : Spellings
     → table.geometry.members ≤ slot → slot < slots_of table → state_at table.states slot ≡ Missing
     → IsLastSealed table.id table.geometry (Some (seen mid source)) last → HasLast table source slot mid new last
     → IsPrepared devices table slot new
-journal_prepared spellings devices table source slot mid new last beside behind of_set missing is_last has = record {
+journal_prepared spellings devices table source slot mid new last beside beyond of_set missing is_last has = record {
   none = subst (HasNone table.id devices slot) (sym read_slot)
       (none_in_zeros spellings table.id devices slot (seen new slot) has.places);
   entry = λ _. record {
@@ -256,12 +256,12 @@ journal_prepared spellings devices table source slot mid new last beside behind 
           | inl same ↦ same
           | inr differs ↦ absurd (omega (
             arith,
-            live.behind_members,
+            live.beyond_members,
             live.of_set,
-            beside.behind_members,
+            beside.beyond_members,
             beside.of_set,
             beside.apart,
-            behind,
+            beyond,
             of_set,
             apart,
             differs,
@@ -282,5 +282,5 @@ pub member_prepared : Spellings → (devices : ℕ) (table : Table) (slot : ℕ)
 member_prepared spellings devices table slot new member up cleared = record {
   none = subst (HasNone table.id devices slot) (sym (readable_up new slot up))
       (none_in_zeros spellings table.id devices slot (seen new slot) cleared);
-  entry = λ behind. absurd (omega (arith, member, behind));
+  entry = λ beyond. absurd (omega (arith, member, beyond));
 }

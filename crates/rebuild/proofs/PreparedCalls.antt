@@ -34,7 +34,7 @@ use Rattle.array_io.proofs.Images.Spellings.{Spellings}
 use Rattle.rebuild.specs.Preparing.{EndsBeside, IsJournalBeside, IsPrepared, Prepares}
 use Rattle.rebuild.specs.PreparingCalls.{CopiesTheLast, PreparesJournal, clear_calls, copy_of, journal_calls, zeros}
 use Rattle.rebuild.proofs.MissingPut.{IsMissingPut, RestsWithout, lost_is_missing, missing_holds}
-use Rattle.rebuild.proofs.MissingPutCalls.{AllMissing, alone_fell, missing_both, missing_pending, missing_throughout}
+use Rattle.rebuild.proofs.MissingPutCalls.{AllMissing, alone_failed, missing_both, missing_pending, missing_throughout}
 use Rattle.rebuild.proofs.MissingPutRests.{OthersStay, missing_is_lost, missing_settled}
 use Rattle.rebuild.proofs.Prepared.{HasLast, IsSafe, front_cleared, has_last, journal_prepared}
 use Rattle.rebuild.proofs.Prepared.{member_prepared}
@@ -76,10 +76,10 @@ module _ (spellings : Spellings) (honest : Type 0) (table : Table) (number slot 
       by_result : (r : Result (Unit {0}) Stop) → result ≡ r → ¬ EndsBeside slot r → OthersStay slot old new
       by_result (Ok done) is inside device apart = made_down (at_result (Ok done) is) device
       by_result (Err stop.Worn) is inside device apart = absurd (inside tt)
-      by_result (Err (stop.Down fell)) is inside device apart = elim (cases_eq fell slot) [
-        | inl same ↦ alone_fell slot (at_result (Err (stop.Down fell)) is) (up_before fair)
+      by_result (Err (stop.Down failed)) is inside device apart = elim (cases_eq failed slot) [
+        | inl same ↦ alone_failed slot (at_result (Err (stop.Down failed)) is) (up_before fair)
             (sym ((true_new fair).down slot) ∙ ap new_panel.down (sym same)
-            ∙ has.cause (stop.Down fell) is) device apart
+            ∙ has.cause (stop.Down failed) is) device apart
         | inr differs ↦ absurd (inside differs)
       ]
 
@@ -95,9 +95,9 @@ module _ (spellings : Spellings) (honest : Type 0) (table : Table) (number slot 
         where
           by_end : (end : Stop) → result ≡ Err end → ⊥
           by_end stop.Worn is = subst (λ (r : Result (Unit {0}) Stop). ¬ EndsBeside slot r) is inside tt
-          by_end (stop.Down fell) is = subst (λ (r : Result (Unit {0}) Stop). ¬ EndsBeside slot r) is inside
+          by_end (stop.Down failed) is = subst (λ (r : Result (Unit {0}) Stop). ¬ EndsBeside slot r) is inside
               (λ same. differ (sym (sym ((true_new fair).down slot) ∙ ap new_panel.down (sym same)
-              ∙ has.cause (stop.Down fell) is) ∙ up))
+              ∙ has.cause (stop.Down failed) is) ∙ up))
             where
               differ : true ≡ false → ⊥
               differ e = cc
@@ -159,10 +159,10 @@ clear_missing slots slot at (suc count) = ((refl, λ place. refl), clear_missing
 
 copied_missing : (slots slot source at : ℕ) (values : List Bytes) → source < slots → SUPERBLOCK_PLACES ≤ at
     → AllMissing slots slot (copied_from source slot at values)
-copied_missing slots slot source at [] within behind = tt
-copied_missing slots slot source at (value ∷ values) within behind =
-    let others = copied_missing slots slot source (at + 1) values within (omega (arith, behind)) in
-    (within, ((refl, λ place. absurd (omega (arith, place, behind))), others))
+copied_missing slots slot source at [] within beyond = tt
+copied_missing slots slot source at (value ∷ values) within beyond =
+    let others = copied_missing slots slot source (at + 1) values within (omega (arith, beyond)) in
+    (within, ((refl, λ place. absurd (omega (arith, place, beyond))), others))
 
 copy_missing : (slots slot source members : ℕ) (disk : List Bytes) (last : Option Seal) → source < slots
     → AllMissing slots slot (copy_of source slot members disk last)
@@ -239,7 +239,7 @@ member_has spellings honest table slot old_panel new_panel old new result member
 
 module _ (spellings : Spellings) (honest : Type 0) (table : Table) (slot : ℕ) (old_panel new_panel : Panel)
     (old new : History) (result : Result (Unit {0}) Stop)
-    (behind : table.geometry.members ≤ slot) (of_set : slot < slots_of table)
+    (beyond : table.geometry.members ≤ slot) (of_set : slot < slots_of table)
     (missing : state_at table.states slot ≡ Missing) (room : JOURNAL_SECTORS ≤ old_panel.sectors slot)
     (true_old : honest → IsTrueTo old_panel old)
     (has : PreparesJournal honest table slot old_panel new_panel old new result) where
@@ -312,5 +312,5 @@ module _ (spellings : Spellings) (honest : Type 0) (table : Table) (slot : ℕ) 
     safe = λ fair done. (the_last fair done).safe;
     prepared = λ fair done devices.
         journal_prepared spellings devices table source slot mid new
-        (copies fair done).last has.beside behind of_set missing (is_last fair done) (the_last fair done);
+        (copies fair done).last has.beside beyond of_set missing (is_last fair done) (the_last fair done);
   }

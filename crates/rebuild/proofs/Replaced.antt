@@ -23,7 +23,7 @@ use Rattle.superblock.specs.Tables.{incarnation_at, state_at}
 use Rattle.array_io.specs.Believed.Moments.{HoldsThroughout}
 use Rattle.array_io.specs.Believed.Settled.{trusts}
 use Rattle.array_io.specs.Believed.ArrayCalls.{Answer}
-use Rattle.array_io.specs.Believed.Views.{ArrayView, EndsIt, Fell, GoesOn, HasEnded, IsEndOf, RestsOn, view_of}
+use Rattle.array_io.specs.Believed.Views.{ArrayView, EndsIt, DeviceFailed, GoesOn, HasEnded, IsEndOf, RestsOn, view_of}
 use Rattle.array_io.proofs.Rest.AtRestLost.{in_sync_apart}
 use Rattle.array_io.proofs.Calls.CallSteps.{goes_on_both}
 use Rattle.array_io.proofs.Calls.DeviceSteps.{goes_on_later}
@@ -43,7 +43,7 @@ missing_in_sync : Missing ≡ InSync → ⊥
 missing_in_sync e = cc
 
 is_missing : (table : Table) (slot : ℕ) → slot < slots_of table → state_at table.states slot ≡ Missing → ¬ IsNotMissing table slot
-is_missing table slot of_set missing (inl behind) = omega (arith, of_set, behind)
+is_missing table slot of_set missing (inl beyond) = omega (arith, of_set, beyond)
 is_missing table slot of_set missing (inr there) = there missing
 
 -- nothing was done
@@ -56,7 +56,7 @@ refused_at_once honest slot array refusal why where_not_missing = record {
   joined = λ answered. absurd (cc);
   may_join = λ answered. absurd (cc);
   refused = λ other is. inl refl;
-  fallen = λ fair open_still other of_set fell. absurd (differ (sym fell.is_down ∙ fell.was_up));
+  failure = λ fair open_still other of_set failed. absurd (differ (sym failed.is_down ∙ failed.was_up));
   nothing = λ not_missing. (ap (λ (r : Refusal). Err r) (where_not_missing not_missing), refl);
   keeps = keeps_at_rest honest array _;
   cause = λ other is. subst (IsNoReplacing array array slot) (same refusal other refl is) why;
@@ -164,9 +164,9 @@ module _ (honest : Type 0) (slot number : ℕ) (table : Table) (old_panel mid_pa
     joined = λ answered. absurd (cc);
     may_join = λ answered. absurd (cc);
     refused = λ other is. inl refl;
-    fallen = λ fair open_still other of_set fell. elim (cases_eq other slot) [
+    failure = λ fair open_still other of_set failed. elim (cases_eq other slot) [
       | inl same ↦ ap (λ (k : ℕ). state_at table.states k) same ∙ can.missing
-      | inr apart ↦ absurd (differ (sym fell.is_down ∙ prepares.others fair (ends open_still) other apart ∙ fell.was_up))
+      | inr apart ↦ absurd (differ (sym failed.is_down ∙ prepares.others fair (ends open_still) other apart ∙ failed.was_up))
     ];
     nothing = λ not_missing. absurd (not_not_missing not_missing);
     keeps = record {
@@ -255,7 +255,7 @@ module _ (honest : Type 0) (slot number : ℕ) (table : Table) (old_panel mid_pa
       joined = λ answered. subst (IsJoined table slot) (sym (publishes.taken is).0) joined;
       may_join = λ answered. (not_not_missing, unusable_not old_panel can.up can.fits, unusable_not_now);
       refused = λ refusal same. absurd (cc);
-      fallen = λ fair open_still other of_set fell. absurd (by_slot fair other fell (cases_eq other slot));
+      failure = λ fair open_still other of_set failed. absurd (by_slot fair other failed (cases_eq other slot));
       nothing = λ not_missing. absurd (not_not_missing not_missing);
       keeps = record {
         moments = moments;
@@ -279,9 +279,9 @@ module _ (honest : Type 0) (slot number : ℕ) (table : Table) (old_panel mid_pa
         unusable_not_now = subst (λ (g : Geometry). ¬ ((new_panel.down slot ≡ true) ⊎ (new_panel.sectors slot < least_sectors g slot))) (sym same_geometry)
             (unusable_not new_panel (publishes.taken is).1 (omega (arith, can.fits, prepares.later.sectors slot, publishes.goes_on.later.sectors slot)))
 
-        by_slot : honest → (other : ℕ) → Fell other old_panel new_panel → (other ≡ slot) ⊎ (other ≢ slot) → ⊥
-        by_slot fair other fell (inl same) = differ (sym fell.is_down ∙ ap (λ (k : ℕ). new_panel.down k) same ∙ (publishes.taken is).1)
-        by_slot fair other fell (inr apart) = differ (sym fell.is_down ∙ others_up fair not_ended other apart ∙ fell.was_up)
+        by_slot : honest → (other : ℕ) → DeviceFailed other old_panel new_panel → (other ≡ slot) ⊎ (other ≢ slot) → ⊥
+        by_slot fair other failed (inl same) = differ (sym failed.is_down ∙ ap (λ (k : ℕ). new_panel.down k) same ∙ (publishes.taken is).1)
+        by_slot fair other failed (inr apart) = differ (sym failed.is_down ∙ others_up fair not_ended other apart ∙ failed.was_up)
 
     -- what is the same at each refusal
     joined_refused : (refusal : Refusal) → IsNoReplacing Was Now slot refusal → (¬ EndsIt refusal → (¬ HasEnded answer) × (state_at new_table.states slot ≡ Missing))
@@ -293,9 +293,9 @@ module _ (honest : Type 0) (slot number : ℕ) (table : Table) (old_panel mid_pa
       joined = λ answered. absurd (cc);
       may_join = λ answered. absurd (cc);
       refused = λ other is. refused_then;
-      fallen = λ fair open_still other of_set fell. elim (cases_eq other slot) [
+      failure = λ fair open_still other of_set failed. elim (cases_eq other slot) [
         | inl same ↦ ap (λ (k : ℕ). state_at new_table.states k) same ∙ (ends open_still).1
-        | inr apart ↦ absurd (differ (sym fell.is_down ∙ others_up fair (ends open_still).0 other apart ∙ fell.was_up))
+        | inr apart ↦ absurd (differ (sym failed.is_down ∙ others_up fair (ends open_still).0 other apart ∙ failed.was_up))
       ];
       nothing = λ not_missing. absurd (not_not_missing not_missing);
       keeps = record {
@@ -309,10 +309,10 @@ module _ (honest : Type 0) (slot number : ℕ) (table : Table) (old_panel mid_pa
         same a b first second = cc
 
     -- its device went down, and the slot is missing again
-    pub replace_fell : answer ≡ Ok false → Replaces honest slot Was Now (Err NotUsable)
-    replace_fell is =
-        let gone = missing_then next new_table slot (publishes.fell is).0 of_next in
-        joined_refused NotUsable (not_not_missing, inl (publishes.fell is).1, gone)
+    pub replace_failed : answer ≡ Ok false → Replaces honest slot Was Now (Err NotUsable)
+    replace_failed is =
+        let gone = missing_then next new_table slot (publishes.failed is).0 of_next in
+        joined_refused NotUsable (not_not_missing, inl (publishes.failed is).1, gone)
         (λ open_still. (subst (λ (r : Result Bool Refusal). ¬ HasEnded r) (sym is) (λ never. never), gone))
 
     -- another device went down, or a counter is at its end

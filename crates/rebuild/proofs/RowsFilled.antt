@@ -27,14 +27,14 @@ use Rattle.degraded.proofs.Members.{up_before}
 use Rattle.array_io.specs.Believed.ArrayCalls.{Answer}
 use Rattle.array_io.specs.Steps.Bringing.{CountsOn}
 use Rattle.array_io.specs.Believed.Holds.{row_count}
-use Rattle.array_io.specs.Steps.ReadingOn.{IsFallMarked, IsReadWorn, IsValueRead, ReadsOrMarks}
+use Rattle.array_io.specs.Steps.ReadingOn.{IsFailureMarked, IsReadWorn, IsValueRead, ReadsOrFailsSlot}
 use Rattle.array_io.specs.Believed.Settled.{rows_by}
 use Rattle.array_io.specs.Steps.Writing.{IsWriting}
 use Rattle.array_io.proofs.Commits.EntryCalls.{IsAllowed, calls_write}
 use Rattle.array_io.proofs.Commits.EntryCarried.{Nothing, reads_write}
 use Rattle.array_io.proofs.Reading.ReadValue.{marks_as}
 use Rattle.array_io.proofs.Writes.Writing.{writing_none, writing_on}
-use Rattle.rebuild.specs.RowSteps.{CanFill, DoneOrMarks, EndsOrFalls, FillsOrMarks, FillsRows, IsFillMarked, IsFillWorn, IsFlushed, OwnRows, mark_answer}
+use Rattle.rebuild.specs.RowSteps.{CanFill, DoneOrFailsSlot, EndsOrFails, FillsOrFailsSlot, FillsRows, IsFillMarked, IsFillWorn, IsFlushed, OwnRows, mark_answer}
 use Rattle.rebuild.proofs.RowsKept.{row_value_stays}
 
 none_differ : ¬ (Rebuilding ≡ Missing)
@@ -79,7 +79,7 @@ module _ (honest still : Type 0) (more : honest → still) (table : Table) (memb
       → FillsRows honest table member from row old_panel mid_panel old mid → FillsRows still table member row
       (row + 1) mid_panel new_panel mid new
       → FillsRows honest table member from (row + 1) old_panel new_panel old new
-  fills_next row within rebuilding behind least first second = record {
+  fills_next row within rebuilding beyond least first second = record {
     later = later_both old_panel mid_panel new_panel first.later second.later;
     moments = λ fair. moments_on table member old mid new (first.moments fair) (second.moments (more fair));
     off = λ fair. stays_off_both (λ d. d ≡ member) old mid new (first.off fair) (second.off (more fair));
@@ -88,7 +88,7 @@ module _ (honest still : Type 0) (more : honest → still) (table : Table) (memb
       | inl before ↦ second.beside (more fair) (FIRST_ROW + at) (inl (omega (arith, before))) ∙ first.own fair at above before
       | inr most ↦ second.own (more fair) at most below
           ∙ row_value_stays table member old mid rebuilding (first.off fair) (first.stays fair) at member within
-          (λ counts. absurd (omega (arith, counts, behind, above)))
+          (λ counts. absurd (omega (arith, counts, beyond, above)))
     ];
     beside = λ fair at out. elim out [
       | inl before ↦ second.beside (more fair) at (inl (omega (arith, before, least)))
@@ -130,7 +130,7 @@ module _ (honest still : Type 0) (more : honest → still) (table : Table) (memb
 
 -- reads of a row
 
--- reads in which no device fell, or the member's alone, leave the others as they were
+-- reads in which no device failed, or the member's alone, leave the others as they were
 read_off : (table : Table) (member : ℕ) (old new : History) → CountsOn table member → HasRead old new
     → ((d : ℕ) → d ≢ member → is_down new d ≡ is_down old d)
     → StaysOff (λ d. d ≡ member) old new
@@ -165,11 +165,11 @@ module _ (honest : Type 0) (table : Table) (member row : ℕ) (old_panel mid_pan
     beside = λ fair at out. ap (λ (s : List Bytes). sector_of s at) (seen_read (is.reads fair) member);
   }
 
-  -- a device fell in reads
-  pub fall_marked : (new_table : Table) (answer : Answer)
-      → IsFallMarked honest table new_table old_panel mid_panel old mid answer
+  -- a device failed in reads
+  pub failure_marked : (new_table : Table) (answer : Answer)
+      → IsFailureMarked honest table new_table old_panel mid_panel old mid answer
       → IsFillMarked honest table new_table member old_panel mid_panel old mid answer
-  fall_marked new_table answer is = record {
+  failure_marked new_table answer is = record {
     slot = is.slot;
     counted = is.counted;
     mid_panel = is.mid_panel;
@@ -192,26 +192,26 @@ module _ (honest : Type 0) (table : Table) (member row : ℕ) (old_panel mid_pan
     off = λ fair. read_off table member old mid counted (is.reads fair) (λ d apart. is.stays fair d);
   }
 
-  fall_ended : (new_table : Table) (result ended : Result Bool Refusal) → result ≡ ended
-      → IsFallMarked honest table new_table old_panel mid_panel old mid (mark_answer ended)
+  failure_ended : (new_table : Table) (result ended : Result Bool Refusal) → result ≡ ended
+      → IsFailureMarked honest table new_table old_panel mid_panel old mid (mark_answer ended)
       → IsFillMarked honest table new_table member old_panel mid_panel old mid (mark_answer result)
-  fall_ended new_table result ended is marked = fall_marked new_table (mark_answer result)
-      (subst (λ (r : Result Bool Refusal). IsFallMarked honest table new_table old_panel mid_panel old mid (mark_answer r))
+  failure_ended new_table result ended is marked = failure_marked new_table (mark_answer result)
+      (subst (λ (r : Result Bool Refusal). IsFailureMarked honest table new_table old_panel mid_panel old mid (mark_answer r))
       (sym is) marked)
 
   -- Where the value was not read, nothing was written.
   pub read_ended : (new_table : Table) (to : Bytes) (result : Result Bool Refusal) (end : ℕ)
-      → ReadsOrMarks honest table new_table member row old_panel mid_panel old mid to result
-      → result ≢ Ok true → FillsOrMarks honest table new_table member row end old_panel mid_panel old mid result
+      → ReadsOrFailsSlot honest table new_table member row old_panel mid_panel old mid to result
+      → result ≢ Ok true → FillsOrFailsSlot honest table new_table member row end old_panel mid_panel old mid result
   read_ended new_table to result end (inl (is, same, read)) other = absurd (other is)
-  read_ended new_table to result end (inr (inl (is, marked))) other = inr (inl (other, fall_ended new_table result _ is marked))
+  read_ended new_table to result end (inr (inl (is, marked))) other = inr (inl (other, failure_ended new_table result _ is marked))
   read_ended new_table to result end (inr (inr (inl (refusal, is, marked)))) other =
-      inr (inl (other, fall_ended new_table result _ is marked))
+      inr (inl (other, failure_ended new_table result _ is marked))
   read_ended new_table to result end (inr (inr (inr (is, same, worn)))) other = inr (inr (is, same, read_worn worn))
 
   -- where it was, this is it
   pub was_read : (new_table : Table) (to : Bytes) (result : Result Bool Refusal)
-      → ReadsOrMarks honest table new_table member row old_panel mid_panel old mid to result
+      → ReadsOrFailsSlot honest table new_table member row old_panel mid_panel old mid to result
       → result ≡ Ok true → (new_table ≡ table) × IsValueRead honest table member row old_panel mid_panel old mid to
   was_read new_table to result (inl (is, same, read)) ok = (same, read)
   was_read new_table to result (inr (inl (is, marked))) ok = absurd (cc)
@@ -247,9 +247,9 @@ module _ (honest still : Type 0) (more : honest → still) (table new_table : Ta
   pub call_ended : (Done : Panel → History → Type 0) (done : Result (Unit {0}) Stop) (result : Result Bool Refusal)
       → IfErr done (λ why. IsCauseOf then_panel why × ((why ≡ stop.Worn) ⊎ (why ≡ stop.Down member)))
       → (honest → Made (call ∷ []) (is_ok done) mid next)
-      → (done ≡ Ok tt → Done then_panel next) → EndsOrFalls still member then_panel new_panel table new_table next new
+      → (done ≡ Ok tt → Done then_panel next) → EndsOrFails still member then_panel new_panel table new_table next new
       done result
-      → DoneOrMarks (Done new_panel new) honest table new_table member old_panel new_panel old new result
+      → DoneOrFailsSlot (Done new_panel new) honest table new_table member old_panel new_panel old new result
   call_ended Done (Ok tt) result why made is_done (ok, same) = inl (
     ok,
     same.same_table,
@@ -308,10 +308,10 @@ row_fills : (honest : Type 0) (table : Table) (member row : ℕ) (to : Bytes) (o
     → (honest → to ≡ value (rows_by table (readable old)) row member)
     → (honest → FIRST_ROW + row < length (seen old member)) → FillsRows honest table member row
     (row + 1) old_panel new_panel old new
-row_fills honest table member row to old_panel new_panel old new counted behind later made gives room = record {
+row_fills honest table member row to old_panel new_panel old new counted beyond later made gives room = record {
   later = later;
   moments = λ fair. calls_write table (OwnRows table member) (Write member (FIRST_ROW + row) to ∷ [])
-      ((counted, omega arith, (refl, omega (arith, behind))), tt) (made fair);
+      ((counted, omega arith, (refl, omega (arith, beyond))), tt) (made fair);
   off = λ fair. throughout_last new (stays_off_calls (λ d. d ≡ member) (refl, tt) (made fair));
   stays = λ fair device. made_down (made fair) device;
   own = λ fair at least below.
@@ -349,8 +349,8 @@ pub row_ended : (honest still : Type 0) → (honest → still) → (table new_ta
     → IfErr done (λ why. IsCauseOf then_panel why × ((why ≡ stop.Worn) ⊎ (why ≡ stop.Down member)))
     → (done ≡ Ok tt → then_panel.down member ≡ false)
     → (honest → next ≡ after_try (after_write member (FIRST_ROW + row) to) done mid)
-    → EndsOrFalls still member then_panel new_panel table new_table next new done result
-    → FillsOrMarks honest table new_table member row (row + 1) old_panel new_panel old new result
+    → EndsOrFails still member then_panel new_panel table new_table next new done result
+    → FillsOrFailsSlot honest table new_table member row (row + 1) old_panel new_panel old new result
 row_ended honest still more table new_table member row to old_panel mid_panel then_panel new_panel old mid next new done
     result can read true_mid true_next later why up is ends =
     call_ended honest still more table new_table member old_panel mid_panel then_panel new_panel old mid next new
@@ -397,8 +397,8 @@ pub rows_ended : (honest still : Type 0) → (honest → still) → (table new_t
     → IfErr done (λ why. IsCauseOf then_panel why × ((why ≡ stop.Worn) ⊎ (why ≡ stop.Down member)))
     → (done ≡ Ok tt → then_panel.down member ≡ false)
     → (honest → next ≡ after_try (after_flush member) done mid)
-    → EndsOrFalls still member then_panel new_panel table new_table next new done result
-    → DoneOrMarks (IsFlushed honest table member from end old_panel new_panel old new) honest table new_table member
+    → EndsOrFails still member then_panel new_panel table new_table next new done result
+    → DoneOrFailsSlot (IsFlushed honest table member from end old_panel new_panel old new) honest table new_table member
     old_panel new_panel old new result
 rows_ended honest still more table new_table member from end old_panel mid_panel then_panel new_panel old mid next new
     done result counted before true_next later why up is ends =
@@ -439,8 +439,8 @@ pub then_row : (done : Type 0) (honest still : Type 0) → (honest → still)
     → (table new_table : Table) (member from row : ℕ) (old_panel mid_panel new_panel : Panel) (old mid new : History)
     (result : Result Bool Refusal) → FillsRows honest table member from row old_panel mid_panel old mid
     → result ≢ Ok true → (end : ℕ)
-    → FillsOrMarks still table new_table member row end mid_panel new_panel mid new result
-    → DoneOrMarks done honest table new_table member old_panel new_panel old new result
+    → FillsOrFailsSlot still table new_table member row end mid_panel new_panel mid new result
+    → DoneOrFailsSlot done honest table new_table member old_panel new_panel old new result
 then_row done honest still more table new_table member from row old_panel mid_panel new_panel old mid new result before
     other end (inl (ok, rest, is)) = absurd (other ok)
 then_row done honest still more table new_table member from row old_panel mid_panel new_panel old mid new result before
@@ -462,7 +462,7 @@ then_row done honest still more table new_table member from row old_panel mid_pa
 -- where it was answered `true`, it is done
 pub was_done : (done honest : Type 0) (table new_table : Table) (member : ℕ) (old_panel new_panel : Panel)
     (old new : History) (result : Result Bool Refusal)
-    → DoneOrMarks done honest table new_table member old_panel new_panel old new result → result ≡ Ok true
+    → DoneOrFailsSlot done honest table new_table member old_panel new_panel old new result → result ≡ Ok true
     → (new_table ≡ table) × done
 was_done done honest table new_table member old_panel new_panel old new result (inl (ok, same, is)) true_is = (same, is)
 was_done done honest table new_table member old_panel new_panel old new result (inr (inl (other, is))) true_is = absurd
@@ -473,8 +473,8 @@ was_done done honest table new_table member old_panel new_panel old new result (
 -- where it was not, nothing is said of what is done
 pub not_done : (done other honest : Type 0) (table new_table : Table) (member : ℕ) (old_panel new_panel : Panel)
     (old new : History) (result : Result Bool Refusal) → result ≢ Ok true
-    → DoneOrMarks done honest table new_table member old_panel new_panel old new result
-    → DoneOrMarks other honest table new_table member old_panel new_panel old new result
+    → DoneOrFailsSlot done honest table new_table member old_panel new_panel old new result
+    → DoneOrFailsSlot other honest table new_table member old_panel new_panel old new result
 not_done done other honest table new_table member old_panel new_panel old new result not_true (inl (ok, same, is)) =
     absurd (not_true ok)
 not_done done other honest table new_table member old_panel new_panel old new result not_true (inr rest) = inr rest

@@ -40,8 +40,8 @@ own_rows_keep devices table member reads X within rebuilding whole before image 
       | inr put ↦ absurd (apart put.1.0)
     ]
 
-    behind : (journal : ℕ) → IsLiveJournal devices table before journal → journal ≢ member
-    behind journal live same = absurd (omega (arith, live.behind_members, within, same))
+    beyond : (journal : ℕ) → IsLiveJournal devices table before journal → journal ≢ member
+    beyond journal live same = absurd (omega (arith, live.beyond_members, within, same))
 
     -- a member's own sector that counts
     own : (row slot : ℕ) → (state_at table.states slot ≡ Rebuilding → row < table.position)
@@ -54,8 +54,8 @@ own_rows_keep devices table member reads X within rebuilding whole before image 
     says : SayTheSame devices table image before
     says = record {
       alive = written_alive devices table (OwnRows table member) before image from.put;
-      seals = λ journal place below live. other journal (FIRST_SEAL + place) (behind journal live);
-      bodies = λ journal seal live is row slot place below found. other journal place (behind journal live);
+      seals = λ journal place below live. other journal (FIRST_SEAL + place) (beyond journal live);
+      bodies = λ journal seal live is row slot place below found. other journal place (beyond journal live);
       owns = λ last is row slot below of_members none trusted. own row slot trusted.rebuilt;
     }
 
@@ -120,12 +120,12 @@ module _ (table : Table) (member : ℕ) (old new : History) (rebuilding : state_
       journal_read : (journal : ℕ) → IsLiveJournal devices table (readable new) journal
           → readable new journal ≡ readable old journal
       journal_read journal live = others_read journal (λ is. absurd
-          (omega (arith, live.behind_members, of_members, is)))
+          (omega (arith, live.beyond_members, of_members, is)))
 
       was : (journal : ℕ) → IsLiveJournal devices table (readable new) journal
           → IsLiveJournal devices table (readable old) journal
       was journal live = record {
-        behind_members = live.behind_members;
+        beyond_members = live.beyond_members;
         of_set = live.of_set;
         live = subst (λ (c : Content). IsLive devices table journal c) (journal_read journal live) live.live;
       }

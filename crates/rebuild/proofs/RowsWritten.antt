@@ -18,7 +18,7 @@ use Rattle.superblock.specs.declared.state.State.TheVariants.{InSync, Missing, R
 use Rattle.superblock.specs.declared.table.Table.{Table}
 use Rattle.superblock.specs.Tables.{state_at}
 use Rattle.superblock.specs.Cases.{HasWholeSectors, Lost}
-use Rattle.superblock.specs.Losses.{IsOneLoss}
+use Rattle.superblock.specs.Losses.{IsSingleFailure}
 use Rattle.superblock.specs.NextTables.{IsMarked, slots_of}
 use Rattle.stripe_journal.specs.OneEntry.{StaysOff}
 use Rattle.array_io.specs.Believed.ArrayCalls.{Answer, KeepsTheList}
@@ -29,13 +29,13 @@ use Rattle.array_io.specs.Believed.Moments.{HoldsThroughout}
 use Rattle.array_io.specs.Steps.ReadingOn.{Between, KeepsFrom, KeepsList}
 use Rattle.array_io.specs.Believed.Views.{ArrayView, HasEnded, HasItsSlots, view_of}
 use Rattle.array_io.specs.Steps.Writable.{IsWritable}
-use Rattle.array_io.specs.Steps.Writing.{HasFallenOnce, IsWriting, WritesFrom}
+use Rattle.array_io.specs.Steps.Writing.{HasFailedOnce, IsWriting, WritesFrom}
 use Rattle.array_io.proofs.Laws.Beginning.{live_is_up}
 use Rattle.array_io.proofs.Calls.CallSteps.{step_is_end}
 use Rattle.array_io.proofs.Calls.DeviceSteps.{goes_on_later, step_done, step_marked, step_worn}
 use Rattle.array_io.proofs.Commits.EntryCalls.{none_pending_off, writes_on}
 use Rattle.array_io.proofs.Commits.EntryCarried.{entry_carried, marked_goes_on}
-use Rattle.array_io.proofs.Marks.FallenMarked.{MarkedOn, fallen_is_one_loss, fell_in_step, marked_writes_on, one_loss_stays}
+use Rattle.array_io.proofs.Marks.FailedMarked.{MarkedOn, failed_is_single_failure, failed_in_step, marked_writes_on, single_failure_stays}
 use Rattle.array_io.proofs.Marks.MarkingHolds.{missing_then}
 use Rattle.array_io.proofs.Marks.MarkingRests.{whole_readable}
 use Rattle.array_io.proofs.Reading.ReadCall.{keeps_by_steps}
@@ -43,7 +43,7 @@ use Rattle.array_io.proofs.Rest.SettledAgain.{written_not_older}
 use Rattle.array_io.proofs.Images.Spellings.{Spellings}
 use Rattle.array_io.proofs.Writes.Writable.{marked_is_lost}
 use Rattle.array_io.proofs.Writes.Writing.{writing_throughout}
-use Rattle.rebuild.specs.RowSteps.{DoneOrMarks, IsFillMarked, IsFillWorn, IsFlushed, OwnRows, mark_answer}
+use Rattle.rebuild.specs.RowSteps.{DoneOrFailsSlot, IsFillMarked, IsFillWorn, IsFlushed, OwnRows, mark_answer}
 use Rattle.rebuild.specs.RowsWritten.{WritesRows}
 use Rattle.rebuild.proofs.RowsKept.{entry_stays, own_rows_keep, row_value_stays}
 
@@ -69,7 +69,7 @@ module _ (spellings : Spellings) (devices number : ℕ) (base table : Table) (lo
       → table.position ≤ from
       → IsFlushed honest table member from end old_panel new_panel old new
       → IsWritable devices number base table lost V new
-  rows_on from end old_panel new_panel new honest fair behind flushed = record {
+  rows_on from end old_panel new_panel new honest fair beyond flushed = record {
     from = writes_on spellings devices base table lost (V ∷ []) (V ∷ []) (OwnRows table member) old new is.from
         (own_rows_keep devices table member (readable old) (V ∷ []) within rebuilding)
         (throughout_last new (flushed.rows.moments fair))
@@ -78,36 +78,36 @@ module _ (spellings : Spellings) (devices number : ℕ) (base table : Table) (lo
         (is.from.there slot counted.of_set counted.there));
     entry = entry_stays table member old new rebuilding (flushed.rows.off fair)
         (flushed.rows.stays fair) devices number within
-        (λ row below. flushed.rows.beside fair (FIRST_ROW + row) (inl (omega (arith, below, behind)))) is.entry;
-    one_loss = one_loss_stays (slots_of base) lost old new (flushed.rows.stays fair) is.one_loss;
+        (λ row below. flushed.rows.beside fair (FIRST_ROW + row) (inl (omega (arith, below, beyond)))) is.entry;
+    single_failure = single_failure_stays (slots_of base) lost old new (flushed.rows.stays fair) is.single_failure;
     lost_out = is.lost_out;
   }
 
-  -- The member fell meanwhile, alone.
-  pub rows_fell : (counted : CountsOn table member) (mid : History)
+  -- The member failed meanwhile, alone.
+  pub rows_failed : (counted : CountsOn table member) (mid : History)
       → Throughout (IsWriting table (OwnRows table member) old) old mid → StaysOff (λ d. d ≡ member) old mid
-      → is_down mid member ≡ true → HasFallenOnce devices base table lost (V ∷ []) member mid
+      → is_down mid member ≡ true → HasFailedOnce devices base table lost (V ∷ []) member mid
       × HoldsThroughout base devices lost (V ∷ []) old mid
-  rows_fell counted mid moments off down = fell_in_step spellings devices base table lost (V ∷ []) (V ∷ [])
+  rows_failed counted mid moments off down = failed_in_step spellings devices base table lost (V ∷ []) (V ∷ [])
       (OwnRows table member) member old mid is.from
       (own_rows_keep devices table member (readable old) (V ∷ []) within rebuilding) moments off counted down
 
   -- and was marked missing: the array may be written on by the new table
   pub rows_marked : (counted : CountsOn table member) (mid new : History) (new_table : Table)
       → StaysOff (λ d. d ≡ member) old mid
-      → HasFallenOnce devices base table lost (V ∷ []) member mid → MarkedOn devices base table new_table lost
+      → HasFailedOnce devices base table lost (V ∷ []) member mid → MarkedOn devices base table new_table lost
       (V ∷ []) member mid new → HasWholeSectors (readable new)
       → IsWritable devices number base new_table lost V new
-  rows_marked counted mid new new_table off fallen marked whole = record {
+  rows_marked counted mid new new_table off failure marked whole = record {
     from = from_new;
     entry = entry_carried spellings devices base table new_table lost (V ∷ []) number old new is.entry is.from.there
         (marked_goes_on table new_table member marked.marked counted.of_set marked.others_in_sync)
         from_new one_new (record {
-          behind = λ other at there behind. marked.behind other at (live_is_up spellings devices new_table new other
-              (from_new.there other there.of_set there.there)) behind
+          beyond = λ other at there beyond. marked.beyond other at (live_is_up spellings devices new_table new other
+              (from_new.there other there.of_set there.there)) beyond
               ∙ ap (λ (s : List Bytes). sector_of s at) (off.others_seen other (apart other there.there));
         }) whole;
-    one_loss = one_new;
+    single_failure = one_new;
     lost_out = λ one some. record {
       of_set = subst (λ (n : ℕ). one.slot < n) (sym same_new) (is.lost_out one some).of_set;
       out = λ in_sync. none_differ (sym gone ∙ ap (state_at new_table.states)
@@ -123,7 +123,7 @@ module _ (spellings : Spellings) (devices number : ℕ) (base table : Table) (lo
 
       same_base : slots_of table ≡ slots_of base
       same_base = ap (λ (g : Geometry). g.members + 2) (written_not_older spellings devices base table lost
-          (V ∷ []) old is.from is.one_loss.0 is.one_loss.1).same_geometry
+          (V ∷ []) old is.from is.single_failure.0 is.single_failure.1).same_geometry
 
       same_new : slots_of new_table ≡ slots_of table
       same_new = ap (λ (g : Geometry). g.members + 2) marked.marked.same_geometry
@@ -133,17 +133,17 @@ module _ (spellings : Spellings) (devices number : ℕ) (base table : Table) (lo
 
       from_new : WritesFrom devices base new_table lost (V ∷ []) new
       from_new = marked_writes_on spellings devices base table new_table lost
-          (V ∷ []) member mid new fallen marked same_base its
+          (V ∷ []) member mid new failure marked same_base its
 
-      one_new : IsOneLoss (slots_of base) lost new
-      one_new = one_loss_stays (slots_of base) lost mid new marked.down
-          (fallen_is_one_loss spellings devices base table lost
-          (V ∷ []) member mid fallen same_base marked.others_in_sync its)
+      one_new : IsSingleFailure (slots_of base) lost new
+      one_new = single_failure_stays (slots_of base) lost mid new marked.down
+          (failed_is_single_failure spellings devices base table lost
+          (V ∷ []) member mid failure same_base marked.others_in_sync its)
 
 module _ (spellings : Spellings) (honest : Type 0) (number : ℕ) (table : Table) (member from end : ℕ)
     (old_panel new_panel : Panel) (old new : History)
     (within : member < table.geometry.members) (rebuilding : state_at table.states member ≡ Rebuilding)
-    (behind : table.position ≤ from) (counted : CountsOn table member)
+    (beyond : table.position ≤ from) (counted : CountsOn table member)
     (true_old : honest → IsTrueTo old_panel old) (true_new : honest → IsTrueTo new_panel new) where
   abbrev Was : ArrayView
   Was = view_of old_panel old table number
@@ -179,7 +179,7 @@ module _ (spellings : Spellings) (honest : Type 0) (number : ℕ) (table : Table
         cause = λ why ended. absurd (cc);
         named = λ other ended. absurd (cc);
         off = is.rows.off;
-        none_fell = λ fair ok. is.rows.stays fair;
+        none_failed = λ fair ok. is.rows.stays fair;
         runs = λ fair. written_runs new (is.rows.moments fair);
         front = λ fair ok. front is fair;
       }
@@ -187,7 +187,7 @@ module _ (spellings : Spellings) (honest : Type 0) (number : ℕ) (table : Table
         rows_hold spellings old_panel.devices number f.base table f.lost f.logical member old within rebuilding at new
             (is.rows.moments fair),
         rows_on spellings old_panel.devices number f.base table f.lost f.logical member old within rebuilding at from
-            end old_panel new_panel new honest fair behind is,
+            end old_panel new_panel new honest fair beyond is,
       ))
 
   -- no further call could be counted
@@ -201,7 +201,7 @@ module _ (spellings : Spellings) (honest : Type 0) (number : ℕ) (table : Table
         cause = λ why ended. worn_cause why ended;
         named = λ other ended. absurd (cc);
         off = is.off;
-        none_fell = λ fair ok. absurd (cc);
+        none_failed = λ fair ok. absurd (cc);
         runs = λ fair. written_runs new (is.moments fair);
         front = λ fair ok. absurd (cc);
       }
@@ -215,7 +215,7 @@ module _ (spellings : Spellings) (honest : Type 0) (number : ℕ) (table : Table
       worn_cause stop.Worn ended = is.worn
       worn_cause (stop.Down d) ended = absurd (cc)
 
-  -- the member fell
+  -- the member failed
   member_step : (new_table : Table) (answer : Answer) → HasItsSlots table old_panel
       → (mid_panel : Panel) (mid : History) → IsLater old_panel mid_panel → mid_panel.down member ≡ true
       → (honest → Throughout (IsWriting table (OwnRows table member) old) old mid)
@@ -231,40 +231,40 @@ module _ (spellings : Spellings) (honest : Type 0) (number : ℕ) (table : Table
         cause = λ why ended. down_cause why ended;
         named = λ other ended. cc;
         off = off;
-        none_fell = λ fair ok. absurd (cc);
+        none_failed = λ fair ok. absurd (cc);
         runs = λ fair. written_runs mid (moments fair);
         front = λ fair ok. absurd (cc);
       }
       marks true_new
-      (λ fair f at loss. let both = fell fair f at in (both.1, both.0))
+      (λ fair f at loss. let both = failed fair f at in (both.1, both.0))
       (λ fair f at run then_marked.
-      let both = then_marked at.one_loss in
+      let both = then_marked at.single_failure in
       rows_marked spellings old_panel.devices number f.base table f.lost f.logical member
       old within rebuilding at counted mid new new_table (off fair) both.0 both.1
       (whole_readable new_panel new (true_new fair)))
     where
-      fallen_down : Result (Unit {0}) Stop
-      fallen_down = Err (stop.Down member)
+      failed_down : Result (Unit {0}) Stop
+      failed_down = Err (stop.Down member)
 
-      down_cause : (why : Stop) → fallen_down ≡ Err why → IsCauseOf mid_panel why
+      down_cause : (why : Stop) → failed_down ≡ Err why → IsCauseOf mid_panel why
       down_cause stop.Worn ended = absurd (cc)
       down_cause (stop.Down d) ended = let same : member ≡ d = cc in subst
           (λ (k : ℕ). mid_panel.down k ≡ true) same down
 
-      fell : honest → (f : KeepsFrom) → Between old_panel.devices number f table old
-          → HasFallenOnce old_panel.devices f.base table f.lost (f.logical ∷ []) member mid
+      failed : honest → (f : KeepsFrom) → Between old_panel.devices number f table old
+          → HasFailedOnce old_panel.devices f.base table f.lost (f.logical ∷ []) member mid
           × HoldsThroughout f.base old_panel.devices f.lost (f.logical ∷ []) old mid
-      fell fair f at = rows_fell spellings old_panel.devices number f.base table f.lost f.logical member old within
+      failed fair f at = rows_failed spellings old_panel.devices number f.base table f.lost f.logical member old within
           rebuilding at counted mid (moments fair) (off fair)
           (sym ((true_mid fair).down member) ∙ down)
 
-  -- another device fell, beside the member, which is out
+  -- another device failed, beside the member, which is out
   two_step : (slot : ℕ) → slot < slots_of table → slot ≢ member → IsLater old_panel new_panel
       → new_panel.down slot ≡ true
       → (honest → Throughout (IsWriting table (OwnRows table member) old) old new) → StepTo table (Err TwoLost)
   two_step slot of_set apart later down moments = record {
     goes_on = goes_on_later old_panel new_panel old new table number later;
-    stays = record { table = inl refl; fallen = λ fair goes other of_set fell. absurd (goes tt) };
+    stays = record { table = inl refl; failure = λ fair goes other of_set failed. absurd (goes tt) };
     number = refl;
     moments = λ fair f at. rows_hold spellings old_panel.devices number f.base table f.lost f.logical member old within
         rebuilding at new (moments fair);
@@ -285,7 +285,7 @@ module _ (spellings : Spellings) (honest : Type 0) (number : ℕ) (table : Table
     );
   }
 
-  -- a device fell, and its slot was marked or not
+  -- a device failed, and its slot was marked or not
   marked_step : (new_table : Table) (answer : Answer) → HasItsSlots table old_panel
       → IsFillMarked honest table new_table member old_panel new_panel old new answer → StepTo new_table answer
   marked_step new_table answer its is = elim (cases_eq is.slot member) [
@@ -317,7 +317,7 @@ module _ (spellings : Spellings) (honest : Type 0) (number : ℕ) (table : Table
 
   -- each way is a step
   pub ended_step : (new_table : Table) (result : Result Bool Refusal) → HasItsSlots table old_panel
-      → DoneOrMarks (IsFlushed honest table member from end old_panel new_panel old new) honest table new_table member
+      → DoneOrFailsSlot (IsFlushed honest table member from end old_panel new_panel old new) honest table new_table member
       old_panel new_panel old new result
       → StepTo new_table (mark_answer result)
   ended_step new_table result its (inl (ok, same, is)) =
@@ -351,7 +351,7 @@ module _ (spellings : Spellings) (honest : Type 0) (number : ℕ) (table : Table
       ]
 
   module _ (new_table : Table) (result : Result Bool Refusal) (its : HasItsSlots table old_panel)
-      (ends : DoneOrMarks (IsFlushed honest table member from end old_panel new_panel old new) honest table new_table
+      (ends : DoneOrFailsSlot (IsFlushed honest table member from end old_panel new_panel old new) honest table new_table
       member old_panel new_panel old new result) where
     step : StepTo new_table (mark_answer result)
     step = ended_step new_table result its ends
@@ -373,7 +373,7 @@ module _ (spellings : Spellings) (honest : Type 0) (number : ℕ) (table : Table
         × IsFlushed honest table member from end old_panel new_panel old new
     flushed_then ok = by_ends ends
       where
-        by_ends : DoneOrMarks (IsFlushed honest table member from end old_panel new_panel old new) honest table
+        by_ends : DoneOrFailsSlot (IsFlushed honest table member from end old_panel new_panel old new) honest table
             new_table member old_panel new_panel old new result
             → (new_table ≡ table) × IsFlushed honest table member from end old_panel new_panel old new
         by_ends (inl (is_ok, same, is)) = (same, is)
@@ -381,14 +381,14 @@ module _ (spellings : Spellings) (honest : Type 0) (number : ℕ) (table : Table
         by_ends (inr (inr (ended, same, is))) = absurd (cc)
 
     marked_then : result ≡ Ok false → IsFillMarked honest table new_table member old_panel new_panel old new (Ok tt)
-    marked_then fell = by_ends ends
+    marked_then failed = by_ends ends
       where
-        by_ends : DoneOrMarks (IsFlushed honest table member from end old_panel new_panel old new) honest table
+        by_ends : DoneOrFailsSlot (IsFlushed honest table member from end old_panel new_panel old new) honest table
             new_table member old_panel new_panel old new result
             → IsFillMarked honest table new_table member old_panel new_panel old new (Ok tt)
         by_ends (inl (is_ok, same, is)) = absurd (cc)
         by_ends (inr (inl (other, is))) = subst (λ (r : Result Bool Refusal). IsFillMarked honest table new_table member
-            old_panel new_panel old new (mark_answer r)) fell is
+            old_panel new_panel old new (mark_answer r)) failed is
         by_ends (inr (inr (ended, same, is))) = absurd (cc)
 
     -- So writing the rows is what it promises.
@@ -398,11 +398,11 @@ module _ (spellings : Spellings) (honest : Type 0) (number : ℕ) (table : Table
       number = refl;
       stays = record {
         table = step.stays.table;
-        fallen = λ fair goes. step.stays.fallen fair
+        failure = λ fair goes. step.stays.failure fair
             (λ ended. goes (as_ended result ended));
       };
       written = λ ok. let then_flushed = flushed_then ok in (then_flushed.0, then_flushed.1.up);
-      fell = λ is. member_marked new_table (marked_then is);
+      failed = λ is. member_marked new_table (marked_then is);
       keeps = record {
         moments = keeps.moments;
         rests = λ fair goes. keeps.rests fair (λ ended. goes (as_ended result ended));
@@ -412,7 +412,7 @@ module _ (spellings : Spellings) (honest : Type 0) (number : ℕ) (table : Table
           record {
             own = λ row least below. rows.own fair row least below
                 ∙ sym (row_value_stays table member old new rebuilding (rows.off fair)
-                (rows.stays fair) row member within (λ counts. absurd (omega (arith, counts, behind, least))));
+                (rows.stays fair) row member within (λ counts. absurd (omega (arith, counts, beyond, least))));
           };
       cause = λ refusal refused.
           step_is_end Was (Now new_table) refusal (step.cause refusal (ap mark_answer refused));

@@ -26,7 +26,7 @@ use Rattle.array_io.specs.Believed.ArrayCalls.{KeepsTheList}
 use Rattle.array_io.specs.Believed.Holds.{row_count}
 use Rattle.array_io.specs.Believed.Moments.{HoldsThroughout}
 use Rattle.array_io.specs.Believed.Settled.{rows_by, trusts}
-use Rattle.array_io.specs.Believed.Views.{ArrayView, EndsIt, Fell, GoesOn, HasEnded, HasItsSlots, IsEndOf, RestsOn, view_of}
+use Rattle.array_io.specs.Believed.Views.{ArrayView, EndsIt, DeviceFailed, GoesOn, HasEnded, HasItsSlots, IsEndOf, RestsOn, view_of}
 use Rattle.array_io.proofs.Rest.AtRestLost.{in_sync_apart}
 use Rattle.array_io.proofs.Calls.CallSteps.{goes_on_both}
 use Rattle.array_io.proofs.Laws.Fresh.{in_sync_not_missing}
@@ -172,7 +172,7 @@ record IsRefusedStep (honest : Type 0) (rows member : ℕ) (old new : ArrayView)
   number : new.number ≡ old.number
   others : OthersKeepTheirs old new member
   refused : IsSteppedOrNot old.table member rows new.table
-  fallen : honest → ¬ EndsIt refusal → (slot : ℕ) → slot < slots_of old.table → Fell slot old.panel new.panel → state_at new.table.states slot ≡ Missing
+  failure : honest → ¬ EndsIt refusal → (slot : ℕ) → slot < slots_of old.table → DeviceFailed slot old.panel new.panel → state_at new.table.states slot ≡ Missing
   own : (new.panel.down member ≡ true) ⊎ (state_at new.table.states member ≢ Missing)
   keeps : KeepsTheList honest old new (EndsIt refusal)
   cause : IsNoStep old new refusal
@@ -186,7 +186,7 @@ refused_step honest rows member old new refusal is step = record {
   stepped = λ progress answered. absurd (cc);
   has_member = λ progress answered. absurd (cc);
   refused = λ other same m is_too. subst (λ (k : ℕ). IsSteppedOrNot old.table k rows new.table) (sym (one_rebuilding old.table member m is is_too)) step.refused;
-  fallen = λ fair open_still slot below fell. step.fallen fair open_still slot below fell;
+  failure = λ fair open_still slot below failed. step.failure fair open_still slot below failed;
   own = λ other same m is_too. subst (λ (k : ℕ). (new.panel.down k ≡ true) ⊎ (state_at new.table.states k ≢ Missing)) (sym (one_rebuilding old.table member m is is_too)) step.own;
   nothing = λ none. no_member old.table member is none;
   keeps = step.keeps;
@@ -231,7 +231,7 @@ module _ (honest : Type 0) (member end rows : ℕ) (old mid : ArrayView) (writte
       | inl same ↦ inl same
       | inr marked ↦ inr (inr (inl marked.0))
     ];
-    fallen = λ fair open_still. absurd (open_still ends);
+    failure = λ fair open_still. absurd (open_still ends);
     own = elim its_table [
       | inl same ↦ inr (λ missing. rebuilding_missing (sym is.state ∙ ap (λ (t : Table). state_at t.states member) (sym same) ∙ missing))
       | inr marked ↦ inl marked.1
@@ -249,21 +249,21 @@ module _ (honest : Type 0) (member end rows : ℕ) (old mid : ArrayView) (writte
       by_end refusal same never = absurd never
 
   -- the member's device went down before its rows were safe
-  pub step_fell : written ≡ Ok false → StepsRebuild honest rows old mid (Err NothingToRebuild)
-  step_fell same =
-      let fell = writes.fell same in
-      let gone = missing_then old.table mid.table member fell.0 (of_set old.table member is) in
+  pub step_failed : written ≡ Ok false → StepsRebuild honest rows old mid (Err NothingToRebuild)
+  step_failed same =
+      let failed = writes.failed same in
+      let gone = missing_then old.table mid.table member failed.0 (of_set old.table member is) in
       refused_step honest rows member old mid NothingToRebuild is record {
         goes_on = writes.goes_on;
         number = writes.number;
         others = others_mid;
-        refused = inr (inr (inl fell.0));
-        fallen = λ fair open_still slot below its. writes.stays.fallen fair not_ended slot below its;
-        own = inl fell.1;
+        refused = inr (inr (inl failed.0));
+        failure = λ fair open_still slot below its. writes.stays.failure fair not_ended slot below its;
+        own = inl failed.1;
         keeps = record { moments = λ fair lost V rests. writes.keeps.moments fair lost V rests; rests = λ fair open_still lost V rests. writes.keeps.rests fair not_ended lost V rests };
         cause = (
-          none_after old.table mid.table member (of_set old.table member is) (λ other below apart. others_of old.table member other is below apart) fell.0,
-          λ other is_too. subst (λ (k : ℕ). (mid.panel.down k ≡ true) × (state_at mid.table.states k ≡ Missing)) (sym (one_rebuilding old.table member other is is_too)) (fell.1, gone),
+          none_after old.table mid.table member (of_set old.table member is) (λ other below apart. others_of old.table member other is below apart) failed.0,
+          λ other is_too. subst (λ (k : ℕ). (mid.panel.down k ≡ true) × (state_at mid.table.states k ≡ Missing)) (sym (one_rebuilding old.table member other is is_too)) (failed.1, gone),
         );
       }
     where
@@ -324,17 +324,17 @@ module _ (honest : Type 0) (member end rows number : ℕ) (table next new_table 
   goes_then : GoesOn Was Now
   goes_then = goes_on_both Was Mid Now writes.goes_on publishes.goes_on
 
-  -- what fell in the rows' calls would be missing, so none did
-  others_fell : honest → ¬ HasEnded answer → (slot : ℕ) → slot < slots_of table → slot ≢ member → ¬ Fell slot old_panel new_panel
-  others_fell fair open_still slot below apart fell = by_mid (mid_panel.down slot) refl
+  -- what failed in the rows' calls would be missing, so none did
+  others_failed : honest → ¬ HasEnded answer → (slot : ℕ) → slot < slots_of table → slot ≢ member → ¬ DeviceFailed slot old_panel new_panel
+  others_failed fair open_still slot below apart failed = by_mid (mid_panel.down slot) refl
     where
       same : new_panel.down slot ≡ mid_panel.down slot
       same = publishes.others fair open_still slot apart
 
       by_mid : (b : Bool) → mid_panel.down slot ≡ b → ⊥
       by_mid true down = in_sync_not_missing (sym (others_of table member slot is below apart)
-          ∙ writes.stays.fallen fair (λ never. never) slot below record { was_up = fell.was_up; is_down = down })
-      by_mid false there = differ (sym fell.is_down ∙ same ∙ there)
+          ∙ writes.stays.failure fair (λ never. never) slot below record { was_up = failed.was_up; is_down = down })
+      by_mid false there = differ (sym failed.is_down ∙ same ∙ there)
 
   -- the step is done
   pub step_done : answer ≡ Ok true → (progress : Progress) → ((end < row_count table) × (progress ≡ Position end)) ⊎ ((end ≡ row_count table) × (progress ≡ Complete))
@@ -347,7 +347,7 @@ module _ (honest : Type 0) (member end rows number : ℕ) (table next new_table 
         (subst (λ (k : ℕ). IsAfterStep table k rows progress new_table) (sym (one_rebuilding table member other is is_too)) after);
     has_member = λ told same none. none member is;
     refused = λ refusal same. absurd (cc);
-    fallen = λ fair open_still slot below fell. absurd (by_slot fair slot below fell (cases_eq slot member));
+    failure = λ fair open_still slot below failed. absurd (by_slot fair slot below failed (cases_eq slot member));
     own = λ refusal same. absurd (cc);
     nothing = λ none. no_member table member is none;
     keeps = record {
@@ -360,9 +360,9 @@ module _ (honest : Type 0) (member end rows number : ℕ) (table next new_table 
       not_ended : ¬ HasEnded answer
       not_ended = subst (λ (r : Result Bool Refusal). ¬ HasEnded r) (sym done) (λ never. never)
 
-      by_slot : honest → (slot : ℕ) → slot < slots_of table → Fell slot old_panel new_panel → (slot ≡ member) ⊎ (slot ≢ member) → ⊥
-      by_slot fair slot below fell (inl same) = differ (sym fell.is_down ∙ ap (λ (k : ℕ). new_panel.down k) same ∙ (publishes.taken done).1)
-      by_slot fair slot below fell (inr apart) = others_fell fair not_ended slot below apart fell
+      by_slot : honest → (slot : ℕ) → slot < slots_of table → DeviceFailed slot old_panel new_panel → (slot ≡ member) ⊎ (slot ≢ member) → ⊥
+      by_slot fair slot below failed (inl same) = differ (sym failed.is_down ∙ ap (λ (k : ℕ). new_panel.down k) same ∙ (publishes.taken done).1)
+      by_slot fair slot below failed (inr apart) = others_failed fair not_ended slot below apart failed
 
       on_next : IsSteppedOn table member rows new_table
       on_next = subst (IsSteppedOn table member rows) (sym (publishes.taken done).0) stepped_on
@@ -390,18 +390,18 @@ module _ (honest : Type 0) (member end rows number : ℕ) (table next new_table 
       ]
 
   -- the member's device went down as the last
-  pub step_last_fell : answer ≡ Ok false → StepsRebuild honest rows Was Now (Err NothingToRebuild)
-  step_last_fell fell =
-      let its = publishes.fell fell in
+  pub step_last_failed : answer ≡ Ok false → StepsRebuild honest rows Was Now (Err NothingToRebuild)
+  step_last_failed failed =
+      let its = publishes.failed failed in
       let gone = missing_then next new_table member its.0 of_next in
       refused_step honest rows member Was Now NothingToRebuild is record {
         goes_on = goes_then;
         number = refl;
         others = others_then;
         refused = refused_then;
-        fallen = λ fair open_still slot below its_fall. elim (cases_eq slot member) [
+        failure = λ fair open_still slot below its_failure. elim (cases_eq slot member) [
           | inl same ↦ ap (λ (k : ℕ). state_at new_table.states k) same ∙ gone
-          | inr apart ↦ absurd (others_fell fair not_ended slot below apart its_fall)
+          | inr apart ↦ absurd (others_failed fair not_ended slot below apart its_failure)
         ];
         own = inl its.1;
         keeps = record {
@@ -416,7 +416,7 @@ module _ (honest : Type 0) (member end rows number : ℕ) (table next new_table 
       }
     where
       not_ended : ¬ HasEnded answer
-      not_ended = subst (λ (r : Result Bool Refusal). ¬ HasEnded r) (sym fell) (λ never. never)
+      not_ended = subst (λ (r : Result Bool Refusal). ¬ HasEnded r) (sym failed) (λ never. never)
 
   -- another device went down, or a counter is at its end
   pub step_ended : (refusal : Refusal) → answer ≡ Err refusal → StepsRebuild honest rows Was Now (Err refusal)
@@ -433,7 +433,7 @@ module _ (honest : Type 0) (member end rows number : ℕ) (table next new_table 
         number = refl;
         others = others_then;
         refused = refused_then;
-        fallen = λ fair open_still. absurd (open_still ends);
+        failure = λ fair open_still. absurd (open_still ends);
         own = own_then publishes.table;
         keeps = record { moments = moments; rests = λ fair open_still. absurd (open_still ends) };
         cause = why;
@@ -449,7 +449,7 @@ module _ (honest : Type 0) (member end rows number : ℕ) (table next new_table 
 -- how a step goes on once its rows are safe
 pub record StepsBy (honest : Type 0) (rows end : ℕ) (old new : ArrayView) (answer : Result Bool Refusal) : Type 0 where
   pub done : answer ≡ Ok true → (progress : declared.Progress) → IsProgressAt new.table.geometry end progress → StepsRebuild honest rows old new (Ok (progress_by progress))
-  pub fell : answer ≡ Ok false → StepsRebuild honest rows old new (Err NothingToRebuild)
+  pub failed : answer ≡ Ok false → StepsRebuild honest rows old new (Err NothingToRebuild)
   pub ended : (refusal : Refusal) → answer ≡ Err refusal → StepsRebuild honest rows old new (Err refusal)
 
 pub steps_by : (honest : Type 0) (member end rows number : ℕ) (table mid_table next new_table : Table) (old_panel mid_panel new_panel : Panel) (old mid new : History) (written answer : Result Bool Refusal)
@@ -472,7 +472,7 @@ steps_by honest member end rows number table mid_table next new_table old_panel 
           let geometry : new_table.geometry ≡ table.geometry = ap (λ (t : Table). t.geometry) (p.taken is_done).0 ∙ (next_step table next member end is t).same_geometry in
           step_done honest member end rows number table next new_table old_panel mid_panel new_panel old mid new answer is within w t up p is_done (progress_by progress)
           (subst (λ (g : Geometry). IsProgressAt g end progress) geometry tells);
-      fell = step_last_fell honest member end rows number table next new_table old_panel mid_panel new_panel old mid new answer is within w t up p;
+      failed = step_last_failed honest member end rows number table next new_table old_panel mid_panel new_panel old mid new answer is within w t up p;
       ended = step_ended honest member end rows number table next new_table old_panel mid_panel new_panel old mid new answer is within w t up p;
     }
 
@@ -489,7 +489,7 @@ step_worn_out honest rows member array is worn = refused_step honest rows member
   number = refl;
   others = λ other below apart. record { state = inl refl };
   refused = inl refl;
-  fallen = λ fair open_still. absurd (open_still tt);
+  failure = λ fair open_still. absurd (open_still tt);
   own = inr (λ missing. rebuilding_missing (sym is.state ∙ missing));
   keeps = keeps_at_rest honest array _;
   cause = inl (inr (omega (arith, worn), worn));

@@ -35,7 +35,7 @@ pub record PublishesLast (honest : Type 0) (next : Table) (slot : ℕ) (old new 
   pub goes_on : GoesOn old new
   pub number : new.number ≡ old.number
   pub taken : result ≡ Ok true → (new.table ≡ next) × (new.panel.down slot ≡ false)
-  pub fell : result ≡ Ok false → IsMarked next slot new.table × (new.panel.down slot ≡ true)
+  pub failed : result ≡ Ok false → IsMarked next slot new.table × (new.panel.down slot ≡ true)
   pub table : IsTableAfter old.table next slot new
   pub others : honest → ¬ HasEnded result → (other : ℕ) → other ≢ slot → new.panel.down other ≡ old.panel.down other
   pub moments : honest → (lost : Option Lost) (V : List Bytes) → RestsOn old lost V → MayJoin old.panel.devices old.table next slot old.history

@@ -29,7 +29,7 @@ pub record IsPrepared (devices : ℕ) (table : Table) (slot : ℕ) (h : History)
 
 -- the other journal of the set
 pub record IsJournalBeside (table : Table) (slot journal : ℕ) : Type 0 where
-  pub behind_members : table.geometry.members ≤ journal
+  pub beyond_members : table.geometry.members ≤ journal
   pub of_set : journal < slots_of table
   pub apart : journal ≢ slot
 

@@ -10,7 +10,7 @@ use Rattle.superblock.specs.Counted.{least_sectors}
 use Rattle.superblock.specs.NextTables.{IsJoined, IsMarked, IsMoved, IsRebuilt, slots_of}
 use Rattle.array_io.specs.Believed.Holds.{row_count}
 use Rattle.array_io.specs.Believed.ArrayCalls.{Answer, KeepsTheList}
-use Rattle.array_io.specs.Believed.Views.{ArrayView, Fell, GoesOn, HasEnded, IsEndOf, KeepsItsState}
+use Rattle.array_io.specs.Believed.Views.{ArrayView, DeviceFailed, GoesOn, HasEnded, IsEndOf, KeepsItsState}
 use Rattle.rebuild.specs.declared.stepping.TheConstants.{MOST_ROWS}
 
 -- how far a rebuild is: the rows below this position are done, or all are
@@ -50,12 +50,12 @@ IsNoReplacing old new slot refusal = ⊥
 abbrev pub IsJoinedOrNot : (old : Table) → ℕ → (new : Table) → Type 0
 IsJoinedOrNot old slot new = (new ≡ old) ⊎ IsJoined old slot new ⊎ ((mid : Table) × IsJoined old slot mid × IsMarked mid slot new)
 
--- what fell in a call that did not end the array is missing
-abbrev pub IsFallenMissing : (old new : ArrayView) → Type 0
-IsFallenMissing old new = (slot : ℕ) → slot < slots_of old.table → Fell slot old.panel new.panel → state_at new.table.states slot ≡ Missing
+-- what failed in a call that did not end the array is missing
+abbrev pub IsFailedMissing : (old new : ArrayView) → Type 0
+IsFailedMissing old new = (slot : ℕ) → slot < slots_of old.table → DeviceFailed slot old.panel new.panel → state_at new.table.states slot ≡ Missing
 
 -- `replace(array, slot)`: at Ok the slot has joined with whatever device is there: its incarnation is one more, a member is rebuilding from
--- position 0, a journal in sync. 10, 11, 15, 16. The old table stays in memory unless all devices get the new one, or the slot's own falls as the
+-- position 0, a journal in sync. 10, 11, 15, 16. The old table stays in memory unless all devices get the new one, or the slot's own fails as the
 -- last, so that a 15 is true of it; in a step that completes a rebuild, too.
 pub record Replaces (honest : Type 0) (slot : ℕ) (old new : ArrayView) (answer : Answer) : Type 0 where
   pub goes_on : GoesOn old new
@@ -64,7 +64,7 @@ pub record Replaces (honest : Type 0) (slot : ℕ) (old new : ArrayView) (answer
   pub joined : answer ≡ Ok tt → IsJoined old.table slot new.table
   pub may_join : answer ≡ Ok tt → ¬ IsNotMissing old.table slot × ¬ IsUnusable old slot × ¬ IsUnusable new slot
   pub refused : (refusal : Refusal) → answer ≡ Err refusal → IsJoinedOrNot old.table slot new.table
-  pub fallen : honest → ¬ HasEnded answer → IsFallenMissing old new
+  pub failure : honest → ¬ HasEnded answer → IsFailedMissing old new
   pub nothing : IsNotMissing old.table slot → (answer ≡ Err NotMissing) × (new ≡ old)
   pub keeps : KeepsTheList honest old new (HasEnded answer)
   pub cause : (refusal : Refusal) → answer ≡ Err refusal → IsNoReplacing old new slot refusal
@@ -96,7 +96,7 @@ IsAfterStep old member rows (Position q) new =
     (q ≡ stepped (row_count old) rows old.position) × (q < row_count old) × (((rows ≡ 0) × (new ≡ old)) ⊎ ((1 ≤ rows) × IsMoved old q new))
 IsAfterStep old member rows Complete new = (stepped (row_count old) rows old.position ≡ row_count old) × IsRebuilt old member new
 
--- the table with the step done: the new position, or the member in sync where that is behind the last row
+-- the table with the step done: the new position, or the member in sync where that is after the last row
 abbrev pub IsSteppedOn : (old : Table) → (member rows : ℕ) → (new : Table) → Type 0
 IsSteppedOn old member rows new = ((stepped (row_count old) rows old.position < row_count old) × IsMoved old (stepped (row_count old) rows old.position) new)
     ⊎ ((stepped (row_count old) rows old.position ≡ row_count old) × IsRebuilt old member new)
@@ -114,7 +114,7 @@ pub record StepsRebuild (honest : Type 0) (rows : ℕ) (old new : ArrayView) (an
   pub stepped : (progress : Progress) → answer ≡ Ok progress → (member : ℕ) → IsRebuilding old.table member → IsAfterStep old.table member rows progress new.table
   pub has_member : (progress : Progress) → answer ≡ Ok progress → ¬ IsNothingToRebuild old
   pub refused : (refusal : Refusal) → answer ≡ Err refusal → (member : ℕ) → IsRebuilding old.table member → IsSteppedOrNot old.table member rows new.table
-  pub fallen : honest → ¬ HasEnded answer → IsFallenMissing old new
+  pub failure : honest → ¬ HasEnded answer → IsFailedMissing old new
   -- the member itself is given up only where its device is down
   pub own : (refusal : Refusal) → answer ≡ Err refusal → (member : ℕ) → IsRebuilding old.table member
       → (new.panel.down member ≡ true) ⊎ (state_at new.table.states member ≢ Missing)

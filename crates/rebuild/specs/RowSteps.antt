@@ -28,7 +28,7 @@ use Rattle.array_io.specs.Steps.Writing.{IsWriting}
 abbrev pub OwnRows : Table → (member : ℕ) → Contents
 OwnRows table member device at value = (device ≡ member) × (FIRST_ROW + table.position ≤ at)
 
--- The conditions: the set's slots are slots of the bank, and these rows are rows of the set at or behind the rebuilding
+-- The conditions: the set's slots are slots of the bank, and these rows are rows of the set at or after the rebuilding
 -- member's position.
 pub record CanFill (table : Table) (member from end : ℕ) (panel : Panel) : Type 0 where
   pub its_slots : HasItsSlots table panel
@@ -38,7 +38,7 @@ pub record CanFill (table : Table) (member from end : ℕ) (panel : Panel) : Typ
   pub ordered : from ≤ end
   pub most : end ≤ row_count table
 
--- These rows were written on the member, each by what reads of the others gave; nothing else was, and no device fell.
+-- These rows were written on the member, each by what reads of the others gave; nothing else was, and no device failed.
 pub record FillsRows (honest : Type 0) (table : Table) (member from end : ℕ) (old_panel new_panel : Panel)
     (old new : History) : Type 0 where
   pub later : IsLater old_panel new_panel
@@ -50,7 +50,7 @@ pub record FillsRows (honest : Type 0) (table : Table) (member from end : ℕ) (
   pub beside : honest → (at : ℕ) → (at < FIRST_ROW + from) ⊎ (FIRST_ROW + end ≤ at)
       → sector_of (seen new member) at ≡ sector_of (seen old member) at
 
--- A device fell that the table counts on, after some of this, and its slot was marked missing, or that was refused.
+-- A device failed that the table counts on, after some of this, and its slot was marked missing, or that was refused.
 pub record IsFillMarked (honest : Type 0) (table new_table : Table) (member : ℕ) (old_panel new_panel : Panel)
     (old new : History) (answer : Answer) : Type 0 where
   pub slot : ℕ
@@ -77,22 +77,22 @@ abbrev pub mark_answer : Result Bool Refusal → Answer
 mark_answer (Ok is_done) = Ok tt
 mark_answer (Err refusal) = Err refusal
 
--- It is done (`true`), or a device fell and its slot is marked missing (`false`), or that is refused, or no further
+-- It is done (`true`), or a device failed and its slot is marked missing (`false`), or that is refused, or no further
 -- call can be counted.
-abbrev pub DoneOrMarks : (done honest : Type 0) (table new_table : Table) (member : ℕ) (old_panel new_panel : Panel)
+abbrev pub DoneOrFailsSlot : (done honest : Type 0) (table new_table : Table) (member : ℕ) (old_panel new_panel : Panel)
     (old new : History)
     → Result Bool Refusal → Type 0
-DoneOrMarks done honest table new_table member old_panel new_panel old new result =
+DoneOrFailsSlot done honest table new_table member old_panel new_panel old new result =
     ((result ≡ Ok true) × (new_table ≡ table) × done)
     ⊎ ((result ≢ Ok true) × IsFillMarked honest table new_table member old_panel new_panel old new (mark_answer result))
     ⊎ ((result ≡ Err Worn) × (new_table ≡ table) × IsFillWorn honest table member old_panel new_panel old new)
 
 -- so are these rows written
-abbrev pub FillsOrMarks : (honest : Type 0) (table new_table : Table) (member from end : ℕ)
+abbrev pub FillsOrFailsSlot : (honest : Type 0) (table new_table : Table) (member from end : ℕ)
     (old_panel new_panel : Panel) (old new : History)
     → Result Bool Refusal → Type 0
-FillsOrMarks honest table new_table member from end old_panel new_panel old new result =
-    DoneOrMarks (FillsRows honest table member from end old_panel new_panel old new) honest table new_table member
+FillsOrFailsSlot honest table new_table member from end old_panel new_panel old new result =
+    DoneOrFailsSlot (FillsRows honest table member from end old_panel new_panel old new) honest table new_table member
     old_panel new_panel old new result
 
 -- The rows are written, and safe on the member.
@@ -104,12 +104,12 @@ pub record IsFlushed (honest : Type 0) (table : Table) (member from end : ℕ) (
 
 -- Calls of the member's device that ended so are taken over: as answered, or as the end of the count, or its slot is
 -- marked missing, or that is refused.
-abbrev pub EndsOrFalls : (honest : Type 0) (slot : ℕ) (old_panel new_panel : Panel) (old_table new_table : Table)
+abbrev pub EndsOrFails : (honest : Type 0) (slot : ℕ) (old_panel new_panel : Panel) (old_table new_table : Table)
     (old new : History)
     → Result (Unit {0}) Stop → Result Bool Refusal → Type 0
-EndsOrFalls honest slot old_panel new_panel old_table new_table old new (Ok done) result =
+EndsOrFails honest slot old_panel new_panel old_table new_table old new (Ok done) result =
     (result ≡ Ok true) × IsUntouched old_panel new_panel old_table new_table old new
-EndsOrFalls honest slot old_panel new_panel old_table new_table old new (Err stop.Worn) result =
+EndsOrFails honest slot old_panel new_panel old_table new_table old new (Err stop.Worn) result =
     (result ≡ Err Worn) × IsUntouched old_panel new_panel old_table new_table old new
-EndsOrFalls honest slot old_panel new_panel old_table new_table old new (Err (stop.Down device)) result =
+EndsOrFails honest slot old_panel new_panel old_table new_table old new (Err (stop.Down device)) result =
     (result ≢ Ok true) × MarksOn honest slot old_panel new_panel old_table new_table old new (mark_answer result)

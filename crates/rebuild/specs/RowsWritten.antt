@@ -10,20 +10,20 @@ use Rattle.superblock.specs.NextTables.{IsMarked}
 use Rattle.degraded.specs.RowValue.{value}
 use Rattle.array_io.specs.Believed.ArrayCalls.{KeepsTheList}
 use Rattle.array_io.specs.Believed.Settled.{rows_by}
-use Rattle.array_io.specs.Believed.Views.{ArrayView, GoesOn, HasEnded, IsEndOf, RestsOn, StaysButForFalls}
+use Rattle.array_io.specs.Believed.Views.{ArrayView, GoesOn, HasEnded, IsEndOf, RestsOn, StaysButForFailures}
 
 -- the member's own sectors in these rows are its values by the other members
 pub record HasRowsOf (table : Table) (member from end : ℕ) (h : History) : Type 0 where
   pub own : (row : ℕ) → from ≤ row → row < end → sector_of (seen h member) (FIRST_ROW + row) ≡ value (rows_by table (readable h)) row member
 
--- `write_rows(bank, table, member, from, end)` of rows at or behind the rebuilding member's position: the list stays at each moment; at Ok `true`
+-- `write_rows(bank, table, member, from, end)` of rows at or after the rebuilding member's position: the list stays at each moment; at Ok `true`
 -- the rows are safe on the member; at `false` its device is down, and its slot missing.
 pub record WritesRows (honest : Type 0) (member from end : ℕ) (old new : ArrayView) (result : Result Bool Refusal) : Type 0 where
   pub goes_on : GoesOn old new
   pub number : new.number ≡ old.number
-  pub stays : StaysButForFalls honest old new (HasEnded result)
+  pub stays : StaysButForFailures honest old new (HasEnded result)
   pub written : result ≡ Ok true → (new.table ≡ old.table) × (new.panel.down member ≡ false)
-  pub fell : result ≡ Ok false → IsMarked old.table member new.table × (new.panel.down member ≡ true)
+  pub failed : result ≡ Ok false → IsMarked old.table member new.table × (new.panel.down member ≡ true)
   pub keeps : KeepsTheList honest old new (HasEnded result)
   pub rows : honest → result ≡ Ok true → (lost : Option Lost) (V : List Bytes) → RestsOn old lost V
       → HasRowsOf old.table member from end new.history

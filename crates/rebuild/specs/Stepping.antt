@@ -21,7 +21,7 @@ abbrev pub answer_by : Result Progress Refusal → Result told.Progress Refusal
 answer_by (Ok progress) = Ok (progress_by progress)
 answer_by (Err refusal) = Err refusal
 
--- the next table of a step up to this row: the new position, or the member in sync behind the last one
+-- the next table of a step up to this row: the new position, or the member in sync after the last one
 abbrev pub IsNextAt : (old : Table) → (member end : ℕ) → (new : Table) → Type 0
 IsNextAt old member end new = ((end < row_count old) × IsMoved old end new) ⊎ ((end ≡ row_count old) × IsRebuilt old member new)
 

@@ -43,7 +43,7 @@ pub(crate) fn prepare<B: Bank>(bank: &mut B, table: &Table, slot: u8) -> Result<
 // The same of a journal: the other one's last seal is read, both seals are cleared with the superblock places, and its
 // entry is copied, if there is one.
 fn prepare_journal<B: Bank>(bank: &mut B, table: &Table, journal: u8) -> Result<(), Stop>
-    requires behind { table.now.geometry.members ≤ journal }
+    requires beyond { table.now.geometry.members ≤ journal }
     requires of_set { journal < slots_of table.now }
     requires missing { state_at table.now.states journal ≡ State.Missing }
     requires its_slots { HasItsSlots table.now (B.panel bank.old) }
@@ -63,7 +63,7 @@ fn prepare_journal<B: Bank>(bank: &mut B, table: &Table, journal: u8) -> Result<
 
 // The other journal of the set.
 fn journal_beside(table: &Table, journal: u8) -> u8
-    requires behind { table.now.geometry.members ≤ journal }
+    requires beyond { table.now.geometry.members ≤ journal }
     requires of_set { journal < slots_of table.now }
     ensures { IsJournalBeside table.now journal result }
 {

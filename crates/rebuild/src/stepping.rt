@@ -19,7 +19,7 @@ use superblock::{State, Table};
 pub const MOST_ROWS: u64 = 64;
 
 /// Rebuilds the next rows of the member that is rebuilding: so many, `MOST_ROWS` at most, and none past the last. They are written
-/// from the other members' sectors and flushed, and only then the new position is published, or, behind the last row,
+/// from the other members' sectors and flushed, and only then the new position is published, or, after the last row,
 /// that the member is in sync (`Complete`). A step of 0 rows changes nothing.
 ///
 /// Refused with `NothingToRebuild` where no member is rebuilding, or the one that is goes down in the call and is then

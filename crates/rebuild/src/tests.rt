@@ -209,8 +209,8 @@ fn array_of(rt: &(impl Abort + AllocGlobal), case: Case, plan: Plan) -> Array<Me
     }
 }
 
-// The devices at a stop after so many calls.
-fn stopped(rt: &(impl Abort + AllocGlobal), bank: &MemBank, call: u64, choice: Choice) -> Image {
+// The devices at a crash after so many calls.
+fn crashed(rt: &(impl Abort + AllocGlobal), bank: &MemBank, call: u64, choice: Choice) -> Image {
     assert!(rt; call <= bank.now());
     bank.image_after(rt.alloc(), call, choice)
         .expect(rt, "memory")
@@ -246,21 +246,21 @@ fn check_values(rt: &impl Abort, number: u64, image: &Image) {
     }
 }
 
-// Asks for them at a stop, with this slot's device and without it.
-fn check_stop(
+// Asks for them at a crash, with this slot's device and without it.
+fn check_crash(
     rt: &(impl Abort + AllocGlobal),
     bank: &MemBank,
     call: u64,
     choice: Choice,
     slot: usize,
 ) {
-    let mut image = stopped(rt, bank, call, choice);
+    let mut image = crashed(rt, bank, call, choice);
     check_values(rt, call, &image);
     take(rt, &mut image, slot);
     check_values(rt, call, &image);
 }
 
-// The choice at a stop of this number: each of three in turn.
+// The choice at a crash of this number: each of three in turn.
 fn in_turn(number: u64) -> Choice {
     match number % 3 {
         0 => Choice::Oldest,
@@ -269,7 +269,7 @@ fn in_turn(number: u64) -> Choice {
     }
 }
 
-// Checks the stops in two steps of a rebuild.
+// Checks the crashes in two steps of a rebuild.
 fn check_steps(rt: &(impl Abort + AllocGlobal), is_whole: bool) {
     let mut array = array_of(rt, rebuilding(is_whole), Plan::NONE);
     let step = rebuild_step(&mut array, 3);
@@ -278,10 +278,10 @@ fn check_steps(rt: &(impl Abort + AllocGlobal), is_whole: bool) {
     same(rt, step, Ok(Progress::Complete));
     let end = array.bank.now();
     for call in 0..end {
-        check_stop(rt, &array.bank, call, in_turn(call), 1);
+        check_crash(rt, &array.bank, call, in_turn(call), 1);
     }
     // The members say it by themselves.
-    let mut image = stopped(rt, &array.bank, end, Choice::Oldest);
+    let mut image = crashed(rt, &array.bank, end, Choice::Oldest);
     take(rt, &mut image, 4);
     take(rt, &mut image, 5);
     check_values(rt, end, &image);
@@ -289,13 +289,13 @@ fn check_steps(rt: &(impl Abort + AllocGlobal), is_whole: bool) {
 
 // Of the rows that are written, the entry holds the member's sector of each second one, or of all.
 #[test]
-fn stops_in_steps_over_the_last_entry(rt: HostRuntime) {
+fn crashes_in_steps_over_the_last_entry(rt: HostRuntime) {
     check_steps(&rt, false);
     check_steps(&rt, true);
 }
 
 // Checks a step of 3 rows in which a slot goes down at its first call from one on.
-fn check_fall(rt: &(impl Abort + AllocGlobal), case: Case, slot: u8, call: u64) {
+fn check_failure(rt: &(impl Abort + AllocGlobal), case: Case, slot: u8, call: u64) {
     let mut plan = Plan::NONE;
     assert!(rt; slot < 6);
     plan.down[slot as usize] = Some(call);
@@ -309,7 +309,7 @@ fn check_fall(rt: &(impl Abort + AllocGlobal), case: Case, slot: u8, call: u64) 
     };
     same(rt, (slot, call, step), (slot, call, wanted));
     let bank = &array.bank;
-    check_stop(rt, bank, bank.now(), in_turn(call), 1);
+    check_crash(rt, bank, bank.now(), in_turn(call), 1);
 }
 
 // Three rows take 9 reads and 3 writes, and then there are a flush, and 6 writes and flushes of superblocks.
@@ -317,8 +317,8 @@ fn check_fall(rt: &(impl Abort + AllocGlobal), case: Case, slot: u8, call: u64) 
 fn each_device_down_in_a_step_over_the_last_entry(rt: HostRuntime) {
     for slot in 0..6 {
         for call in 0..26 {
-            check_fall(&rt, rebuilding(false), slot, call);
-            check_fall(&rt, rebuilding(true), slot, call);
+            check_failure(&rt, rebuilding(false), slot, call);
+            check_failure(&rt, rebuilding(true), slot, call);
         }
     }
 }
@@ -368,9 +368,9 @@ fn check_journal(rt: &(impl Abort + AllocGlobal), is_whole: bool, count: usize, 
     let end = array.bank.now();
     same(rt, end, calls);
     for call in 0..end {
-        check_stop(rt, &array.bank, call, in_turn(call), 5);
+        check_crash(rt, &array.bank, call, in_turn(call), 5);
     }
-    let mut image = stopped(rt, &array.bank, end, Choice::Oldest);
+    let mut image = crashed(rt, &array.bank, end, Choice::Oldest);
     check_copied(rt, &image, count);
     take(rt, &mut image, 4);
     lose_held(rt, &mut image, is_whole);

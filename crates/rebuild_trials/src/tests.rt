@@ -17,15 +17,15 @@ use stripe_journal::Entry;
 use superblock::{State, Table, decode};
 
 mod counters;
+mod crashes;
 mod device_calls;
-mod falls;
+mod failures;
 mod held;
-mod held_falls;
+mod held_failures;
 mod rebuilt;
 mod refusals;
 mod replaced;
 mod rows;
-mod stops;
 
 /// The id of each set.
 pub(crate) const ID: [u8; 16] = [0, 1, 2, 3, 4, 5, 6, 7, 8, 9, 10, 11, 12, 13, 14, 15];
@@ -271,8 +271,8 @@ pub(crate) fn assembled(rt: &(impl Abort + AllocGlobal), image: Image) -> Array<
         .expect(rt, "the set is assembled")
 }
 
-/// The devices at a stop after so many calls.
-pub(crate) fn stopped(
+/// The devices at a crash after so many calls.
+pub(crate) fn crashed(
     rt: &(impl Abort + AllocGlobal),
     bank: &MemBank,
     call: u64,
@@ -283,12 +283,12 @@ pub(crate) fn stopped(
     image.expect(rt, "memory")
 }
 
-/// The devices at a stop now, where all that was written has landed.
+/// The devices at a crash now, where all that was written has landed.
 pub(crate) fn image_now(rt: &(impl Abort + AllocGlobal), bank: &MemBank) -> Image {
-    stopped(rt, bank, bank.now(), Choice::Newest)
+    crashed(rt, bank, bank.now(), Choice::Newest)
 }
 
-/// The choice at a stop of this number: each of three in turn.
+/// The choice at a crash of this number: each of three in turn.
 pub(crate) fn in_turn(number: u64) -> Choice {
     match number % 3 {
         0 => Choice::Oldest,
@@ -331,7 +331,7 @@ pub(crate) fn disk<'a>(rt: &impl Abort, image: &'a Image, slot: u8) -> &'a [Sect
     image.slots[slot].as_deref().expect(rt, "there is a device")
 }
 
-// The set as it is, in a run that began behind a fork of it: two entries more, of other bytes.
+// The set as it is, in a run that began after a fork of it: two entries more, of other bytes.
 fn forked(rt: &(impl Abort + AllocGlobal), bank: &MemBank) -> Image {
     let array = assembled(rt, image_now(rt, bank));
     let list = vec![in rt.alloc(); 0; 128].expect(rt, "memory");
@@ -532,13 +532,13 @@ pub(crate) fn check_states(
     same(rt, (number, table.states), (number, states));
 }
 
-/// Asks that each device of the set that is not missing has the superblock of its table, whatever a stop now leaves.
+/// Asks that each device of the set that is not missing has the superblock of its table, whatever a crash now leaves.
 pub(crate) fn check_published(
     rt: &(impl Abort + AllocGlobal),
     number: (u64, u64),
     array: &Array<MemBank>,
 ) {
-    let image = stopped(rt, &array.bank, array.bank.now(), Choice::Oldest);
+    let image = crashed(rt, &array.bank, array.bank.now(), Choice::Oldest);
     let place = (array.table.generation % 2) as usize;
     for slot in 0..array.table.geometry.members.saturating_add(2) {
         if slot < 10 && array.table.states[slot as usize] != State::Missing {
@@ -602,7 +602,7 @@ pub(crate) fn check_complete(
 ) {
     check_whole(rt, number, array, list);
     for slot in 0..array.table.geometry.members.saturating_add(2) {
-        let mut image = stopped(rt, &array.bank, array.bank.now(), Choice::Oldest);
+        let mut image = crashed(rt, &array.bank, array.bank.now(), Choice::Oldest);
         take(rt, &mut image, slot);
         let mut again = assembled(rt, image);
         check_states(rt, number, &again.table, slot, State::Missing);

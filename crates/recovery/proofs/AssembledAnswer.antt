@@ -7,7 +7,7 @@ use Rattle.sector_model.specs.Readable.{readable}
 use Rattle.superblock.specs.declared.table.Table.{Table}
 use Rattle.superblock.specs.Cases.{Lost}
 use Rattle.superblock.specs.Counted.{IsChosen}
-use Rattle.superblock.specs.Losses.{IsOneLoss}
+use Rattle.superblock.specs.Losses.{IsSingleFailure}
 use Rattle.superblock.specs.NextTables.{slots_of}
 use Rattle.array_io.specs.Believed.Moments.{HoldsThroughout}
 use Rattle.array_io.specs.Believed.Views.{ArrayView, HasItsSlots}
@@ -50,8 +50,8 @@ pub record IsOpening (Reaches : Reached) (honest : Type 0) (id : List ℕ) (old 
   pub its_slots : HasItsSlots array.table array.panel
   pub moments : honest → (base : Table) (lost : Option Lost) (X : List (List Bytes)) → base.id ≡ id → MayAssemble base lost X old
       → HoldsThroughout base old.panel.devices lost X old.history array.history
-  pub rests : honest → (base : Table) (lost : Option Lost) (X : List (List Bytes)) → base.id ≡ id → MayAssemble base lost X old → IsOneLoss (slots_of base) lost array.history → Reaches base lost X array
-  pub states : honest → (base : Table) (lost : Option Lost) (X : List (List Bytes)) → base.id ≡ id → MayAssemble base lost X old → IsOneLoss (slots_of base) lost array.history
+  pub rests : honest → (base : Table) (lost : Option Lost) (X : List (List Bytes)) → base.id ≡ id → MayAssemble base lost X old → IsSingleFailure (slots_of base) lost array.history → Reaches base lost X array
+  pub states : honest → (base : Table) (lost : Option Lost) (X : List (List Bytes)) → base.id ≡ id → MayAssemble base lost X old → IsSingleFailure (slots_of base) lost array.history
       → (table : Table) → IsChosen id old.panel.devices (readable old.history) table → HasStatesOf table old array
   pub one : honest → HasOne id old.panel.devices array.history
   pub unwritten : RefusesUnwritten honest id old (Opened array)
@@ -63,10 +63,10 @@ opening Reaches honest id old array is = record {
   of_id = λ other same. of_opened (λ a. a.table.id ≡ id) array other same is.of_id;
   its_slots = λ other same. of_opened (λ a. HasItsSlots a.table a.panel) array other same is.its_slots;
   moments = is.moments;
-  rests = λ is_honest base lost X same_id may other same. of_opened (λ a. IsOneLoss (slots_of base) lost a.history → Reaches base lost X a) array other same
+  rests = λ is_honest base lost X same_id may other same. of_opened (λ a. IsSingleFailure (slots_of base) lost a.history → Reaches base lost X a) array other same
       (is.rests is_honest base lost X same_id may);
   states = λ is_honest base lost X same_id may other same.
-      of_opened (λ a. IsOneLoss (slots_of base) lost a.history → (table : Table) → IsChosen id old.panel.devices (readable old.history) table → HasStatesOf table old a) array other same
+      of_opened (λ a. IsSingleFailure (slots_of base) lost a.history → (table : Table) → IsChosen id old.panel.devices (readable old.history) table → HasStatesOf table old a) array other same
       (is.states is_honest base lost X same_id may);
   refused = λ bank refusal same. absurd (not_both array bank refusal same);
   cause = λ is_honest bank refusal same. absurd (not_both array bank refusal same);

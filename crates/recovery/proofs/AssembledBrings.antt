@@ -1,5 +1,5 @@
 -- While the superblocks of the surveyed table are brought up every case keeps holding; and at the end they are in order, or the slot of the device that
--- fell is the lost one.
+-- failed is the lost one.
 use Rattle.std.proofs.Common.{◌≡◌, ◌≢◌, ℕ, ◌<◌, true, List, Option, Result, Ok, Err, sym, ◌∙◌, ap, subst}
 use Rattle.sector_model.specs.declared.sector.Stop.{Stop}
 use Rattle.sector_model.specs.declared.sector.Stop.TheVariants.{Worn}
@@ -13,7 +13,7 @@ use Rattle.superblock.specs.declared.table.Table.{Table}
 use Rattle.superblock.specs.Tables.{state_at}
 use Rattle.superblock.specs.Cases.{Lost}
 use Rattle.superblock.specs.Counted.{Content, IsChosen, IsLive}
-use Rattle.superblock.specs.Losses.{IsLostAt, IsOneLoss}
+use Rattle.superblock.specs.Losses.{IsLostAt, IsSingleFailure}
 use Rattle.superblock.specs.NextTables.{slots_of}
 use Rattle.superblock.specs.Publishing.{StandsAt, place_of}
 use Rattle.array_io.specs.Steps.Bringing.{CountsOn, IsBringing}
@@ -27,7 +27,7 @@ use Rattle.array_io.proofs.Laws.Fresh.{in_sync_not_missing}
 use Rattle.array_io.proofs.Images.LossBefore.{was_lost}
 use Rattle.array_io.proofs.Marks.MarkedWhole.{IsLostThen, out_is_lost}
 use Rattle.array_io.proofs.Images.Spellings.{Spellings}
-use Rattle.recovery.specs.Lagging.{AreSpelled, BringsUpSlots}
+use Rattle.recovery.specs.StaleSuperblocks.{AreSpelled, BringsUpSlots}
 use Rattle.recovery.specs.PuttingInOrder.{IsInOrderBy}
 use Rattle.recovery.proofs.AssembledReads.{held_of}
 use Rattle.recovery.proofs.AssembledTable.{IsSurveyed, now_holds, now_quiet, told}
@@ -61,25 +61,25 @@ module _ (spellings : Spellings) (base table : Table) (devices : ℕ) (lost : Op
     pub brings_throughout : HoldsThroughout base devices lost X old new
     brings_throughout = bringing_throughout spellings devices base table lost X sectors old new brings_from (brings.moments is_honest)
 
-    -- each image that a stop may leave then is held by the table
+    -- each image that a crash may leave then is held by the table
     pub brought_held : (after : Option Lost) → IsLostAt (slots_of base) lost new after → (image : Slots) → MayLeave new image → Held base devices table X image after
     brought_held after lost_at image may =
         held_of base devices table X image after (holds_at spellings devices base table lost X sectors old new brings_from at_end after image lost_at may)
 
     -- a slot whose device is down is the lost one
-    pub fallen_is_lost : (after : Option Lost) → IsLostAt (slots_of base) lost new after → (slot : ℕ) → slot < slots_of table → is_down new slot ≡ true → IsLostThen lost new after slot
-    fallen_is_lost after lost_at slot of_set down =
+    pub failed_is_lost : (after : Option Lost) → IsLostAt (slots_of base) lost new after → (slot : ℕ) → slot < slots_of table → is_down new slot ≡ true → IsLostThen lost new after slot
+    failed_is_lost after lost_at slot of_set down =
         out_is_lost spellings base table devices lost X new after (brought_held after lost_at (readable new) (readable_left new)) lost_at slot of_set
         (λ live. none_is_out spellings devices table slot (subst (IsLive devices table slot) (readable_down new slot down) live))
 
-    module _ (ok : result ≡ Ok tt) (one_loss : IsOneLoss (slots_of base) lost new) where
-      pub was_one_loss : IsOneLoss (slots_of base) lost old
-      was_one_loss =
-          let was = was_lost (slots_of base) lost old new one_loss.0 at_end.stays_down one_loss.1 in
+    module _ (ok : result ≡ Ok tt) (single_failure : IsSingleFailure (slots_of base) lost new) where
+      pub was_single_failure : IsSingleFailure (slots_of base) lost old
+      was_single_failure =
+          let was = was_lost (slots_of base) lost old new single_failure.0 at_end.stays_down single_failure.1 in
           (was.before, was.was)
 
       brought : AreBrought devices table sectors (readable old) (readable new)
-      brought = readable_brought spellings devices table sectors old new brings_from.ready at_end (brings.none_fell is_honest ok)
+      brought = readable_brought spellings devices table sectors old new brings_from.ready at_end (brings.none_failed is_honest ok)
 
       pub brought_stands : (slot : ℕ) → slot < slots_of table → state_at table.states slot ≢ Missing → StandsAt table slot (sector_of (disk_of (readable new slot)) (place_of table))
       brought_stands slot of_set counted =
@@ -94,8 +94,8 @@ module _ (spellings : Spellings) (base table : Table) (devices : ℕ) (lost : Op
         nothing_pending = brings.rests is_honest (now_quiet spellings base table devices lost X start old from) (ok_not_worn result ok);
         holds = throughout_last new brings_throughout;
         chosen = subst (λ (i : List ℕ). IsChosen i devices (readable new) table) from.same_id
-            ((bringing_chosen spellings devices base table lost X sectors old new brings_from at_end one_loss.0 one_loss.1).whole (readable new) (readable_left new));
+            ((bringing_chosen spellings devices base table lost X sectors old new brings_from at_end single_failure.0 single_failure.1).whole (readable new) (readable_left new));
         there = λ slot of_set counted. live_brought spellings devices table sectors X (readable old) (readable new)
-            ((told spellings base table devices lost X start old from was_one_loss.0 was_one_loss.1).held (readable old) (readable_left old)).whole brought slot (there slot of_set counted);
+            ((told spellings base table devices lost X start old from was_single_failure.0 was_single_failure.1).held (readable old) (readable_left old)).whole brought slot (there slot of_set counted);
         carried = λ complete slot of_set. brought_stands slot of_set (λ missing. in_sync_not_missing (sym (complete.in_sync slot of_set) ∙ missing));
       }

@@ -17,7 +17,7 @@ use Rattle.array_io.proofs.Images.Counting.{none_counts}
 use Rattle.array_io.proofs.Marks.MarkingMoments.{calls_grow, cut_before, cut_whole}
 use Rattle.array_io.proofs.Images.Spellings.{Spellings}
 use Rattle.recovery.specs.Assembling.{IsTwoLostThen, IsWornThen}
-use Rattle.recovery.specs.Lagging.{AreSpelled}
+use Rattle.recovery.specs.StaleSuperblocks.{AreSpelled}
 use Rattle.recovery.specs.Making.{IsCarried}
 use Rattle.recovery.proofs.AssembledReads.{IsRead, readable_read}
 
@@ -110,7 +110,7 @@ own_counts id devices table slot sector h of_id room stands up is = record {
   };
 }
 
--- while superblocks of the chosen table are brought up, and no device falls, one counts
+-- while superblocks of the chosen table are brought up, and no device fails, one counts
 pub one_brought : Spellings → (id : List ℕ) (devices : ℕ) (table : Table) (sectors : ℕ → Bytes) (old h : History) → table.id ≡ id → slots_of table ≤ devices → IsChosen id devices (readable old) table
     → AreSpelled table sectors → IsBringing table sectors old h → ((device : ℕ) → is_down h device ≡ is_down old device) → HasOne id devices h
 one_brought spellings id devices table sectors old h of_id room chosen spelled is stay = elim (is.reads chosen.slot chosen.place) [

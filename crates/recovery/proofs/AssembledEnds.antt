@@ -29,14 +29,14 @@ use Rattle.array_io.proofs.Marks.MarkedWhole.{out_is_lost}
 use Rattle.array_io.proofs.Marks.MarkingMoments.{calls_grow}
 use Rattle.array_io.proofs.Images.Spellings.{Spellings}
 use Rattle.recovery.specs.Assembling.{HasStatesOf, MayAssemble}
-use Rattle.recovery.specs.Lagging.{BringsUp}
+use Rattle.recovery.specs.StaleSuperblocks.{BringsUp}
 use Rattle.recovery.specs.Making.{BankView, Outcome, bank_after, given_back, opened}
 use Rattle.recovery.specs.Unwritten.{RefusesUnwritten}
 use Rattle.recovery.specs.PuttingInOrder.{PutsInOrder}
 use Rattle.recovery.specs.Surveying.{IsOutOf, IsThere}
 use Rattle.recovery.specs.declared.survey.Out.TheVariants as out
 use Rattle.recovery.proofs.AssembledAnswer.{not_in_order, put_in_order}
-use Rattle.recovery.proofs.AssembledBrings.{brings_throughout, brought_held, brought_in_order, fallen_is_lost, was_one_loss}
+use Rattle.recovery.proofs.AssembledBrings.{brings_throughout, brought_held, brought_in_order, failed_is_lost, was_single_failure}
 use Rattle.recovery.proofs.AssembledCause.{carried_then, cut_back, one_brought}
 use Rattle.recovery.proofs.AssembledLaw.{HasSurveyed, calls_read, in_order, surveyed_from, surveyed_holds}
 use Rattle.recovery.proofs.AssembledMarked.{MarksLater}
@@ -154,22 +154,22 @@ module _ (spellings : Spellings) (honest asked : Type 0) (still : honest → ask
     of_id = has.of_id;
     its_slots = its_slots asked mid table panel room brings.brings.later are_there;
     moments = moments;
-    rests = λ is_honest base lost X same_id may one_loss.
+    rests = λ is_honest base lost X same_id may single_failure.
         let is_from = from is_honest base lost X same_id may in
         in_order base table devices lost X panel new later.devices
         (brought_in_order spellings base table devices lost X old.history mid.history brings.sectors is_from (all_there is_honest) brings.spelled asked mid.panel panel new result brings.brings
-        (still is_honest) ok one_loss);
-    states = λ is_honest base lost X same_id may one_loss one chosen.
+        (still is_honest) ok single_failure);
+    states = λ is_honest base lost X same_id may single_failure one chosen.
         let is_from = from is_honest base lost X same_id may in
-        let mid_loss = was_one_loss spellings base table devices lost X old.history mid.history brings.sectors is_from (all_there is_honest) brings.spelled asked mid.panel panel new result brings.brings
-        (still is_honest) ok one_loss in
+        let mid_loss = was_single_failure spellings base table devices lost X old.history mid.history brings.sectors is_from (all_there is_honest) brings.spelled asked mid.panel panel new result brings.brings
+        (still is_honest) ok single_failure in
         let known = told spellings base table devices lost X old.history mid.history is_from mid_loss.0 mid_loss.1 in
         let same : one ≡ table = known.was_chosen one (subst (λ (i : List ℕ). IsChosen i devices (readable old.history) one) (sym same_id) chosen) in
         subst (λ (t : Table). HasStatesOf t old (view_of panel new table 0)) (sym same)
-        (states_whole spellings table old mid.history new panel (read_last (has.reads is_honest)) (all_there is_honest) (brings.brings.none_fell (still is_honest) ok));
+        (states_whole spellings table old mid.history new panel (read_last (has.reads is_honest)) (all_there is_honest) (brings.brings.none_failed (still is_honest) ok));
     one = λ is_honest.
         one_brought spellings id devices table brings.sectors mid.history new has.of_id has.has_slots (has.chosen is_honest) brings.spelled
-        (throughout_last new (brings.brings.moments (still is_honest))) (brings.brings.none_fell (still is_honest) ok);
+        (throughout_last new (brings.brings.moments (still is_honest))) (brings.brings.none_failed (still is_honest) ok);
     unwritten = one_out (opened panel new table 0) stays;
   } (λ is_honest. since id devices old mid.history new table table panel later.devices record {
     from = calls_read old.history mid.history (has.reads is_honest);
@@ -192,9 +192,9 @@ module _ (spellings : Spellings) (honest asked : Type 0) (still : honest → ask
     unwritten = one_out (given_back panel new Worn) stays;
   }
 
-  -- a device fell
-  pub marks_fallen : (slot : ℕ) → result ≡ Err (stop.Down slot) → MarksLater honest id old mid (record { panel = panel; history = new }) table slot
-  marks_fallen slot is = record {
+  -- a device failed
+  pub marks_failed : (slot : ℕ) → result ≡ Err (stop.Down slot) → MarksLater honest id old mid (record { panel = panel; history = new }) table slot
+  marks_failed slot is = record {
     surveyed = has;
     of_set = counted.of_set;
     counted = counted.there;
@@ -207,7 +207,7 @@ module _ (spellings : Spellings) (honest asked : Type 0) (still : honest → ask
     lost = λ is_honest base lost X is_from after lost_at. record {
       held = brought_held spellings base table devices lost X old.history mid.history brings.sectors is_from (all_there is_honest) brings.spelled asked mid.panel panel new result brings.brings
           (still is_honest) after lost_at;
-      its = fallen_is_lost spellings base table devices lost X old.history mid.history brings.sectors is_from (all_there is_honest) brings.spelled asked mid.panel panel new result brings.brings
+      its = failed_is_lost spellings base table devices lost X old.history mid.history brings.sectors is_from (all_there is_honest) brings.spelled asked mid.panel panel new result brings.brings
           (still is_honest) after lost_at slot counted.of_set (down is_honest);
     };
     gone = λ is_honest up. absurd (differ (sym (down is_honest) ∙ up));

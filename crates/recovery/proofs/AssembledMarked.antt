@@ -18,7 +18,7 @@ use Rattle.superblock.specs.declared.table.Table.{Table}
 use Rattle.superblock.specs.Tables.{state_at}
 use Rattle.superblock.specs.Cases.{Lost}
 use Rattle.superblock.specs.Counted.{IsChosen, IsInFull, IsLive}
-use Rattle.superblock.specs.Losses.{IsLostAt, IsOneLoss}
+use Rattle.superblock.specs.Losses.{IsLostAt, IsSingleFailure}
 use Rattle.superblock.specs.NextTables.{slots_of}
 use Rattle.superblock.specs.Publishing.{place_of}
 use Rattle.array_io.specs.Believed.ArrayCalls.{Answer}
@@ -51,13 +51,13 @@ use Rattle.recovery.proofs.AssembledTable.{IsSurveyed, now_quiet, told}
 use Rattle.recovery.proofs.AssembledUnwritten.{one_is_out}
 use Rattle.recovery.proofs.AssembledWithout.{LeadsTo, marked_one}
 
--- a case by case: each image that a stop may leave is held by the table, and the slot is the lost one
+-- a case by case: each image that a crash may leave is held by the table, and the slot is the lost one
 pub record IsHeldThen (base table : Table) (devices : ℕ) (lost : Option Lost) (X : List (List Bytes)) (h : History) (after : Option Lost) (slot : ℕ) : Type 0 where
   pub held : (image : Slots) → MayLeave h image → Held base devices table X image after
   pub its : IsLostThen lost h after slot
 
 -- After the survey a slot is to be marked missing, on the bank as it stands some time later: either right away, where it is not live; or where its device
--- fell while superblocks were brought up.
+-- failed while superblocks were brought up.
 pub record MarksLater (honest : Type 0) (id : List ℕ) (old mid before : BankView) (table : Table) (slot : ℕ) : Type 0 where
   pub surveyed : HasSurveyed honest id old mid table
   pub of_set : slot < slots_of table
@@ -225,10 +225,10 @@ module _ (spellings : Spellings) (honest marking : Type 0) (still : honest → m
       | inr out ↦ inr out
     ]
 
-    -- a device that got the new table fell
-    fell_two : honest → (device : ℕ) → is.result ≡ Err (stop.Down device) → IsTwoLostThen id devices old.history new
-    fell_two is_honest device fell =
-        let got = gets_is new_table device (is.publishes.named device fell) in
+    -- a device that got the new table failed
+    failed_two : honest → (device : ℕ) → is.result ≡ Err (stop.Down device) → IsTwoLostThen id devices old.history new
+    failed_two is_honest device failed =
+        let got = gets_is new_table device (is.publishes.named device failed) in
         let of_set : device < slots_of table = subst (λ (g : Geometry). device < g.members + 2) is.marked.same_geometry got.0 in
         let apart : device ≢ slot = λ same. none_differ (sym missing ∙ sym (ap (λ (k : ℕ). state_at new_table.states k) same) ∙ got.1) in
         two_lost_then id devices old.history mid.history new table device slot record {
@@ -239,7 +239,7 @@ module _ (spellings : Spellings) (honest marking : Type 0) (still : honest → m
           apart = apart;
           first_of_set = of_set;
           second_of_set = m.of_set;
-          first_out = inl (sym ((true_new is_honest).down device) ∙ is.publishes.cause (stop.Down device) fell);
+          first_out = inl (sym ((true_new is_honest).down device) ∙ is.publishes.cause (stop.Down device) failed);
           second_out = slot_out_now is_honest;
           unwritten = λ out out'. absurd (out record { live = live_others is_honest device of_set apart; in_sync = is.others device of_set apart });
         }
@@ -254,7 +254,7 @@ module _ (spellings : Spellings) (honest marking : Type 0) (still : honest → m
           later = later_new;
           moments = moments_marked;
           refused = tt;
-          cause = λ is_honest. subst (λ (n : ℕ). IsTwoLostThen id n old.history new) (sym later_new.devices) (fell_two is_honest device result_is);
+          cause = λ is_honest. subst (λ (n : ℕ). IsTwoLostThen id n old.history new) (sym later_new.devices) (failed_two is_honest device result_is);
           unwritten = unwritten_then (given_back new_panel new TwoLost) stays_new;
         })
     refused_by (Err stop.Worn) result_is refusal same =
@@ -269,22 +269,22 @@ module _ (spellings : Spellings) (honest marking : Type 0) (still : honest → m
         })
 
     module _ (ok : answer ≡ Ok tt) where
-      lost_mid : honest → (base : Table) (lost : Option Lost) → IsOneLoss (slots_of base) lost new → IsOneLoss (slots_of base) lost before.history
-      lost_mid is_honest base lost one_loss =
-          let was = was_lost (slots_of base) lost before.history new one_loss.0 (stays_end is_honest) one_loss.1 in
+      lost_mid : honest → (base : Table) (lost : Option Lost) → IsSingleFailure (slots_of base) lost new → IsSingleFailure (slots_of base) lost before.history
+      lost_mid is_honest base lost single_failure =
+          let was = was_lost (slots_of base) lost before.history new single_failure.0 (stays_end is_honest) single_failure.1 in
           (was.before, was.was)
 
-      lost_then : honest → (base : Table) (lost : Option Lost) → IsOneLoss (slots_of base) lost new → IsOneLoss (slots_of base) lost mid.history
-      lost_then is_honest base lost one_loss =
-          let before_loss = lost_mid is_honest base lost one_loss in
+      lost_then : honest → (base : Table) (lost : Option Lost) → IsSingleFailure (slots_of base) lost new → IsSingleFailure (slots_of base) lost mid.history
+      lost_then is_honest base lost single_failure =
+          let before_loss = lost_mid is_honest base lost single_failure in
           let was = was_lost (slots_of base) lost mid.history before.history before_loss.0 (m.leads is_honest).stays_down before_loss.1 in
           (was.before, was.was)
 
-      rests : honest → (base : Table) (lost : Option Lost) (X : List (List Bytes)) → base.id ≡ id → MayAssemble base lost X old → IsOneLoss (slots_of base) lost new
+      rests : honest → (base : Table) (lost : Option Lost) (X : List (List Bytes)) → base.id ≡ id → MayAssemble base lost X old → IsSingleFailure (slots_of base) lost new
           → IsInOrder base lost X (view_of new_panel new new_table 0)
-      rests is_honest base lost X same_id may one_loss =
+      rests is_honest base lost X same_id may single_failure =
           let is_from = from is_honest base lost X same_id may in
-          let before_loss = lost_mid is_honest base lost one_loss in
+          let before_loss = lost_mid is_honest base lost single_failure in
           let then = m.lost is_honest base lost X is_from before_loss.0 before_loss.1 in
           let chosen = marks_chosen spellings marking devices base table new_table slot lost X then.its.one before.panel new_panel before.history new is.result is.publishes
           (marks_from is_honest base lost X is_from before_loss.0 before_loss.1 then) (still is_honest)
@@ -295,11 +295,11 @@ module _ (spellings : Spellings) (honest marking : Type 0) (still : honest → m
           (marked_in_order devices table new_table slot is.publishes.sectors mid.history new one base lost X is_from.same_id
           (throughout_last new (moments_marked is_honest base lost X same_id may)))
 
-      states : honest → (base : Table) (lost : Option Lost) (X : List (List Bytes)) → base.id ≡ id → MayAssemble base lost X old → IsOneLoss (slots_of base) lost new
+      states : honest → (base : Table) (lost : Option Lost) (X : List (List Bytes)) → base.id ≡ id → MayAssemble base lost X old → IsSingleFailure (slots_of base) lost new
           → (one : Table) → IsChosen id devices (readable old.history) one → HasStatesOf one old (view_of new_panel new new_table 0)
-      states is_honest base lost X same_id may one_loss one chosen =
+      states is_honest base lost X same_id may single_failure one chosen =
           let is_from = from is_honest base lost X same_id may in
-          let mid_loss = lost_then is_honest base lost one_loss in
+          let mid_loss = lost_then is_honest base lost single_failure in
           let known = told spellings base table devices lost X old.history mid.history is_from mid_loss.0 mid_loss.1 in
           let same : one ≡ table = known.was_chosen one (subst (λ (i : List ℕ). IsChosen i devices (readable old.history) one) (sym same_id) chosen) in
           subst (λ (t : Table). HasStatesOf t old (view_of new_panel new new_table 0)) (sym same)

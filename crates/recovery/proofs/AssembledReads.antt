@@ -1,4 +1,4 @@
--- While devices are read, some of which may fall, every case that a stop may leave keeps holding.
+-- While devices are read, some of which may fail, every case that a crash may leave keeps holding.
 use Rattle.std.proofs.Common.{◌≡◌, ◌⊎◌, inl, inr, ℕ, ◌+◌, ◌≤◌, Bool, true, false, cond, List, [], length, Option, Some, None, refl, sym, ◌∙◌, ap, subst, arith, ◌==◌}
 use Rattle.std.proofs.lemmas.Bool.{cases_lt, or_right}
 use Rattle.std.proofs.lemmas.List.{ext_get_or}
@@ -19,9 +19,9 @@ use Rattle.superblock.specs.NextTables.{slots_of}
 use Rattle.superblock.proofs.LaterTables.{not_older_same}
 use Rattle.array_io.specs.Believed.Holds.{Holds}
 use Rattle.array_io.specs.Believed.Moments.{HoldsNow}
-use Rattle.array_io.specs.Laws.Starts.{DiffersBehind}
+use Rattle.array_io.specs.Laws.Starts.{DiffersBeyond}
 use Rattle.array_io.proofs.Rest.AtRestImages.{Held}
-use Rattle.array_io.proofs.Images.Behind.{holds_in_behind}
+use Rattle.array_io.proofs.Images.Beyond.{holds_in_beyond}
 use Rattle.array_io.proofs.Images.CaseAfter.{IsCaseAfter, case_after, counts_since, of_case_holds, stands_same}
 use Rattle.array_io.proofs.Images.Counting.{none_counts}
 use Rattle.array_io.proofs.Images.LossBefore.{HoldsBy, WasLost, before_of, by_table, holds_by_table, up_before, was_lost}
@@ -78,7 +78,7 @@ held_of base devices table X image lost by = record {
   one_counts = by.one_counts;
 }
 
--- the device of a slot fell
+-- the device of a slot failed
 record HasGone (old h : History) (slot : ℕ) (content : Content) : Type 0 where
   pub up : is_down old slot ≡ false
   pub down : is_down h slot ≡ true
@@ -107,7 +107,7 @@ module _ (spellings : Spellings) (devices : ℕ) (base : Table) (lost : Option L
       (may.1 ∙ ap (λ (c : Content). length (disk_of c)) (is.start d) ∙ sym (length-seen old d))
       (λ a below. nothing d a (sector_of disk a) (sector_of (seen old d) a) up (is.holds d a (sector_of disk a) (may.2 a)) (up_seen old d a up))))
 
-  -- what stands in a slot stood there before, or its device fell
+  -- what stands in a slot stood there before, or its device failed
   found : (image : Slots) → MayLeave h image → (d : ℕ) → (image d ≡ before_of old image d) ⊎ HasGone old h d (image d)
   found image may d = by_state (is_down old d) refl
     where
@@ -119,7 +119,7 @@ module _ (spellings : Spellings) (devices : ℕ) (base : Table) (lost : Option L
     pub w : WasLost (slots_of base) lost old h after
     w = was_lost (slots_of base) lost old h after is.stays_down lost_at
 
-    -- what is put where: nothing, but that a device behind the set's slots may be gone
+    -- what is put where: nothing, but that a device after the set's slots may be gone
     abbrev Puts : ℕ → Content → Content → Type 0
     Puts d before now = (now ≡ before) ⊎ ((slots_of base ≤ d) × (now ≡ None))
 
@@ -141,7 +141,7 @@ module _ (spellings : Spellings) (devices : ℕ) (base : Table) (lost : Option L
           | inl was ↦ inl (inl was)
           | inr gone ↦ elim (cases_lt d (slots_of base)) [
             | inl below ↦ inr (w.gone d below gone.up gone.down, gone.none)
-            | inr behind ↦ inl (inr (behind, gone.none))
+            | inr beyond ↦ inl (inr (beyond, gone.none))
           ]
         ];
         out = w.out;
@@ -153,13 +153,13 @@ module _ (spellings : Spellings) (devices : ℕ) (base : Table) (lost : Option L
         ]) by.one_counts after refl;
       }
 
-      differs : (before now : Slots) → ((d : ℕ) → Puts d (before d) (now d)) → DiffersBehind devices table before now
+      differs : (before now : Slots) → ((d : ℕ) → Puts d (before d) (now d)) → DiffersBeyond devices table before now
       differs before now put = record {
         of_set = λ d of_set. elim (put d) [
           | inl same ↦ same
           | inr gone ↦ absurd (omega (arith, of_set, gone.0, same_slots))
         ];
-        behind = λ d behind. elim (put d) [
+        beyond = λ d beyond. elim (put d) [
           | inl same ↦ inl same
           | inr gone ↦ inr (λ place superblock counts. none_counts spellings table.id devices d place superblock
               (subst (λ (c : Content). Counts table.id devices d c place superblock) gone.1 counts))
@@ -168,7 +168,7 @@ module _ (spellings : Spellings) (devices : ℕ) (base : Table) (lost : Option L
 
       held_now : HoldsBy base devices table X new_case
       held_now = case_after devices base table table X X Puts old_case new_case by read_after (λ before now of_old of_new put.
-          holds_in_behind devices table X before now (differs before now put) (of_case_holds base devices table X old_case by before of_old))
+          holds_in_beyond devices table X before now (differs before now put) (of_case_holds base devices table X old_case by before of_old))
 
     -- by the table by which it held before
     holds_read : (holds : Holds base devices old_case X) → HoldsBy base devices holds.table X new_case

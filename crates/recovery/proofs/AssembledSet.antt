@@ -15,7 +15,7 @@ use Rattle.superblock.specs.declared.table.Table.{Table}
 use Rattle.superblock.specs.Tables.{state_at}
 use Rattle.superblock.specs.Cases.{HasNone, Lost}
 use Rattle.superblock.specs.Counted.{IsChosen, IsInFull}
-use Rattle.superblock.specs.Losses.{IsLostAt, IsOneLoss}
+use Rattle.superblock.specs.Losses.{IsLostAt, IsSingleFailure}
 use Rattle.superblock.specs.NextTables.{IsMarked, slots_of}
 use Rattle.superblock.specs.States.{has_rebuilding, position_in}
 use Rattle.layout_map.specs.declared.geometry.Geometry.{Geometry}
@@ -141,12 +141,12 @@ module _ (spellings : Spellings) (honest still : Type 0) (more : honest → stil
   set_unwritten outcome same = unwritten_later honest id old Mid outcome first.unwritten (λ fair. subst (StaysDown h1) same (stays_down fair))
 
   -- one slot is lost at most then, so it was before
-  one_before : honest → (base : Table) (lost : Option Lost) → IsOneLoss (slots_of base) lost h2 → IsOneLoss (slots_of base) lost h1
+  one_before : honest → (base : Table) (lost : Option Lost) → IsSingleFailure (slots_of base) lost h2 → IsSingleFailure (slots_of base) lost h1
   one_before fair base lost (after, at) =
       let was = was_lost (slots_of base) lost h1 h2 after (stays_down fair) at in
       (was.before, was.was)
 
-  may : honest → (base : Table) (lost : Option Lost) (X : List (List Bytes)) → base.id ≡ id → MayAssemble base lost X old → IsOneLoss (slots_of base) lost h1
+  may : honest → (base : Table) (lost : Option Lost) (X : List (List Bytes)) → base.id ≡ id → MayAssemble base lost X old → IsSingleFailure (slots_of base) lost h1
       → MayReplay (From base lost X) table1 h1
   may fair base lost X same_id may_assemble one =
       subst (λ (n : ℕ). MayReplay (record { devices = n; base = base; lost = lost; lists = X }) table1 h1) same_devices
@@ -185,7 +185,7 @@ module _ (spellings : Spellings) (honest still : Type 0) (more : honest → stil
     abbrev Now : ArrayView
     Now = view_of panel2 h2 table2 number
 
-    rests : honest → (base : Table) (lost : Option Lost) (X : List (List Bytes)) → base.id ≡ id → MayAssemble base lost X old → IsOneLoss (slots_of base) lost h2 → OpensOnOne base lost X Now
+    rests : honest → (base : Table) (lost : Option Lost) (X : List (List Bytes)) → base.id ≡ id → MayAssemble base lost X old → IsSingleFailure (slots_of base) lost h2 → OpensOnOne base lost X Now
     rests fair base lost X same_id may_assemble one =
         let reached = settles.reached (more fair) number ok (From base lost X) (may fair base lost X same_id may_assemble (one_before fair base lost one)) one in
         let rest : Rests base table2 Devices number lost X h2 = settled_again_carried spellings Devices base table2 lost X h2 reached.0.writes number reached.1.entry one
@@ -214,14 +214,14 @@ module _ (spellings : Spellings) (honest still : Type 0) (more : honest → stil
     ]
 
     -- what is down then is missing, if what was down before was
-    fallen : honest → (slot : ℕ) → is_down h2 slot ≡ true → (is_down h1 slot ≡ true → state_at table1.states slot ≡ Missing) → state_at table2.states slot ≡ Missing
-    fallen fair slot down before = by_state (is_down h1 slot) refl
+    failure : honest → (slot : ℕ) → is_down h2 slot ≡ true → (is_down h1 slot ≡ true → state_at table1.states slot ≡ Missing) → state_at table2.states slot ≡ Missing
+    failure fair slot down before = by_state (is_down h1 slot) refl
       where
         by_state : (b : Bool) → is_down h1 slot ≡ b → state_at table2.states slot ≡ Missing
         by_state true is = missing_stays fair slot (before is)
         by_state false is = elim (le_or_lt (slots_of table1) slot) [
-          | inr of_set ↦ settles.stays.fallen (more fair) not_ended slot of_set record { was_up = (true_mid fair).down slot ∙ is; is_down = (true_new fair).down slot ∙ down }
-          | inl behind ↦ missing_stays fair slot (table1.allowed.behind_missing slot behind)
+          | inr of_set ↦ settles.stays.failure (more fair) not_ended slot of_set record { was_up = (true_mid fair).down slot ∙ is; is_down = (true_new fair).down slot ∙ down }
+          | inl beyond ↦ missing_stays fair slot (table1.allowed.missing_beyond slot beyond)
         ]
 
     position : (table : Table) → table1.position ≡ position_in table1.states table.position → table2.position ≡ position_in table2.states table.position
@@ -230,7 +230,7 @@ module _ (spellings : Spellings) (honest still : Type 0) (more : honest → stil
       | inr lost ↦ position_again table1 table2 lost.slot table.position lost.marked lost.of_set
     ]
 
-    states : honest → (base : Table) (lost : Option Lost) (X : List (List Bytes)) → base.id ≡ id → MayAssemble base lost X old → IsOneLoss (slots_of base) lost h2
+    states : honest → (base : Table) (lost : Option Lost) (X : List (List Bytes)) → base.id ≡ id → MayAssemble base lost X old → IsSingleFailure (slots_of base) lost h2
         → (table : Table) → IsChosen id Devices (readable old.history) table → HasStatesOf table old Now
     states fair base lost X same_id may_assemble one table chosen =
         let was : HasStatesOf table old Mid = first.assembles.states fair base lost X same_id may_assemble Mid refl (one_before fair base lost one) table chosen in
@@ -241,7 +241,7 @@ module _ (spellings : Spellings) (honest still : Type 0) (more : honest → stil
             | inr gone ↦ absurd (differ (sym gone.0 ∙ up))
           ];
           not_live = λ slot of_set out. missing_stays fair slot (was.not_live slot of_set out);
-          fallen = λ slot of_set down. fallen fair slot down (λ was_down. was.fallen slot of_set was_down);
+          failure = λ slot of_set down. failure fair slot down (λ was_down. was.failure slot of_set was_down);
           position = position table was.position;
         }
 
@@ -259,10 +259,10 @@ module _ (spellings : Spellings) (honest still : Type 0) (more : honest → stil
       of_id = λ array same. of_opened (λ a. a.table.id ≡ id) Now array same (settles.goes_on.not_older.same_id ∙ its_id);
       its_slots = λ array same. of_opened (λ a. HasItsSlots a.table a.panel) Now array same (settles.goes_on.its_slots (first.assembles.its_slots Mid refl));
       moments = λ fair base lost X same_id may_assemble. moments fair base lost X same_id may_assemble;
-      rests = λ fair base lost X same_id may_assemble array same. of_opened (λ a. IsOneLoss (slots_of base) lost a.history → OpensOnOne base lost X a) Now array same
+      rests = λ fair base lost X same_id may_assemble array same. of_opened (λ a. IsSingleFailure (slots_of base) lost a.history → OpensOnOne base lost X a) Now array same
           (rests fair base lost X same_id may_assemble);
       states = λ fair base lost X same_id may_assemble array same.
-          of_opened (λ a. IsOneLoss (slots_of base) lost a.history → (table : Table) → IsChosen id Devices (readable old.history) table → HasStatesOf table old a) Now array same
+          of_opened (λ a. IsSingleFailure (slots_of base) lost a.history → (table : Table) → IsChosen id Devices (readable old.history) table → HasStatesOf table old a) Now array same
           (states fair base lost X same_id may_assemble);
       refused = λ bank refusal same. absurd (not_both Now bank refusal same);
       cause = λ fair bank refusal same. absurd (not_both Now bank refusal same);

@@ -66,7 +66,7 @@ states_whole spellings table old mid new panel is there stay = record {
     | inl missing ↦ missing
     | inr counted ↦ absurd (out (was_live spellings old.panel.devices table old.history mid is slot (there slot of_set counted)))
   ];
-  fallen = λ slot of_set down. elim (missing_or (state_at table.states slot)) [
+  failure = λ slot of_set down. elim (missing_or (state_at table.states slot)) [
     | inl missing ↦ missing
     | inr counted ↦ absurd (differ (sym (sym (stay slot) ∙ down) ∙ live_is_up spellings old.panel.devices table mid slot (there slot of_set counted)))
   ];
@@ -93,7 +93,7 @@ states_without spellings table new_table slot old mid new panel is has = record 
     | inl same ↦ missing other same
     | inr apart ↦ absurd (out (was_live spellings old.panel.devices table old.history mid is other (has.live other of_set apart)))
   ];
-  fallen = λ other of_set down. elim (cases_eq other slot) [
+  failure = λ other of_set down. elim (cases_eq other slot) [
     | inl same ↦ missing other same
     | inr apart ↦ absurd (differ (sym down ∙ has.up other of_set apart))
   ];

@@ -28,7 +28,7 @@ pub record IsSurveyed (base table : Table) (devices : ℕ) (lost : Option Lost) 
 
 -- what is known then of a moment at which this is lost
 pub record IsTold (base table : Table) (devices : ℕ) (X : List (List Bytes)) (old h : History) (after : Option Lost) : Type 0 where
-  -- each image that a stop may leave is held by the table
+  -- each image that a crash may leave is held by the table
   pub held : (image : Slots) → MayLeave h image → Held base devices table X image after
   -- it was chosen before
   pub was_chosen : (one : Table) → IsChosen base.id devices (readable old) one → one ≡ table

@@ -18,7 +18,7 @@ use Rattle.array_io.specs.Steps.CallSteps.{StaysDown}
 use Rattle.array_io.proofs.Images.Spellings.{Spellings}
 use Rattle.recovery.specs.Making.{BankView, IsCarried, Opened, Outcome, Returned, bank_after}
 use Rattle.array_io.specs.Believed.Views.{ArrayView}
-use Rattle.recovery.specs.Unwritten.{HasTwoLost, IsRefusedFor, NoneFellIn, RefusesUnwritten}
+use Rattle.recovery.specs.Unwritten.{HasTwoLost, IsRefusedFor, NoDeviceFailedIn, RefusesUnwritten}
 use Rattle.recovery.proofs.AssembledAnswer.{not_both}
 use Rattle.recovery.proofs.AssembledCause.{carried_then}
 use Rattle.recovery.proofs.AssembledReads.{IsRead, read_last, readable_read}
@@ -51,8 +51,8 @@ chosen_once spellings id devices image one other a b = sym a.carried ∙ ap (λ 
         ∙ ap (λ (k : ℕ). sector_of (disk_of (image b.slot)) k) same_place
         ∙ b.counted.stands)
 
--- where devices were read and none fell, they have what they had
-pub readable_stays : (old mid : History) → IsRead old mid → NoneFellIn old mid → readable mid ≡ readable old
+-- where devices were read and none failed, they have what they had
+pub readable_stays : (old mid : History) → IsRead old mid → NoDeviceFailedIn old mid → readable mid ≡ readable old
 readable_stays old mid is stay = fun_ext (λ d. by_state d (is_down mid d) refl)
   where
     by_state : (d : ℕ) (b : Bool) → is_down mid d ≡ b → readable mid d ≡ readable old d
@@ -110,7 +110,7 @@ one_is_out spellings honest id old mid table outcome read chosen one stays = rec
   none = λ fair none. absurd (not_none spellings id old.panel.devices old.history mid table (read fair) (chosen fair) none);
 }
   where
-    not_two : honest → HasTwoLost honest id old → NoneFellIn old.history mid → ⊥
+    not_two : honest → HasTwoLost honest id old → NoDeviceFailedIn old.history mid → ⊥
     not_two fair two stay =
         two.lost.0 (one fair two.first two.second (within two.first two.lost.1.of_set) (within two.second two.lost.2.of_set) (out two.first (two.lost.1.out fair))
         (out two.second (two.lost.2.out fair)))

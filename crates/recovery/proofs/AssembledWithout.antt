@@ -21,7 +21,7 @@ use Rattle.recovery.proofs.AssembledRests.{HasMarkedOne}
 differ : true ≡ false → ⊥
 differ is = cc
 
--- What led from the survey's end to where the slot is marked: nothing, or superblocks that were brought up until the slot's device fell.
+-- What led from the survey's end to where the slot is marked: nothing, or superblocks that were brought up until the slot's device failed.
 pub record LeadsTo (table : Table) (slot : ℕ) (mid before : History) : Type 0 where
   pub elsewhere : (device at : ℕ) (value : Bytes) → MayHold before device at value
       → MayHold mid device at value ⊎ (CountsOn table device × (device ≡ slot → is_down before device ≡ true))

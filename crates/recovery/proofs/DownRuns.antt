@@ -2,7 +2,7 @@
 use Rattle.std.proofs.Common.{◌≡◌, ℕ, ◌+◌, nat_lt, Bool, true, false, cond, ◌==◌}
 use Rattle.std.proofs.lemmas.Bool.{or_right}
 use Rattle.sector_model.specs.declared.event.Event.{Event}
-use Rattle.sector_model.specs.declared.event.Event.TheVariants.{Quiet, Wrote, Lost, Flushed, Fell}
+use Rattle.sector_model.specs.declared.event.Event.TheVariants.{Quiet, Wrote, Lost, Flushed, DeviceFailed}
 use Rattle.sector_model.specs.History.{After, Began, History, calls_of, cut_at, is_down}
 use Rattle.sector_model.specs.Moments.{Throughout, here, then_also}
 use Rattle.sector_model.proofs.Steps.{throughout_last}
@@ -14,7 +14,7 @@ down_after Quiet h d down = down
 down_after (Wrote device at value) h d down = down
 down_after (Lost device at value) h d down = or_right (d == device) (is_down h d) down
 down_after (Flushed device) h d down = down
-down_after (Fell device) h d down = or_right (d == device) (is_down h d) down
+down_after (DeviceFailed device) h d down = or_right (d == device) (is_down h d) down
 
 -- so at each moment of a run
 pub stays_in : {P : History → Type 0} {old : History} (new : History) → Throughout P old new → Throughout (StaysDown old) old new

@@ -1,4 +1,4 @@
--- The last entry is loaded from the journal that has it, or that journal falls and is marked missing.
+-- The last entry is loaded from the journal that has it, or that journal fails and is marked missing.
 use Rattle.std.proofs.Common.{◌≡◌, ◌≢◌, ◌⊎◌, ℕ, ◌+◌, ◌<◌, Bool, true, false, List, length, Option, Some, None, Result, Ok, Err, sym, ◌∙◌, ap, subst}
 use Rattle.std.specs.Prelude.{OnOk}
 use Rattle.sector_model.specs.declared.refusal.Refusal.{Refusal}
@@ -17,14 +17,14 @@ use Rattle.stripe_journal.specs.Entries.{body_of, body_start, form_of, numbers_o
 use Rattle.stripe_journal.specs.Forms.{holds, rank}
 use Rattle.array_io.specs.Believed.ArrayCalls.{Answer}
 use Rattle.array_io.specs.Believed.Views.{ArrayView, HasItsSlots, view_of}
-use Rattle.array_io.specs.Steps.Putting.{Copied, HoldsAll, IfOneLoss, IsComing, IsPut}
-use Rattle.array_io.specs.Steps.PuttingSteps.{Brings, EndsOrMarks}
+use Rattle.array_io.specs.Steps.Putting.{Copied, HoldsAll, IfSingleFailure, IsComing, IsPut}
+use Rattle.array_io.specs.Steps.PuttingSteps.{Brings, EndsOrFailsSlot}
 use Rattle.array_io.proofs.Calls.CallSteps.{steps_refused}
 use Rattle.array_io.proofs.Images.Spellings.{Spellings}
 use Rattle.recovery.specs.declared.latest.Latest.{Latest}
 use Rattle.recovery.specs.Replaying.{AllHaveLast, BringsTo, IsFound, IsLatestBeside, IsLatestOf, IsLatestOn, IsLoaded, progress_of}
 use Rattle.recovery.proofs.BringingTo.{brings_on, brings_then}
-use Rattle.recovery.proofs.JournalReads.{beside_left, gone_then, latest_still, read_done, read_fell}
+use Rattle.recovery.proofs.JournalReads.{beside_left, gone_then, latest_still, read_done, read_failed}
 use Rattle.recovery.proofs.LatestEntry.{body_loaded, comes, none_to_put}
 use Rattle.recovery.proofs.LatestFound.{beside_on}
 
@@ -58,25 +58,25 @@ module _ (spellings : Spellings) (honest : Type 0) (latest : Latest) (number : �
         ∙ ap (λ (disk : List Bytes). sector_of disk (body_start latest.seal.number + rank table.geometry.members latest.seal.form i member)) (sym (seen_read (read fair) latest.source)))))
         (comes spellings from table mid loss latest of_set (latest_still latest from table old mid still.1 of_set.source is still.0)))
 
-  -- its journal fell, and that was taken over
+  -- its journal failed, and that was taken over
   module _ (why : Stop) (ends : IsCauseOf mid_panel why × ((why ≡ stop.Worn) ⊎ (why ≡ stop.Down latest.source))) (new_panel : Panel) (new_table : Table) (new : History)
       (still : Type 0) (more : honest → still) (true_new : honest → IsTrueTo new_panel new) (its_slots : HasItsSlots table old_panel) (answer : Answer)
-      (taken : EndsOrMarks still latest.source mid_panel new_panel table new_table mid new (Err why) answer) where
-    fell : Brings honest (IsLatestOn latest) (AllHaveLast latest.beside) Was (view_of new_panel new new_table number) answer
-    fell = read_fell spellings honest (IsLatestOn latest) (AllHaveLast latest.beside) (λ from t h is. is.writes) latest.source number table old_panel mid_panel old mid of_set.source.counted later
+      (taken : EndsOrFailsSlot still latest.source mid_panel new_panel table new_table mid new (Err why) answer) where
+    failed : Brings honest (IsLatestOn latest) (AllHaveLast latest.beside) Was (view_of new_panel new new_table number) answer
+    failed = read_failed spellings honest (IsLatestOn latest) (AllHaveLast latest.beside) (λ from t h is. is.writes) latest.source number table old_panel mid_panel old mid of_set.source.counted later
         read others true_old true_mid why ends new_panel new_table new answer still more true_new its_slots taken
         (λ ok from is over. beside_left latest from table new_table old new over.1
         (gone_then still latest.source mid_panel new_panel table new_table mid new why of_set.source.counted
-        (subst (EndsOrMarks still latest.source mid_panel new_panel table new_table mid new (Err why)) ok taken)) is over.0)
+        (subst (EndsOrFailsSlot still latest.source mid_panel new_panel table new_table mid new (Err why)) ok taken)) is over.0)
 
-    pub load_fell : answer ≡ Ok tt → Loads (view_of new_panel new new_table number) (Ok false)
-    load_fell ok = subst (Brings honest (IsLatestOn latest) (AllHaveLast latest.beside) Was (view_of new_panel new new_table number)) ok fell
+    pub load_failed : answer ≡ Ok tt → Loads (view_of new_panel new new_table number) (Ok false)
+    load_failed ok = subst (Brings honest (IsLatestOn latest) (AllHaveLast latest.beside) Was (view_of new_panel new new_table number)) ok failed
 
     pub load_refused : (refusal : Refusal) → answer ≡ Err refusal → Loads (view_of new_panel new new_table number) (Err refusal)
-    load_refused refusal is = steps_refused honest HoldsAll (IfOneLoss (IsLatestOn latest)) (IfOneLoss (AllHaveLast latest.beside)) _ Was (view_of new_panel new new_table number) refusal
-        (subst (Brings honest (IsLatestOn latest) (AllHaveLast latest.beside) Was (view_of new_panel new new_table number)) is fell)
+    load_refused refusal is = steps_refused honest HoldsAll (IfSingleFailure (IsLatestOn latest)) (IfSingleFailure (AllHaveLast latest.beside)) _ Was (view_of new_panel new new_table number) refusal
+        (subst (Brings honest (IsLatestOn latest) (AllHaveLast latest.beside) Was (view_of new_panel new new_table number)) is failed)
 
--- Its journal fell and is marked missing: the entry of the other journal is the last.
+-- Its journal failed and is marked missing: the entry of the other journal is the last.
 module _ (honest : Type 0) (latest : Latest) (old mid : ArrayView) (of_set : IsLatestOf old.table latest) (marked : IsMarked old.table latest.source mid.table)
     (first : Brings honest (IsLatestOn latest) (AllHaveLast latest.beside) old mid (Ok tt)) where
   -- it has none, and nothing is left to be put

@@ -1,4 +1,4 @@
--- Finding the last entry, copying it to the journal that lags and putting its rows on the members settles it.
+-- Finding the last entry, copying it to the stale journal and putting its rows on the members settles it.
 use Rattle.std.proofs.Common.{◌≡◌, ◌⊎◌, inl, inr, ℕ, ◌%◌, ◌<◌, Bool, true, false, List, refl, sym, ◌∙◌, ap, subst, arith}
 use Rattle.std.specs.Prelude.{Option, Some, None, Result, Ok, Err}
 use Rattle.sector_model.specs.declared.refusal.Refusal.{Refusal}
@@ -16,19 +16,19 @@ use Rattle.superblock.specs.Publishing.{StandsAt, place_of}
 use Rattle.stripe_journal.specs.declared.entry.Entry.{Entry}
 use Rattle.stripe_journal.specs.Entries.{body_of}
 use Rattle.array_io.specs.Believed.ArrayCalls.{Answer}
-use Rattle.array_io.specs.Believed.Views.{ArrayView, HasEnded, StaysButForFalls}
+use Rattle.array_io.specs.Believed.Views.{ArrayView, HasEnded, StaysButForFailures}
 use Rattle.array_io.specs.Steps.Bringing.{CarriesAll}
 use Rattle.array_io.specs.Steps.CallSteps.{IsCarriedOn, IsPublishedAnew}
-use Rattle.array_io.specs.Steps.Putting.{Copied, HoldsAll, IfOneLoss, IsComing, IsPut, IsPutBefore, MayWrite}
+use Rattle.array_io.specs.Steps.Putting.{Copied, HoldsAll, IfSingleFailure, IsComing, IsPut, IsPutBefore, MayWrite}
 use Rattle.array_io.specs.Steps.PuttingSteps.{Brings, StepsJournal, StepsMembers}
 use Rattle.array_io.proofs.Calls.CallSteps.{steps_both, steps_more, steps_refused}
 use Rattle.array_io.proofs.Commits.PuttingSteps.{brings_same}
 use Rattle.recovery.specs.declared.latest.Latest.{Latest}
-use Rattle.recovery.specs.Replaying.{BringsTo, IsFound, IsLagging, IsLatestOf, SettlesEntry, answer_to, progress_of}
+use Rattle.recovery.specs.Replaying.{BringsTo, IsFound, IsStaleJournal, IsLatestOf, SettlesEntry, answer_to, progress_of}
 use Rattle.recovery.proofs.AssembledCause.{HasOne, own_counts}
 use Rattle.recovery.proofs.BringingTo.{brings_refused, brings_value}
 use Rattle.recovery.proofs.LatestEntry.{safe_on_all}
-use Rattle.recovery.proofs.LatestFound.{lagging_awaits, none_lags, then_sealed}
+use Rattle.recovery.proofs.LatestFound.{stale_journal_awaits, no_journal_is_stale, then_sealed}
 
 states_differ : ¬ (Missing ≡ InSync)
 states_differ is = cc
@@ -74,23 +74,23 @@ keeps_table table old new keeps carries = record {
     below : place_of table < SUPERBLOCK_PLACES
     below = omega arith
 
--- the entry on the journal that lags
+-- the entry on the stale journal
 
 -- it is copied there
-pub copies : (honest : Type 0) (latest : Latest) (body : List Bytes) (journal : ℕ) (old new : ArrayView) (answer : Answer) → IsLatestOf old.table latest → IsLagging old.table latest (Some journal)
+pub copies : (honest : Type 0) (latest : Latest) (body : List Bytes) (journal : ℕ) (old new : ArrayView) (answer : Answer) → IsLatestOf old.table latest → IsStaleJournal old.table latest (Some journal)
     → new.table.geometry ≡ old.table.geometry → StepsJournal honest latest.seal body journal old new answer
     → Brings honest (IsComing Copied latest.seal body (progress_of latest)) (IsPutBefore 0 latest.seal body) old new answer
-copies honest latest body journal old new answer of_set lags same_geometry steps =
-    steps_more honest HoldsAll (IfOneLoss (IsComing Copied latest.seal body (progress_of latest))) (IfOneLoss (IsComing Copied latest.seal body (progress_of latest))) _
-    (IfOneLoss (IsPutBefore 0 latest.seal body)) old new answer (λ from at. at)
-    (λ fair ok from at is loss. safe_on_all latest.seal body _ from new.table new.history (is loss) (then_sealed old.table latest journal of_set lags new.table same_geometry))
-    (steps Copied (progress_of latest) (lagging_awaits old.table latest journal of_set lags))
+copies honest latest body journal old new answer of_set is_stale same_geometry steps =
+    steps_more honest HoldsAll (IfSingleFailure (IsComing Copied latest.seal body (progress_of latest))) (IfSingleFailure (IsComing Copied latest.seal body (progress_of latest))) _
+    (IfSingleFailure (IsPutBefore 0 latest.seal body)) old new answer (λ from at. at)
+    (λ fair ok from at is loss. safe_on_all latest.seal body _ from new.table new.history (is loss) (then_sealed old.table latest journal of_set is_stale new.table same_geometry))
+    (steps Copied (progress_of latest) (stale_journal_awaits old.table latest journal of_set is_stale))
 
 -- or it stands on both
-pub copied_already : (honest : Type 0) (latest : Latest) (body : List Bytes) (old : ArrayView) → IsLagging old.table latest None
+pub copied_already : (honest : Type 0) (latest : Latest) (body : List Bytes) (old : ArrayView) → IsStaleJournal old.table latest None
     → Brings honest (IsComing Copied latest.seal body (progress_of latest)) (IsPutBefore 0 latest.seal body) old old (Ok tt)
 copied_already honest latest body old none = brings_same honest (IsComing Copied latest.seal body (progress_of latest)) (IsPutBefore 0 latest.seal body) old.number old.table old.panel old.history
-    (λ from loss is. (is.writes, safe_on_all latest.seal body (progress_of latest) from old.table old.history is (none_lags old.table latest none)))
+    (λ from loss is. (is.writes, safe_on_all latest.seal body (progress_of latest) from old.table old.history is (no_journal_is_stale old.table latest none)))
 
 -- the whole
 
@@ -115,7 +115,7 @@ module _ (honest : Type 0) (old new : ArrayView) where
   none_before (inl same) none slot = keeps_none old.table.id old.panel.devices slot old.history new.history (places_stay old new same) (none slot)
   none_before (inr anew) none slot = let one = has_one old new anew in absurd (none one.slot one.place one.superblock one.counts)
 
-  ended_so : (result : Result ℕ Refusal) → StaysButForFalls honest old new (HasEnded (answer_to result)) → StaysButForFalls honest old new (HasEnded result)
+  ended_so : (result : Result ℕ Refusal) → StaysButForFailures honest old new (HasEnded (answer_to result)) → StaysButForFailures honest old new (HasEnded result)
   ended_so (Ok number) stays = stays
   ended_so (Err refusal) stays = stays
 
@@ -150,23 +150,23 @@ module _ (honest : Type 0) (entry : Entry) (old mid : ArrayView) (result : Resul
         (brings_value honest MayWrite (IsFound (body_of old.table.geometry.members entry)) old mid result finds (Some latest) is)
 
     copied : Brings honest MayWrite (IsPutBefore 0 latest.seal (body_of mid.table.geometry.members entry)) old later answer
-    copied = steps_both honest still more HoldsAll (IfOneLoss MayWrite) (IfOneLoss (IsComing Copied latest.seal (body_of mid.table.geometry.members entry) (progress_of latest)))
-        (IfOneLoss (IsPutBefore 0 latest.seal (body_of mid.table.geometry.members entry))) old mid later answer found copies_it
+    copied = steps_both honest still more HoldsAll (IfSingleFailure MayWrite) (IfSingleFailure (IsComing Copied latest.seal (body_of mid.table.geometry.members entry) (progress_of latest)))
+        (IfSingleFailure (IsPutBefore 0 latest.seal (body_of mid.table.geometry.members entry))) old mid later answer found copies_it
 
     pub settles_uncopied : (refusal : Refusal) → answer ≡ Err refusal → SettlesEntry honest old later (Err refusal)
-    settles_uncopied refusal ended = settles_by honest old later (Err refusal) (steps_refused honest HoldsAll (IfOneLoss MayWrite) _ _ old later refusal
+    settles_uncopied refusal ended = settles_by honest old later (Err refusal) (steps_refused honest HoldsAll (IfSingleFailure MayWrite) _ _ old later refusal
         (subst (Brings honest MayWrite (IsPutBefore 0 latest.seal (body_of mid.table.geometry.members entry)) old later) ended copied))
 
     -- its rows are put on the members
     module _ (ok : answer ≡ Ok tt) (same_geometry' : later.table.geometry ≡ mid.table.geometry) (held : Type 0) (holds : honest → held) (new : ArrayView) (last : Answer)
         (puts : StepsMembers held latest.seal (body_of later.table.geometry.members entry) later new last) where
       put : Brings honest MayWrite (IsPut latest.seal.number) old new last
-      put = steps_both honest held holds HoldsAll (IfOneLoss MayWrite) (IfOneLoss (IsPutBefore 0 latest.seal (body_of mid.table.geometry.members entry))) (IfOneLoss (IsPut latest.seal.number)) old later new last
+      put = steps_both honest held holds HoldsAll (IfSingleFailure MayWrite) (IfSingleFailure (IsPutBefore 0 latest.seal (body_of mid.table.geometry.members entry))) (IfSingleFailure (IsPut latest.seal.number)) old later new last
           (subst (Brings honest MayWrite (IsPutBefore 0 latest.seal (body_of mid.table.geometry.members entry)) old later) ok copied)
           (subst (λ (g : Geometry). StepsMembers held latest.seal (body_of g.members entry) later new last) same_geometry' puts)
 
       pub settles_unput : (refusal : Refusal) → last ≡ Err refusal → SettlesEntry honest old new (Err refusal)
-      settles_unput refusal ended = settles_by honest old new (Err refusal) (steps_refused honest HoldsAll (IfOneLoss MayWrite) _ _ old new refusal
+      settles_unput refusal ended = settles_by honest old new (Err refusal) (steps_refused honest HoldsAll (IfSingleFailure MayWrite) _ _ old new refusal
           (subst (Brings honest MayWrite (IsPut latest.seal.number) old new) ended put))
 
       pub settles : last ≡ Ok tt → SettlesEntry honest old new (Ok latest.seal.number)

@@ -1,4 +1,4 @@
--- What a look at a set finds.
+-- What an inspection of a set finds.
 use Rattle.std.proofs.Common.{◌≡◌, inl, inr, ℕ, ◌+◌, ◌<◌, ◌≤◌, Bool, true, false, List, [], ◌∷◌, Option, Some, None, refl, sym, ◌∙◌, ap, subst, arith, add-zero}
 use Rattle.std.specs.Prelude.{IfSome, Ok, Err, slice_index_or}
 use Rattle.std.proofs.lemmas.Bool.{cases_eq}
@@ -130,10 +130,10 @@ last_read honest old new table journal last number later reads is same =
     (λ fair. (last, subst (λ (disk : List Bytes). IsLastSealed table.id table.geometry (Some disk) last) (sym (seen_read (reads fair) journal)) (is fair), same))
 
 -- the journal went down
-pub last_fallen : (honest : Type 0) (old new : BankView) (table : Table) (journal : ℕ) → IsLater old.panel new.panel
+pub last_failed : (honest : Type 0) (old new : BankView) (table : Table) (journal : ℕ) → IsLater old.panel new.panel
     → (honest → HasRead old.history new.history) → new.panel.down journal ≡ true
     → ReadsLast honest old new (Ok None) (IsLastNumber honest new table journal)
-last_fallen honest old new table journal later reads down = reads_found honest old new None (IsLastNumber honest new table journal) later reads (inl down)
+last_failed honest old new table journal later reads down = reads_found honest old new None (IsLastNumber honest new table journal) later reads (inl down)
 
 -- no further call could be counted
 pub last_worn : (honest : Type 0) (old new : BankView) (table : Table) (journal : ℕ) → IsLater old.panel new.panel
@@ -179,7 +179,7 @@ none_some is = cc
 some_none : {A : Type 0} {x : A} → Some x ≡ None → ⊥
 some_none is = cc
 
--- a look that was refused: at its superblocks, or at its seals
+-- an inspection that was refused: at its superblocks, or at its seals
 pub examined_refused : (honest : Type 0) (id : List ℕ) (old new : BankView) (refusal : Refusal) → Surveys honest id old new (Err refusal)
     → Examines honest id old new (Err refusal)
 examined_refused honest id old new refusal is = record {
@@ -216,7 +216,7 @@ pub examined_some : (honest still : Type 0) (id : List ℕ) (old mid new : BankV
     → Surveys honest id old mid (Ok (Some survey)) → examined.table ≡ survey.table → AreExaminedSlots still mid survey.table examined.slots
     → IsOutlook still mid survey.table examined.outlook → ReadsLast still mid new (Ok examined.last) (AreLastNumbers still new survey.table)
     → Examines honest id old new (Ok (Some examined))
-examined_some honest still id old mid new survey examined goes_on is same slots look last = record {
+examined_some honest still id old mid new survey examined goes_on is same slots expected last = record {
   later = later_both old.panel mid.panel new.panel is.later last.later;
   reads = λ fair. read_both (is.reads fair) (last.reads (goes_on fair));
   found = λ other other_is. subst (OnFound (λ (o : Option Examined). IfSome o (λ e. HasExamined honest id old new e))) other_is has;
@@ -235,7 +235,7 @@ examined_some honest still id old mid new survey examined goes_on is same slots 
       has_slots = subst (λ (t : Table). slots_of t ≤ mid.panel.devices) (sym same) (is.has_slots survey refl);
       chosen = λ fair. subst (λ (t : Table). IsChosen id mid.panel.devices (readable mid.history) t) (sym same) (is.told fair survey refl).chosen;
       slots = subst (λ (t : Table). AreExaminedSlots honest mid t examined.slots) (sym same) (slots_by honest still goes_on mid survey.table examined.slots slots);
-      outlook = subst (λ (t : Table). IsOutlook honest mid t examined.outlook) (sym same) (outlook_still honest still goes_on mid survey.table examined.outlook look);
+      outlook = subst (λ (t : Table). IsOutlook honest mid t examined.outlook) (sym same) (outlook_still honest still goes_on mid survey.table examined.outlook expected);
       last = subst (λ (t : Table). AreLastNumbers honest new t examined.last) (sym same)
           (lasts_by honest still goes_on new survey.table examined.last (last.found examined.last refl));
     }

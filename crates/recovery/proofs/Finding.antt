@@ -24,7 +24,7 @@ use Rattle.superblock.specs.Counted.{Content, Counts, IsChosen}
 use Rattle.superblock.specs.Newest.{CountsIn, CountsNone, IsOfSet, newer_of}
 use Rattle.superblock.proofs.Newest.{CountedAt, IsBestTo, NewestOf, best_step, counts_in, in_counts, newest_of_two, none_beyond}
 use Rattle.recovery.specs.Finding.{Finds, FoundAt, NewestFound, OthersStay, ReadsPlace}
-use Rattle.array_io.specs.Believed.ReadWhole.{NoneFell}
+use Rattle.array_io.specs.Believed.ReadWhole.{NoDeviceFailed}
 use Rattle.recovery.specs.Making.{BankView, IsCarried}
 
 -- a bank's panel says of a run what it is
@@ -52,7 +52,7 @@ same_while_up old new slot is_old is_new later read up =
 
 -- where no device goes down, reads give what they gave before other reads
 pub same_readable : (old new : BankView) → Honest old → Honest new → IsLater old.panel new.panel → HasRead old.history new.history
-    → NoneFell old.panel new.panel → readable new.history ≡ readable old.history
+    → NoDeviceFailed old.panel new.panel → readable new.history ≡ readable old.history
 same_readable old new is_old is_new later read none = fun_ext (λ slot. by_case slot (is_down new.history slot) refl)
   where
     down_before : (slot : ℕ) → is_down new.history slot ≡ true → (b : Bool) → old.panel.down slot ≡ b → is_down old.history slot ≡ true
@@ -94,12 +94,12 @@ still_up old new slot later up = by_case (old.down slot) refl
     by_case true down = absurd (differ (sym (later.down slot down) ∙ up))
     by_case false is = refl
 
--- where none fell over two spans, none fell over either
-pub none_fell_first : (old mid new : Panel) → IsLater mid new → NoneFell old new → NoneFell old mid
-none_fell_first old mid new later none slot within up = still_up mid new slot later (none slot within up)
+-- where none failed over two spans, none failed over either
+pub none_failed_first : (old mid new : Panel) → IsLater mid new → NoDeviceFailed old new → NoDeviceFailed old mid
+none_failed_first old mid new later none slot within up = still_up mid new slot later (none slot within up)
 
-pub none_fell_second : (old mid new : Panel) → IsLater old mid → NoneFell old new → NoneFell mid new
-none_fell_second old mid new later none slot within up = none slot (omega (arith, later.devices)) (still_up old mid slot later up)
+pub none_failed_second : (old mid new : Panel) → IsLater old mid → NoDeviceFailed old new → NoDeviceFailed mid new
+none_failed_second old mid new later none slot within up = none slot (omega (arith, later.devices)) (still_up old mid slot later up)
 
 -- what is said of an answer: of what it found, and of why it was refused
 abbrev pub OnFound : {A : Type 0} → (A → Type 0) → Result A Refusal → Type 0
@@ -123,7 +123,7 @@ no_found found refusal is = subst (OnRefusal (λ r. Unit {0})) is tt
 pub finds : (honest : Type 0) (id : List ℕ) (devices : ℕ) (IsSought : Slots → Option Superblock → Type 0) (old new : BankView) (found : Option Superblock)
     → IsLater old.panel new.panel → (honest → HasRead old.history new.history)
     → ((superblock : Superblock) → found ≡ Some superblock → IsOfSet id devices superblock)
-    → (honest → NoneFell old.panel new.panel → IsSought (readable old.history) found)
+    → (honest → NoDeviceFailed old.panel new.panel → IsSought (readable old.history) found)
     → Finds honest id devices IsSought old new (Ok found)
 finds honest id devices IsSought old new found later reads fits sought = record {
   later = later;
@@ -147,7 +147,7 @@ finds_err honest id devices IsSought old new refusal later reads worn calls = re
 
 -- nothing is found
 finds_none : (honest : Type 0) (id : List ℕ) (devices : ℕ) (IsSought : Slots → Option Superblock → Type 0) (old new : BankView)
-    → IsLater old.panel new.panel → (honest → HasRead old.history new.history) → (honest → NoneFell old.panel new.panel → IsSought (readable old.history) None)
+    → IsLater old.panel new.panel → (honest → HasRead old.history new.history) → (honest → NoDeviceFailed old.panel new.panel → IsSought (readable old.history) None)
     → Finds honest id devices IsSought old new (Ok None)
 finds_none honest id devices IsSought old new later reads sought =
     finds honest id devices IsSought old new None later reads (λ superblock is. absurd (cc)) sought
@@ -156,7 +156,7 @@ finds_none honest id devices IsSought old new later reads sought =
 place_found : (honest : Type 0) (slot place : ℕ) (old new : BankView) (found : Option Bytes) → IsLater old.panel new.panel
     → (honest → HasRead old.history new.history)
     → ((sector : Bytes) → found ≡ Some sector → (old.panel.down slot ≡ false) × (honest → sector ≡ sector_of (seen old.history slot) place))
-    → (honest → NoneFell old.panel new.panel → found ≡ None → length (disk_of (readable old.history slot)) ≤ place)
+    → (honest → NoDeviceFailed old.panel new.panel → found ≡ None → length (disk_of (readable old.history slot)) ≤ place)
     → ReadsPlace honest slot place old new (Ok found)
 place_found honest slot place old new found later reads stands nothing = record {
   later = later;
@@ -168,7 +168,7 @@ place_found honest slot place old new found later reads stands nothing = record 
 
 place_none : (honest : Type 0) (slot place : ℕ) (old new : BankView) → IsLater old.panel new.panel
     → (honest → HasRead old.history new.history)
-    → (honest → NoneFell old.panel new.panel → length (disk_of (readable old.history slot)) ≤ place) → ReadsPlace honest slot place old new (Ok None)
+    → (honest → NoDeviceFailed old.panel new.panel → length (disk_of (readable old.history slot)) ≤ place) → ReadsPlace honest slot place old new (Ok None)
 place_none honest slot place old new later reads short =
     place_found honest slot place old new None later reads (λ sector is. absurd (cc)) (λ fair none is. short fair none)
 
@@ -197,11 +197,11 @@ place_short honest slot place bank is_honest short within =
         (subst (λ (n : ℕ). n ≤ place) ((is_honest fair).sectors slot) short)))
 
 -- the device went down as it was read
-pub place_fallen : (honest : Type 0) (slot place : ℕ) (old new : BankView)
+pub place_failed : (honest : Type 0) (slot place : ℕ) (old new : BankView)
     → IsLater old.panel new.panel → (honest → HasRead old.history new.history)
     → slot < old.panel.devices → old.panel.down slot ≡ false → new.panel.down slot ≡ true
     → ReadsPlace honest slot place old new (Ok None)
-place_fallen honest slot place old new later reads within up down =
+place_failed honest slot place old new later reads within up down =
     place_none honest slot place old new later reads (λ fair none. absurd (differ (sym down ∙ none slot within up)))
 
 -- the sector was read
@@ -263,7 +263,7 @@ newer_one (Some a) (Some b) superblock is = by_case (nat_lt a.table.generation b
     by_case true is = inr is
     by_case false is = inl is
 
--- one search behind another: the newer of the two that they find
+-- one search after another: the newer of the two that they find
 pub finds_both : (honest still : Type 0) (id : List ℕ) (devices : ℕ) (IsFirst IsSecond IsSought : Slots → Option Superblock → Type 0) (old mid new : BankView)
     (first second after : Option Superblock) → (honest → still) → (honest → Honest old) → (honest → Honest mid)
     → ((image : Slots) → IsFirst image first → IsSecond image second → IsSought image (newer_of first second))
@@ -278,12 +278,12 @@ finds_both honest still id devices IsFirst IsSecond IsSought old mid new first s
       | inr is_second ↦ two.fits superblock (ap (λ (o : Option Superblock). Ok o) is_second)
     ])
     (λ fair none.
-    let up = none_fell_first old.panel mid.panel new.panel two.later none in
+    let up = none_failed_first old.panel mid.panel new.panel two.later none in
     step (readable old.history) (one.sought fair up first refl)
     (subst (λ (image : Slots). IsSecond image second) (same_readable old mid (is_old fair) (is_mid fair) one.later (one.reads fair) up)
-    (two.sought (goes_on fair) (none_fell_second old.panel mid.panel new.panel one.later none) second refl))))
+    (two.sought (goes_on fair) (none_failed_second old.panel mid.panel new.panel one.later none) second refl))))
 
--- a search that ends with a refusal, behind another
+-- a search that ends with a refusal, after another
 pub finds_then_err : (honest still : Type 0) (id : List ℕ) (devices : ℕ)
     (IsFirst IsSecond IsSought : Slots → Option Superblock → Type 0) (old mid new : BankView)
     (first : Option Superblock) (refusal : Refusal) → (honest → still)

@@ -1,4 +1,4 @@
--- Assembling does what a look says.
+-- Assembling does what an inspection says.
 use Rattle.std.proofs.Common.{◌≡◌, ◌≢◌, ◌⊎◌, inl, inr, ℕ, ◌<◌, Bool, true, false, List, Option, refl, sym, ◌∙◌, ap, subst}
 use Rattle.std.specs.Prelude.{◌==◌, if◌then◌else◌}
 use Rattle.std.proofs.lemmas.Bool.{eq-eqb, eqb-true, false≢true}
@@ -30,7 +30,7 @@ use Rattle.recovery.specs.Examining.{IsOutlook}
 use Rattle.recovery.specs.Foreseeing.{AssemblesAsForeseen, EndsAsForeseen, IsForeseen}
 use Rattle.recovery.specs.Making.{BankView, Outcome, bank_after}
 use Rattle.recovery.specs.Surveying.{IsOutOf, IsThere}
-use Rattle.recovery.specs.Unwritten.{NoneFellIn}
+use Rattle.recovery.specs.Unwritten.{NoDeviceFailedIn}
 use Rattle.recovery.proofs.AssembledReads.{IsRead, read_last, read_throughout}
 use Rattle.recovery.proofs.AssembledSince.{IsOneOut, one_out_but, one_out_there}
 use Rattle.recovery.proofs.AssembledStates.{none_rebuilding}
@@ -73,9 +73,9 @@ others_in_sync table out slot of_set is_out within apart = elim (state_in_sync (
 all_are_there : (honest : Type 0) (fair : honest) (old : BankView) (table : Table) → IsOutOf honest old table out.Nobody → IsOneOut old.panel.devices table old.history
 all_are_there honest fair old table out = one_out_there old.panel.devices table old.history (λ slot within counted. (out slot within counted).live fair)
 
--- What an array has whose states are those of a table that was chosen, where no device fell.
+-- What an array has whose states are those of a table that was chosen, where no device failed.
 module _ (honest : Type 0) (fair : honest) (old : BankView) (table : Table) (array : ArrayView) (has : HasStatesOf table old array)
-    (stay : NoneFellIn old.history array.history) where
+    (stay : NoDeviceFailedIn old.history array.history) where
   up_of : (slot : ℕ) → IsLive old.panel.devices table slot (readable old.history slot) → is_down array.history slot ≡ false
   up_of slot live = by_case (is_down old.history slot) refl
     where
@@ -103,7 +103,7 @@ module _ (honest : Type 0) (fair : honest) (old : BankView) (table : Table) (arr
       by_case true some = has.position ∙ ap (λ (b : Bool). if b then table.position else 0) some
       by_case false none = absurd (none_rebuilding array.table.states none slot is)
 
-  pub foreseen : (look : Outlook) → IsOutlook honest old table look → look ≢ outlook.TwoLost → IsForeseen table look array
+  pub foreseen : (expected : Outlook) → IsOutlook honest old table expected → expected ≢ outlook.TwoLost → IsForeseen table expected array
   foreseen outlook.TwoLost is not_two = absurd (not_two refl)
   foreseen outlook.Complete (complete, out) not_two = record {
     states = λ slot within.
@@ -137,7 +137,7 @@ module _ (honest : Type 0) (fair : honest) (old : BankView) (table : Table) (arr
   }
 
 -- By an outlook that is not of two lost slots one slot is out at most.
-one_out_by : (honest : Type 0) (fair : honest) (old : BankView) (table : Table) (look : Outlook) → IsOutlook honest old table look → look ≢ outlook.TwoLost
+one_out_by : (honest : Type 0) (fair : honest) (old : BankView) (table : Table) (expected : Outlook) → IsOutlook honest old table expected → expected ≢ outlook.TwoLost
     → IsOneOut old.panel.devices table old.history
 one_out_by honest fair old table outlook.TwoLost is not_two = absurd (not_two refl)
 one_out_by honest fair old table (outlook.WouldMark slot) (gone, others) not_two = one_out_but old.panel.devices table old.history slot
@@ -146,10 +146,10 @@ one_out_by honest fair old table outlook.Complete (by, out) not_two = all_are_th
 one_out_by honest fair old table (outlook.Missing slot) (by, out) not_two = all_are_there honest fair old table out
 one_out_by honest fair old table (outlook.Rebuilding slot position) (by, out) not_two = all_are_there honest fair old table out
 
--- So where no device falls and all cases hold, it is not refused but with 16.
-module _ (honest : Type 0) (fair : honest) (id : List ℕ) (old bank : BankView) (table : Table) (look : Outlook) (look_is : IsOutlook honest old table look)
-    (not_two : look ≢ outlook.TwoLost) (chosen : IsChosen id old.panel.devices (readable old.history) table) (later : IsLater old.panel bank.panel)
-    (run : Throughout (StaysDown old.history) old.history bank.history) (stay : NoneFellIn old.history bank.history) where
+-- So where no device fails and all cases hold, it is not refused but with 16.
+module _ (honest : Type 0) (fair : honest) (id : List ℕ) (old bank : BankView) (table : Table) (expected : Outlook) (expected_is : IsOutlook honest old table expected)
+    (not_two : expected ≢ outlook.TwoLost) (chosen : IsChosen id old.panel.devices (readable old.history) table) (later : IsLater old.panel bank.panel)
+    (run : Throughout (StaysDown old.history) old.history bank.history) (stay : NoDeviceFailedIn old.history bank.history) where
   not_no_set : ((slot : ℕ) → HasNone id bank.panel.devices slot (readable bank.history slot)) → HasRead old.history bank.history → ⊥
   not_no_set none read =
       none chosen.slot chosen.place chosen.best
@@ -159,7 +159,7 @@ module _ (honest : Type 0) (fair : honest) (id : List ℕ) (old bank : BankView)
 
   not_two_lost : IsTwoLostThen id old.panel.devices old.history bank.history → ⊥
   not_two_lost two =
-      two.apart (one_out_by honest fair old table look look_is not_two two.first two.second (within two.first two.first_of_set) (within two.second two.second_of_set)
+      two.apart (one_out_by honest fair old table expected expected_is not_two two.first two.second (within two.first two.first_of_set) (within two.second two.second_of_set)
       (out_before two.first (out_then two.first two.first_out)) (out_before two.second (out_then two.second two.second_out)))
     where
       moment : History
@@ -196,17 +196,17 @@ module _ (honest : Type 0) (fair : honest) (id : List ℕ) (old bank : BankView)
   refused_at_most refusal of why = absurd of
 
 ends_as_foreseen : (honest : Type 0) (fair : honest) (id : List ℕ) (old : BankView) (outcome : Outcome) → Assembles honest id old outcome → (table : Table)
-    → IsChosen id old.panel.devices (readable old.history) table → (look : Outlook) → IsOutlook honest old table look → look ≢ outlook.TwoLost
-    → NoneFellIn old.history (bank_after outcome).history → (base : Table) (lost : Option Lost) (X : List (List Bytes)) → base.id ≡ id → MayAssemble base lost X old
-    → EndsAsForeseen base lost table look outcome
-ends_as_foreseen honest fair id old outcome assembles table chosen look is not_two stay base lost X of_id may = record {
+    → IsChosen id old.panel.devices (readable old.history) table → (expected : Outlook) → IsOutlook honest old table expected → expected ≢ outlook.TwoLost
+    → NoDeviceFailedIn old.history (bank_after outcome).history → (base : Table) (lost : Option Lost) (X : List (List Bytes)) → base.id ≡ id → MayAssemble base lost X old
+    → EndsAsForeseen base lost table expected outcome
+ends_as_foreseen honest fair id old outcome assembles table chosen expected is not_two stay base lost X of_id may = record {
   opened = λ array opened loss. foreseen honest fair old table array (assembles.states fair base lost X of_id may array opened loss table chosen)
-      (subst (λ (o : Outcome). NoneFellIn old.history (bank_after o).history) opened stay) look is not_two;
-  refused = λ bank refusal returned. refused_at_most honest fair id old bank table look is not_two chosen
+      (subst (λ (o : Outcome). NoDeviceFailedIn old.history (bank_after o).history) opened stay) expected is not_two;
+  refused = λ bank refusal returned. refused_at_most honest fair id old bank table expected is not_two chosen
       (subst (λ (o : Outcome). IsLater old.panel (bank_after o).panel) returned assembles.later)
       (subst (λ (o : Outcome). Throughout (StaysDown old.history) old.history (bank_after o).history) returned
       (stays_in (bank_after outcome).history (assembles.moments fair base lost X of_id may)))
-      (subst (λ (o : Outcome). NoneFellIn old.history (bank_after o).history) returned stay)
+      (subst (λ (o : Outcome). NoDeviceFailedIn old.history (bank_after o).history) returned stay)
       refusal (assembles.refused bank refusal returned) (assembles.cause fair bank refusal returned);
 }
 

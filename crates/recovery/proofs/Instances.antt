@@ -26,7 +26,7 @@ use Rattle.superblock.specs.Tables.{state_at}
 use Rattle.superblock.specs.States.{has_rebuilding, position_in}
 use Rattle.superblock.specs.Cases.{HasNone, Lost}
 use Rattle.superblock.specs.Counted.{IsChosen, IsInFull, IsLive, least_sectors}
-use Rattle.superblock.specs.Losses.{InEachImage, IsLostAt, IsOneLoss}
+use Rattle.superblock.specs.Losses.{InEachImage, IsLostAt, IsSingleFailure}
 use Rattle.superblock.specs.NextTables.{IsComplete, slots_of}
 use Rattle.array_io.specs.Believed.Fresh.{IsFresh, zeros_of}
 use Rattle.array_io.specs.Believed.Holds.{AreRowsOf, Holds, HoldsIn}
@@ -149,7 +149,7 @@ pub reads : ℕ → History → History
 reads zero h = h
 reads (suc n) h = After Quiet (reads n h)
 
--- a read leaves what may stand after a stop
+-- a read leaves what may stand after a crash
 quiet_left : (h : History) (image : Slots) → MayLeave (After Quiet h) image → MayLeave h image
 quiet_left h image may d = by_slot (image d) (may d)
   where
@@ -159,7 +159,7 @@ quiet_left h image may d = by_slot (image d) (may d)
 
 quiet_lost : (slots : ℕ) (before : Option Lost) (h : History) (after : Option Lost) → IsLostAt slots before (After Quiet h) after → IsLostAt slots before h after
 quiet_lost slots None h after (inl none) = inl none
-quiet_lost slots None h after (inr fallen) = inr record { slot = fallen.slot; of_set = fallen.of_set; fell = fallen.fell; others = fallen.others; lost = fallen.lost }
+quiet_lost slots None h after (inr failure) = inr record { slot = failure.slot; of_set = failure.of_set; failed = failure.failed; others = failure.others; lost = failure.lost }
 quiet_lost slots (Some lost) h after is = is
 
 quiet_holds : (base : Table) (devices : ℕ) (lost : Option Lost) (X : List (List Bytes)) (h : History) → HoldsNow base devices lost X h → HoldsNow base devices lost X (After Quiet h)
@@ -224,7 +224,7 @@ own_rows devices table image fresh = record {
       );
   last = None;
   is_last = λ journal place seal live counts.
-      spellings.zero_no_seal seal (sym (fresh.cleared_seals journal place live.behind_members live.of_set (omega (arith, counts.belongs.own_place))) ∙ counts.stands);
+      spellings.zero_no_seal seal (sym (fresh.cleared_seals journal place live.beyond_members live.of_set (omega (arith, counts.belongs.own_place))) ∙ counts.stands);
   in_entry = λ row member. refl;
 }
 
@@ -234,7 +234,7 @@ fresh_complete devices table image fresh = record { in_sync = fresh.in_sync }
 none_rebuilding : (devices : ℕ) (table : Table) (image : Slots) → IsFresh devices table image → (slot : ℕ) → state_at table.states slot ≢ Rebuilding
 none_rebuilding devices table image fresh slot is = elim (cases_lt slot (slots_of table)) [
   | inl of_set ↦ in_sync_not_rebuilding (sym (fresh.in_sync slot of_set) ∙ is)
-  | inr behind ↦ absurd (missing_not_rebuilding (sym (table.allowed.behind_missing slot behind) ∙ is))
+  | inr beyond ↦ absurd (missing_not_rebuilding (sym (table.allowed.missing_beyond slot beyond) ∙ is))
 ]
   where
     missing_not_rebuilding : Missing ≡ Rebuilding → ⊥
@@ -292,7 +292,7 @@ abbrev array_after : Panel → History → Table → ArrayView
 array_after panel h table = record { panel = panel; history = h; table = table; number = 0 }
 
 opens_on_one : (base : Table) (panel : Panel) (table : Table) (image : Slots) (n : ℕ) (now : Panel) (lost : Option Lost) (X : List (List Bytes)) → now.devices ≡ panel.devices
-    → IsFresh panel.devices table image → table.id ≡ base.id → MayAssemble base lost X (fresh_bank panel image) → IsOneLoss (slots_of base) lost (reads n (Began image))
+    → IsFresh panel.devices table image → table.id ≡ base.id → MayAssemble base lost X (fresh_bank panel image) → IsSingleFailure (slots_of base) lost (reads n (Began image))
     → OpensOnOne base lost X (array_after now (reads n (Began image)) table)
 opens_on_one base panel table image n now lost X same_devices fresh same may one =
     let h = reads n (Began image) in
@@ -321,7 +321,7 @@ has_its_states panel now table image n fresh =
       live_stays = λ slot of_set live up. refl;
       not_live = λ slot of_set out. absurd (out (subst (λ (i : Slots). IsLive panel.devices table slot (i slot)) (sym (readable_began image))
           (fresh_live spellings panel.devices table image fresh slot of_set)));
-      fallen = λ slot of_set down. absurd (differ (sym down
+      failure = λ slot of_set down. absurd (differ (sym down
           ∙ up_at_rest spellings panel.devices table 0 (reads n (Began image)) None (zeros_of table.geometry) rest.settled slot of_set tt));
       position = position_kept table (table.allowed.no_position (none_rebuilding panel.devices table image fresh));
     }
@@ -339,7 +339,7 @@ assembles_fresh honest panel now image table n fresh true_to later =
       its_slots = λ array is. opened_is (λ a. HasItsSlots a.table a.panel) given array is (its_slots_later table panel now later (fresh_slots panel image table fresh true_to));
       moments = λ fair base lost X same may. throughout_reads base panel.devices lost X (Began image) n may.holds;
       rests = λ fair base lost X same may array is one.
-          opened_is (λ a. IsOneLoss (slots_of base) lost a.history → OpensOnOne base lost X a) given array is
+          opened_is (λ a. IsSingleFailure (slots_of base) lost a.history → OpensOnOne base lost X a) given array is
           (opens_on_one base panel table image n now lost X later.devices fresh (sym same) may) one;
       states = λ fair base lost X same may array is one other chosen.
           opened_is (λ a. HasStatesOf other (fresh_bank panel image) a) given array is

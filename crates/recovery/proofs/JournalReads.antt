@@ -1,4 +1,4 @@
--- A journal is read as a step of a replay: it puts nothing, so what is known stays; and where the journal falls and is marked missing, it is free.
+-- A journal is read as a step of a replay: it puts nothing, so what is known stays; and where the journal fails and is marked missing, it is free.
 use Rattle.std.proofs.Common.{◌≡◌, ◌≢◌, ◌⊎◌, inl, inr, ℕ, ◌+◌, ◌≤◌, ◌==◌, Bool, true, false, Option, Some, Ok, Err, refl, sym, ◌∙◌, subst, subst₂, arith}
 use Rattle.std.specs.Prelude.{if◌then◌else◌, List}
 use Rattle.std.proofs.lemmas.Bool.{eq-eqb, eqb-true, false≢true}
@@ -11,21 +11,21 @@ use Rattle.sector_model.specs.Reads.{HasRead}
 use Rattle.layout_map.specs.declared.geometry.Geometry.{Geometry}
 use Rattle.layout_map.specs.declared.sizes.TheConstants.{FIRST_SEAL}
 use Rattle.superblock.specs.declared.table.Table.{Table}
-use Rattle.superblock.specs.Losses.{IsOneLoss}
+use Rattle.superblock.specs.Losses.{IsSingleFailure}
 use Rattle.superblock.specs.NextTables.{IsMarked, slots_of}
 use Rattle.stripe_journal.specs.declared.seal.Seal.{Seal}
 use Rattle.stripe_journal.specs.LastEntry.{IsLastSealed}
 use Rattle.stripe_journal.specs.OneEntry.{StaysOff}
 use Rattle.array_io.specs.Believed.ArrayCalls.{Answer}
-use Rattle.array_io.specs.Believed.Views.{ArrayView, Fell, HasItsSlots, view_of}
+use Rattle.array_io.specs.Believed.Views.{ArrayView, DeviceFailed, HasItsSlots, view_of}
 use Rattle.array_io.specs.Steps.Bringing.{CountsOn}
 use Rattle.array_io.specs.Steps.CallSteps.{CallsOne}
 use Rattle.array_io.specs.Steps.MarkingOn.{AreOthersInSync, IsWhyLeft}
-use Rattle.array_io.specs.Steps.Putting.{HoldsAll, IfOneLoss, MayWrite, PutsFrom}
-use Rattle.array_io.specs.Steps.PuttingSteps.{Brings, EndsOrMarks}
+use Rattle.array_io.specs.Steps.Putting.{HoldsAll, IfSingleFailure, MayWrite, PutsFrom}
+use Rattle.array_io.specs.Steps.PuttingSteps.{Brings, EndsOrFailsSlot}
 use Rattle.array_io.proofs.Calls.CallSteps.{steps_more}
 use Rattle.array_io.proofs.Calls.DeviceReads.{reads_front, reads_run}
-use Rattle.array_io.proofs.Calls.DeviceSteps.{goes_on_later, one_loss_before}
+use Rattle.array_io.proofs.Calls.DeviceSteps.{goes_on_later, single_failure_before}
 use Rattle.array_io.proofs.Commits.PuttingParts.{IsPartOf}
 use Rattle.array_io.proofs.Commits.ReadingSteps.{IsRead, IsReadOver, read_brings, read_part}
 use Rattle.array_io.proofs.Images.SayingTheSame.{same_sealed}
@@ -60,11 +60,11 @@ knows_more known journal last from table h knows here = record {
   ];
 }
 
--- what is known stays while a journal is read, or marked missing where it fell
+-- what is known stays while a journal is read, or marked missing where it failed
 module _ (slot : ℕ) (table new_table : Table) (old new : History) (over : IsReadOver slot table new_table old new) where
   was_on : (journal : ℕ) → IsJournalOn new_table journal → IsJournalOn table journal
   was_on journal on = record {
-    behind = subst (λ (g : Geometry). g.members ≤ journal) over.goes.same_geometry on.behind;
+    beyond = subst (λ (g : Geometry). g.members ≤ journal) over.goes.same_geometry on.beyond;
     counted = over.goes.counts journal on.counted;
   }
 
@@ -108,21 +108,21 @@ module _ (spellings : Spellings) (honest : Type 0) (before after : PutsFrom → 
 
   -- They were answered.
   module _ (stay : honest → (device : ℕ) → is_down mid device ≡ is_down old device)
-      (follows : honest → (from : PutsFrom) → IsOneLoss (slots_of from.base) from.lost mid → before from table old → IsRead journal table old from table mid → after from table mid) where
+      (follows : honest → (from : PutsFrom) → IsSingleFailure (slots_of from.base) from.lost mid → before from table old → IsRead journal table old from table mid → after from table mid) where
     part : honest → (from : PutsFrom) → before from table old → IsPartOf (IsRead journal table old) from journal table old mid true
     part fair from is = read_part spellings journal table old mid counted (off fair) (read fair) true (λ all. stay fair) from (writes from table old is)
 
-    none_fell : honest → (slot : ℕ) → ¬ Fell slot old_panel mid_panel
-    none_fell fair slot fell = flags_differ (sym fell.is_down ∙ (true_mid fair).down slot ∙ stay fair slot ∙ sym ((true_old fair).down slot) ∙ fell.was_up)
+    none_failed : honest → (slot : ℕ) → ¬ DeviceFailed slot old_panel mid_panel
+    none_failed fair slot failed = flags_differ (sym failed.is_down ∙ (true_mid fair).down slot ∙ stay fair slot ∙ sym ((true_old fair).down slot) ∙ failed.was_up)
 
     pub read_done : Brings honest before after Was (view_of mid_panel mid table number) (Ok tt)
     read_done = record {
       goes_on = goes_on_later old_panel mid_panel old mid table number later;
-      stays = record { table = inl refl; fallen = λ fair goes slot of_set fell. absurd (none_fell fair slot fell) };
+      stays = record { table = inl refl; failure = λ fair goes slot of_set failed. absurd (none_failed fair slot failed) };
       number = refl;
       moments = λ fair from at. throughout_if_lost from.base from.devices from.lost from.lists old mid (reads_run (read fair)) (λ was lost_at. (part fair from (at (was, lost_at))).moments);
       reached = λ fair ok from at loss.
-          let is = at (one_loss_before (slots_of from.base) from.lost old mid (reads_run (read fair)) loss) in
+          let is = at (single_failure_before (slots_of from.base) from.lost old mid (reads_run (read fair)) loss) in
           follows fair from loss is ((part fair from is).done refl);
       runs = λ fair. reads_run (read fair);
       carried = λ fair ok. inl record { table = refl; front = reads_front (read fair); down = stay fair };
@@ -132,14 +132,14 @@ module _ (spellings : Spellings) (honest : Type 0) (before after : PutsFrom → 
   -- One was not, and that was taken over.
   module _ (why : Stop) (ends : IsCauseOf mid_panel why × ((why ≡ stop.Worn) ⊎ (why ≡ stop.Down journal))) (new_panel : Panel) (new_table : Table) (new : History) (answer : Answer)
       (still : Type 0) (more : honest → still) (true_new : honest → IsTrueTo new_panel new) (its_slots : HasItsSlots table old_panel)
-      (taken : EndsOrMarks still journal mid_panel new_panel table new_table mid new (Err why) answer) where
+      (taken : EndsOrFailsSlot still journal mid_panel new_panel table new_table mid new (Err why) answer) where
     calls : CallsOne honest journal old_panel mid_panel old mid (Err why)
     calls = record {
       later = later;
       cause = λ other is. let same : why ≡ other = cc in subst (IsCauseOf mid_panel) same ends.0;
       named = λ other is. let same : why ≡ stop.Down other = cc in of_journal other same ends.1;
       off = off;
-      none_fell = λ fair ok. absurd (cc);
+      none_failed = λ fair ok. absurd (cc);
       runs = λ fair. reads_run (read fair);
       front = λ fair ok. reads_front (read fair);
     }
@@ -151,18 +151,18 @@ module _ (spellings : Spellings) (honest : Type 0) (before after : PutsFrom → 
     steps : Brings honest MayWrite (IsRead journal table old) Was (view_of new_panel new new_table number) answer
     steps = read_brings spellings honest journal number table new_table old_panel mid_panel new_panel old mid new (Err why) answer still more true_old true_mid true_new its_slots counted calls read taken
 
-    pub read_fell : (answer ≡ Ok tt → (from : PutsFrom) → before from table old → IsRead journal table old from new_table new → after from new_table new)
+    pub read_failed : (answer ≡ Ok tt → (from : PutsFrom) → before from table old → IsRead journal table old from new_table new → after from new_table new)
         → Brings honest before after Was (view_of new_panel new new_table number) answer
-    read_fell follows = steps_more honest HoldsAll (IfOneLoss MayWrite) (IfOneLoss before) (IfOneLoss (IsRead journal table old)) (IfOneLoss after) Was (view_of new_panel new new_table number) answer
+    read_failed follows = steps_more honest HoldsAll (IfSingleFailure MayWrite) (IfSingleFailure before) (IfSingleFailure (IsRead journal table old)) (IfSingleFailure after) Was (view_of new_panel new new_table number) answer
         (λ from at loss. writes from table old (at loss))
-        (λ fair ok from at is loss. follows ok from (at (one_loss_before (slots_of from.base) from.lost old new (steps.runs fair) loss)) (is loss))
+        (λ fair ok from at is loss. follows ok from (at (single_failure_before (slots_of from.base) from.lost old new (steps.runs fair) loss)) (is loss))
         steps
 
 -- what is done to the table where calls of a slot's device ended so
 
 -- where that was answered, the slot was marked, all others being in sync
 pub was_marked : (honest : Type 0) (slot : ℕ) (old_panel new_panel : Panel) (table new_table : Table) (old new : History) (why : Stop) → CountsOn table slot
-    → EndsOrMarks honest slot old_panel new_panel table new_table old new (Err why) (Ok tt) → IsMarked table slot new_table × AreOthersInSync table slot
+    → EndsOrFailsSlot honest slot old_panel new_panel table new_table old new (Err why) (Ok tt) → IsMarked table slot new_table × AreOthersInSync table slot
 was_marked honest slot old_panel new_panel table new_table old new stop.Worn counted (ok, same) = absurd (cc)
 was_marked honest slot old_panel new_panel table new_table old new (stop.Down device) counted (inl left) = absurd (by_why left.why)
   where
@@ -174,6 +174,6 @@ was_marked honest slot old_panel new_panel table new_table old new (stop.Down de
 
 -- so the table counts on it no more
 pub gone_then : (honest : Type 0) (slot : ℕ) (old_panel new_panel : Panel) (table new_table : Table) (old new : History) (why : Stop) → CountsOn table slot
-    → EndsOrMarks honest slot old_panel new_panel table new_table old new (Err why) (Ok tt) → ¬ CountsOn new_table slot
+    → EndsOrFailsSlot honest slot old_panel new_panel table new_table old new (Err why) (Ok tt) → ¬ CountsOn new_table slot
 gone_then honest slot old_panel new_panel table new_table old new why counted ends on =
     on.there (missing_then table new_table slot (was_marked honest slot old_panel new_panel table new_table old new why counted ends).0 counted.of_set)

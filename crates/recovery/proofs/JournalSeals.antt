@@ -1,6 +1,6 @@
 -- The last seal of a journal, by reads of it.
 use Rattle.std.proofs.Common.{◌≡◌, ◌≢◌, ◌⊎◌, inr, ℕ, ◌+◌, Bool, true, false, cond, [], ◌∷◌, Option, None, Result, Ok, Err, refl, subst}
-use Rattle.sector_model.specs.declared.event.Event.TheVariants.{Quiet, Fell}
+use Rattle.sector_model.specs.declared.event.Event.TheVariants.{Quiet, DeviceFailed}
 use Rattle.sector_model.specs.declared.refusal.Refusal.{Refusal}
 use Rattle.sector_model.specs.declared.sector.Stop.{Stop}
 use Rattle.sector_model.specs.declared.sector.Stop.TheVariants as stop
@@ -20,19 +20,19 @@ use Rattle.stripe_journal.proofs.OneEntryCalls.{made_down, stays_off_calls}
 use Rattle.array_io.specs.Believed.ArrayCalls.{Answer}
 use Rattle.array_io.specs.Believed.Views.{ArrayView, HasItsSlots, view_of}
 use Rattle.array_io.specs.Steps.Bringing.{CountsOn}
-use Rattle.array_io.specs.Steps.Putting.{HoldsAll, IfOneLoss, PutsFrom}
-use Rattle.array_io.specs.Steps.PuttingSteps.{Brings, EndsOrMarks}
+use Rattle.array_io.specs.Steps.Putting.{HoldsAll, IfSingleFailure, PutsFrom}
+use Rattle.array_io.specs.Steps.PuttingSteps.{Brings, EndsOrFailsSlot}
 use Rattle.array_io.proofs.Calls.CallSteps.{steps_refused}
 use Rattle.array_io.proofs.Commits.PuttingSteps.{brings_same}
 use Rattle.array_io.proofs.Images.Spellings.{Spellings}
 use Rattle.recovery.specs.Replaying.{BringsTo, HasLast, Known, KnowsSeals, also_known}
-use Rattle.recovery.proofs.JournalReads.{gone_then, knows_more, knows_still, last_stays, read_done, read_fell}
+use Rattle.recovery.proofs.JournalReads.{gone_then, knows_more, knows_still, last_stays, read_done, read_failed}
 
 -- a read is a read, answered or not
 kept_read : (old : History) (device at : ℕ) → IsKeptBy (λ h. HasRead old h) (Read device at)
 kept_read old device at = record { keeps = λ answered h before. step answered h before }
   where
-    fault : (b : Bool) (h : History) → HasRead old h → HasRead old (After (cond b Quiet (Fell device)) h)
+    fault : (b : Bool) (h : History) → HasRead old h → HasRead old (After (cond b Quiet (DeviceFailed device)) h)
     fault true h before = record { only = inr before.only }
     fault false h before = record { only = inr before.only }
 
@@ -76,20 +76,20 @@ module _ (spellings : Spellings) (honest : Type 0) (known : Known) (journal numb
         (λ fair from loss knows is. knows_more known journal last from table mid (knows_still journal table table old mid is.1 known from knows is.0)
         (λ on. last_stays journal table table old mid is.1 journal last on.counted (has fair)))
 
-    -- the journal fell, and that was taken over: it is marked missing, or that was refused
+    -- the journal failed, and that was taken over: it is marked missing, or that was refused
     module _ (why : Stop) (ends : IsCauseOf mid_panel why × ((why ≡ stop.Worn) ⊎ (why ≡ stop.Down journal))) (new_panel : Panel) (new_table : Table) (new : History)
         (still : Type 0) (more : honest → still) (true_new : honest → IsTrueTo new_panel new) (its_slots : HasItsSlots table old_panel) where
-      fell : (answer : Answer) → EndsOrMarks still journal mid_panel new_panel table new_table mid new (Err why) answer
+      failed : (answer : Answer) → EndsOrFailsSlot still journal mid_panel new_panel table new_table mid new (Err why) answer
           → Brings honest before (KnowsSeals (also_known known journal None)) Was (view_of new_panel new new_table number) answer
-      fell answer taken = read_fell spellings honest before (KnowsSeals (also_known known journal None)) (λ from t h knows. knows.writes) journal number table old_panel mid_panel old mid counted later
+      failed answer taken = read_failed spellings honest before (KnowsSeals (also_known known journal None)) (λ from t h knows. knows.writes) journal number table old_panel mid_panel old mid counted later
           (λ fair. two_reads (made fair)) (λ other fair. two_reads_beside (made fair) other) true_old true_mid why ends new_panel new_table new answer still more true_new its_slots taken
           (λ ok from knows is. knows_more known journal None from new_table new (knows_still journal table new_table old new is.1 known from knows is.0)
-          (λ on. absurd (gone_then still journal mid_panel new_panel table new_table mid new why counted (subst (EndsOrMarks still journal mid_panel new_panel table new_table mid new (Err why)) ok taken) on.counted)))
+          (λ on. absurd (gone_then still journal mid_panel new_panel table new_table mid new why counted (subst (EndsOrFailsSlot still journal mid_panel new_panel table new_table mid new (Err why)) ok taken) on.counted)))
 
-      pub seal_marked : (answer : Answer) → answer ≡ Ok tt → EndsOrMarks still journal mid_panel new_panel table new_table mid new (Err why) answer → FindsSeal (view_of new_panel new new_table number) (Ok None)
-      seal_marked answer ok taken = subst (Brings honest before (KnowsSeals (also_known known journal None)) Was (view_of new_panel new new_table number)) ok (fell answer taken)
+      pub seal_marked : (answer : Answer) → answer ≡ Ok tt → EndsOrFailsSlot still journal mid_panel new_panel table new_table mid new (Err why) answer → FindsSeal (view_of new_panel new new_table number) (Ok None)
+      seal_marked answer ok taken = subst (Brings honest before (KnowsSeals (also_known known journal None)) Was (view_of new_panel new new_table number)) ok (failed answer taken)
 
-      pub seal_refused : (refusal : Refusal) (answer : Answer) → answer ≡ Err refusal → EndsOrMarks still journal mid_panel new_panel table new_table mid new (Err why) answer
+      pub seal_refused : (refusal : Refusal) (answer : Answer) → answer ≡ Err refusal → EndsOrFailsSlot still journal mid_panel new_panel table new_table mid new (Err why) answer
           → FindsSeal (view_of new_panel new new_table number) (Err refusal)
-      seal_refused refusal answer is taken = steps_refused honest HoldsAll (IfOneLoss before) (IfOneLoss (KnowsSeals (also_known known journal None))) _ Was (view_of new_panel new new_table number) refusal
-          (subst (Brings honest before (KnowsSeals (also_known known journal None)) Was (view_of new_panel new new_table number)) is (fell answer taken))
+      seal_refused refusal answer is taken = steps_refused honest HoldsAll (IfSingleFailure before) (IfSingleFailure (KnowsSeals (also_known known journal None))) _ Was (view_of new_panel new new_table number) refusal
+          (subst (Brings honest before (KnowsSeals (also_known known journal None)) Was (view_of new_panel new new_table number)) is (failed answer taken))

@@ -11,7 +11,7 @@ use Rattle.layout_map.specs.declared.sizes.TheConstants.{MOST_MEMBERS}
 use Rattle.layout_map.specs.declared.geometry.Geometry.{Geometry}
 use Rattle.superblock.specs.declared.table.Table.{Table}
 use Rattle.superblock.specs.Counted.{Content}
-use Rattle.superblock.specs.Losses.{IsOneLoss}
+use Rattle.superblock.specs.Losses.{IsSingleFailure}
 use Rattle.superblock.specs.NextTables.{slots_of}
 use Rattle.stripe_journal.specs.declared.entry.Entry.{Entry}
 use Rattle.stripe_journal.specs.declared.form.Form.{Form}
@@ -61,12 +61,12 @@ member_at held (suc n) k inside = elim (cases_lt k (count_held held n)) [
   | inl before ↦
       let at = member_at held n k before in
       record { member = at.member; below = omega (arith, at.below); is_held = at.is_held; count = at.count }
-  | inr behind ↦ by_bit (held n) refl behind
+  | inr beyond ↦ by_bit (held n) refl beyond
 ]
   where
     by_bit : (b : Bool) → held n ≡ b → count_held held n ≤ k → IsMemberAt held (suc n) k
-    by_bit true is behind = record { member = n; below = omega arith; is_held = is; count = omega (arith, behind, inside, count_next held n is) }
-    by_bit false is behind = absurd (omega (arith, behind, inside, count_same held n is))
+    by_bit true is beyond = record { member = n; below = omega arith; is_held = is; count = omega (arith, beyond, inside, count_next held n is) }
+    by_bit false is beyond = absurd (omega (arith, beyond, inside, count_same held n is))
 
 place_of : (members : ℕ) (form : Form) (count k : ℕ) → k < held_before members form count → IsPlaceOf members form count k
 place_of members form zero k inside = absurd (omega (arith, inside))
@@ -74,9 +74,9 @@ place_of members form (suc i) k inside = elim (cases_lt k (held_before members f
   | inl before ↦
       let at = place_of members form i k before in
       record { row = at.row; member = at.member; of_rows = omega (arith, at.of_rows); of_members = at.of_members; held = at.held; is = at.is }
-  | inr behind ↦
-      let at = member_at (holds members form i) members (k - held_before members form i) (omega (arith, behind, inside)) in
-      record { row = i; member = at.member; of_rows = omega arith; of_members = at.below; held = at.is_held; is = omega (arith, behind, at.count) }
+  | inr beyond ↦
+      let at = member_at (holds members form i) members (k - held_before members form i) (omega (arith, beyond, inside)) in
+      record { row = i; member = at.member; of_rows = omega arith; of_members = at.below; held = at.is_held; is = omega (arith, beyond, at.count) }
 ]
 
 -- the body of a seal's entry, sector by sector
@@ -141,7 +141,7 @@ has_the_same id geometry members first second seal equal is = record {
 }
 
 -- How far the last entry is on each journal, by the last seals.
-module _ (spellings : Spellings) (from : PutsFrom) (table : Table) (h : History) (loss : IsOneLoss (slots_of from.base) from.lost h) (latest : Latest) (of_set : IsLatestOf table latest)
+module _ (spellings : Spellings) (from : PutsFrom) (table : Table) (h : History) (loss : IsSingleFailure (slots_of from.base) from.lost h) (latest : Latest) (of_set : IsLatestOf table latest)
     (is : IsLatestOn latest from table h) where
   abbrev members : ℕ
   members = table.geometry.members
@@ -161,7 +161,7 @@ module _ (spellings : Spellings) (from : PutsFrom) (table : Table) (h : History)
   read journal counted = read_is_seen spellings from.devices from.base table from.lost from.lists h is.writes journal counted
 
   live : (journal : ℕ) → IsJournalOn table journal → IsLiveJournal from.devices table (readable h) journal
-  live journal on = record { behind_members = on.behind; of_set = on.counted.of_set; live = is.writes.there journal on.counted.of_set on.counted.there }
+  live journal on = record { beyond_members = on.beyond; of_set = on.counted.of_set; live = is.writes.there journal on.counted.of_set on.counted.there }
 
   -- a journal on which the table counts is in step with the one that has the entry
   in_step : (journal : ℕ) (last : Option Seal) → IsJournalOn table journal → HasLast table h journal last → AreInStep members (Some (seen h latest.source)) (Some (seen h journal)) (Some seal) last
@@ -203,14 +203,14 @@ module _ (spellings : Spellings) (from : PutsFrom) (table : Table) (h : History)
   comes = record {
     writes = is.writes;
     long = length-body_in members (seen h latest.source) seal;
-    on_journals = λ journal behind counted.
-        let on : IsJournalOn table journal = record { behind = behind; counted = counted } in
+    on_journals = λ journal beyond counted.
+        let on : IsJournalOn table journal = record { beyond = beyond; counted = counted } in
         on_reached (λ k. progress_beside (is_on_both latest)) latest.source journal HasSeal (λ (p : Progress). IsAt p table h journal seal body)
         (λ same. subst (λ (k : ℕ). HasThisEntry table.id table.geometry (seen h k) seal body) (sym same) (has_its_own table.id table.geometry members (seen h latest.source) seal is.source))
         (λ apart. at_other journal on latest.beside (is.beside journal on apart) (λ other some. (of_set.beside other some).not_later));
     may_stand = record {
       source = latest.source;
-      behind = of_set.source.behind;
+      beyond = of_set.source.beyond;
       counted = of_set.source.counted;
       sealed = reached_here (λ k. progress_beside (is_on_both latest)) latest.source HasSeal;
     };
@@ -222,7 +222,7 @@ pub safe_on_all : (seal : Seal) (body : List Bytes) (journals : ℕ → Progress
 safe_on_all seal body journals from table h is sealed = record {
   writes = is.writes;
   long = is.long;
-  on_journals = λ journal behind counted. subst (λ (p : Progress). IsAt p table h journal seal body) (sealed journal record { behind = behind; counted = counted }) (is.on_journals journal behind counted);
+  on_journals = λ journal beyond counted. subst (λ (p : Progress). IsAt p table h journal seal body) (sealed journal record { beyond = beyond; counted = counted }) (is.on_journals journal beyond counted);
   on_members = λ member i below. absurd (omega (arith, below));
 }
 
@@ -237,4 +237,4 @@ none_to_put spellings from table h is = record {
     none journal live =
         let up = live_is_up spellings from.devices table h journal live.live in
         subst (λ (c : Content). IsLastSealed table.id table.geometry c None) (sym (readable_up h journal up))
-        (is.on_journals journal record { behind = live.behind_members; counted = record { of_set = live.of_set; there = live.live.not_missing } })
+        (is.on_journals journal record { beyond = live.beyond_members; counted = record { of_set = live.of_set; there = live.live.not_missing } })

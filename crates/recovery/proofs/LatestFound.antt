@@ -19,7 +19,7 @@ use Rattle.array_io.proofs.Commits.EntryCopied.{two_journals}
 use Rattle.array_io.proofs.Commits.PuttingStates.{on_reached, reached_beside}
 use Rattle.array_io.proofs.Marks.MarkingHolds.{missing_then, state_stays}
 use Rattle.recovery.specs.declared.latest.Latest.{Latest}
-use Rattle.recovery.specs.Replaying.{AllHaveLast, HasLast, IsFoundOn, IsJournalOn, IsLagging, IsLatestBeside, IsLatestBy, IsLatestOf, IsLatestOn, IsOtherJournal, IsSealOf, Known, KnowsSeals, also_known, is_on_both, progress_beside, progress_of}
+use Rattle.recovery.specs.Replaying.{AllHaveLast, HasLast, IsFoundOn, IsJournalOn, IsStaleJournal, IsLatestBeside, IsLatestBy, IsLatestOf, IsLatestOn, IsOtherJournal, IsSealOf, Known, KnowsSeals, also_known, is_on_both, progress_beside, progress_of}
 
 states_differ : ¬ (Missing ≡ InSync)
 states_differ e = cc
@@ -30,11 +30,11 @@ IsJournalOf table journal = (table.geometry.members ≤ journal) × (journal < s
 
 -- a journal of the set is the one or the other
 one_of_two : (table : Table) (journal first second : ℕ) → IsJournalOf table journal → IsJournalOf table first → IsJournalOf table second → first ≢ second → (journal ≡ first) ⊎ (journal ≡ second)
-one_of_two table journal first second (behind, of_set) (behind', of_set') (behind'', of_set'') apart =
-    two_journals table.geometry.members journal first second behind of_set behind' of_set' behind'' of_set'' apart
+one_of_two table journal first second (beyond, of_set) (beyond', of_set') (beyond'', of_set'') apart =
+    two_journals table.geometry.members journal first second beyond of_set beyond' of_set' beyond'' of_set'' apart
 
 on_is_of : (table : Table) (journal : ℕ) → IsJournalOn table journal → IsJournalOf table journal
-on_is_of table journal on = (on.behind, on.counted.of_set)
+on_is_of table journal on = (on.beyond, on.counted.of_set)
 
 -- what is known of a journal, and of the others
 known_here : (known : Known) (journal : ℕ) (last : Option Seal) → also_known known journal last journal ≡ Some last
@@ -57,14 +57,14 @@ module _ (table : Table) (latest : Latest) (source other : ℕ) (is_source : IsJ
   of_set_by : IsFoundOn table other last → IfSome last (λ s. s.number ≤ seal.number) → IsLatestOf table latest
   of_set_by beside not_later = record {
     belongs = subst (IsSealOf table) (sym same_seal) found.0;
-    source = subst (IsJournalOn table) (sym same_source) (record { behind = is_source.0; counted = found.1 });
+    source = subst (IsJournalOn table) (sym same_source) (record { beyond = is_source.0; counted = found.1 });
     beside = λ s is.
         let it : last ≡ Some s = sym same_beside ∙ is in
         let its = subst (IsFoundOn table other) it beside in
         record {
           belongs = its.0;
           not_later = subst (λ (t : Seal). s.number ≤ t.number) (sym same_seal) (subst (λ (l : Option Seal). IfSome l (λ t. t.number ≤ seal.number)) it not_later);
-          counted = λ journal one. elim (one_of_two table journal source other (one.behind, one.of_set) is_source is_other apart) [
+          counted = λ journal one. elim (one_of_two table journal source other (one.beyond, one.of_set) is_source is_other apart) [
             | inl here ↦ absurd (one.apart (here ∙ sym same_source))
             | inr there ↦ subst (CountsOn table) (sym there) its.1
           ];
@@ -131,16 +131,16 @@ module _ (table : Table) where
             → IsLatestBy first a b (Some latest) → IsLatestOn latest from table h
         by_both None None on on' found found' is = absurd (cc)
         by_both (Some a) None on on' found found' (is, some) =
-            on_by table latest first second is_first is_second differ a None is.same_seal is.same_source is.alone found from h writes (on record { behind = is_first.0; counted = found.1 }) on'
+            on_by table latest first second is_first is_second differ a None is.same_seal is.same_source is.alone found from h writes (on record { beyond = is_first.0; counted = found.1 }) on'
         by_both None (Some b) on on' found found' (is, some) =
-            on_by table latest second first is_second is_first differ_back b None is.same_seal is.same_source is.alone found' from h writes (on' record { behind = is_second.0; counted = found'.1 }) on
+            on_by table latest second first is_second is_first differ_back b None is.same_seal is.same_source is.alone found' from h writes (on' record { beyond = is_second.0; counted = found'.1 }) on
         by_both (Some a) (Some b) on on' found found' (is, some) = elim (cases_lt a.number b.number) [
           | inl below ↦
               let parts = is.above below in
-              on_by table latest second first is_second is_first differ_back b (Some a) parts.0 parts.1 parts.2 found' from h writes (on' record { behind = is_second.0; counted = found'.1 }) on
+              on_by table latest second first is_second is_first differ_back b (Some a) parts.0 parts.1 parts.2 found' from h writes (on' record { beyond = is_second.0; counted = found'.1 }) on
           | inr least ↦
               let parts = is.not_above least in
-              on_by table latest first second is_first is_second differ a (Some b) parts.0 parts.1 parts.2 found from h writes (on record { behind = is_first.0; counted = found.1 }) on'
+              on_by table latest first second is_first is_second differ a (Some b) parts.0 parts.1 parts.2 found from h writes (on record { beyond = is_first.0; counted = found.1 }) on'
         ]
 
     pub none_on : IsLatestBy first lower upper None → AllHaveLast None from table h
@@ -213,11 +213,11 @@ module _ (table new_table : Table) (latest other : Latest) (of_set : IsLatestOf 
   source_gone = missing_then table new_table latest.source marked of_set.source.counted.of_set
 
   pub was_source : IsJournalOf new_table latest.source
-  was_source = (subst (λ (g : Geometry). g.members ≤ latest.source) (sym marked.same_geometry) of_set.source.behind, subst (λ (n : ℕ). latest.source < n) (sym same_set) of_set.source.counted.of_set)
+  was_source = (subst (λ (g : Geometry). g.members ≤ latest.source) (sym marked.same_geometry) of_set.source.beyond, subst (λ (n : ℕ). latest.source < n) (sym same_set) of_set.source.counted.of_set)
 
   was_other : IsOtherJournal table latest.source other.source
   was_other = record {
-    behind = subst (λ (g : Geometry). g.members ≤ other.source) marked.same_geometry is.1.behind;
+    beyond = subst (λ (g : Geometry). g.members ≤ other.source) marked.same_geometry is.1.beyond;
     of_set = subst (λ (n : ℕ). other.source < n) same_set is.1.of_set;
     apart = is.1.apart;
   }
@@ -229,7 +229,7 @@ module _ (table new_table : Table) (latest other : Latest) (of_set : IsLatestOf 
       record {
         belongs = subst₂ (λ (id : List ℕ) (g : Geometry). Belongs id g (other.seal.number % HALVES) other.seal) (sym marked.same_id) (sym marked.same_geometry) its.belongs;
         source = record {
-          behind = is.1.behind;
+          beyond = is.1.beyond;
           counted = record {
             of_set = is.1.of_set;
             there = λ gone. (its.counted other.source was_other).there (sym (state_stays table new_table latest.source marked other.source is.1.apart) ∙ gone);
@@ -246,7 +246,7 @@ module _ (table new_table : Table) (latest other : Latest) (of_set : IsLatestOf 
   beside_on from h all = record {
     writes = all.writes;
     source = subst (HasLast new_table h other.source) is.0 (all.on_journals other.source beside_of_set.source);
-    beside = λ journal on not. elim (one_of_two new_table journal latest.source other.source (on_is_of new_table journal on) was_source (is.1.behind, is.1.of_set) (λ same. is.1.apart (sym same))) [
+    beside = λ journal on not. elim (one_of_two new_table journal latest.source other.source (on_is_of new_table journal on) was_source (is.1.beyond, is.1.of_set) (λ same. is.1.apart (sym same))) [
       | inl here ↦ absurd (on.counted.there (subst (λ (k : ℕ). state_at new_table.states k ≡ Missing) (sym here) source_gone))
       | inr there ↦ absurd (not there)
     ];
@@ -260,28 +260,28 @@ module _ (table new_table : Table) (latest other : Latest) (of_set : IsLatestOf 
     apart = λ same. is.1.apart (sym same);
   }
 
--- which journal lags
+-- which journal is stale
 
 -- none does: all have it
-pub none_lags : (table : Table) (latest : Latest) → IsLagging table latest None → (journal : ℕ) → IsJournalOn table journal → progress_of latest journal ≡ HasSeal
-none_lags table latest none journal on = on_reached (λ k. progress_beside (is_on_both latest)) latest.source journal HasSeal (λ (p : Progress). p ≡ HasSeal) (λ same. refl)
+pub no_journal_is_stale : (table : Table) (latest : Latest) → IsStaleJournal table latest None → (journal : ℕ) → IsJournalOn table journal → progress_of latest journal ≡ HasSeal
+no_journal_is_stale table latest none journal on = on_reached (λ k. progress_beside (is_on_both latest)) latest.source journal HasSeal (λ (p : Progress). p ≡ HasSeal) (λ same. refl)
     (λ apart. ap progress_beside (none journal on apart))
 
 -- one does: it awaits the entry, and once it has that, all have it
-module _ (table : Table) (latest : Latest) (journal : ℕ) (of_set : IsLatestOf table latest) (lags : IsLagging table latest (Some journal)) where
-  pub lagging_awaits : progress_of latest journal ≡ Awaited
-  lagging_awaits = reached_beside (λ k. progress_beside (is_on_both latest)) latest.source HasSeal journal lags.0.apart ∙ ap progress_beside lags.1
+module _ (table : Table) (latest : Latest) (journal : ℕ) (of_set : IsLatestOf table latest) (is_stale : IsStaleJournal table latest (Some journal)) where
+  pub stale_journal_awaits : progress_of latest journal ≡ Awaited
+  stale_journal_awaits = reached_beside (λ k. progress_beside (is_on_both latest)) latest.source HasSeal journal is_stale.0.apart ∙ ap progress_beside is_stale.1
 
   pub then_sealed : (new_table : Table) → new_table.geometry ≡ table.geometry → (k : ℕ) → IsJournalOn new_table k → sealed_on (progress_of latest) journal k ≡ HasSeal
   then_sealed new_table same_geometry k on = on_reached (reached (progress_of latest) journal HasBody) journal k HasSeal (λ (p : Progress). p ≡ HasSeal) (λ same. refl)
       (λ apart. reached_beside (progress_of latest) journal HasBody k apart ∙ here apart)
     where
       is_of : IsJournalOf table k
-      is_of = (subst (λ (g : Geometry). g.members ≤ k) same_geometry on.behind, subst (λ (g : Geometry). k < g.members + 2) same_geometry on.counted.of_set)
+      is_of = (subst (λ (g : Geometry). g.members ≤ k) same_geometry on.beyond, subst (λ (g : Geometry). k < g.members + 2) same_geometry on.counted.of_set)
 
       here : k ≢ journal → progress_of latest k ≡ HasSeal
       here apart = on_reached (λ n. progress_beside (is_on_both latest)) latest.source k HasSeal (λ (p : Progress). p ≡ HasSeal) (λ same. refl)
-          (λ not. elim (one_of_two table k latest.source journal is_of (on_is_of table latest.source of_set.source) (lags.0.behind, lags.0.of_set) (λ same. lags.0.apart (sym same))) [
+          (λ not. elim (one_of_two table k latest.source journal is_of (on_is_of table latest.source of_set.source) (is_stale.0.beyond, is_stale.0.of_set) (λ same. is_stale.0.apart (sym same))) [
             | inl same ↦ absurd (not same)
             | inr same ↦ absurd (apart same)
           ])

@@ -23,10 +23,10 @@ pub mod Foreseen
 pub mod Instances
 pub mod JournalReads
 pub mod JournalSeals
-pub mod LaggingSlots
+pub mod StaleSlots
 pub mod LatestEntry
 pub mod LatestFound
-pub mod LookedAhead
+pub mod Foresight
 pub mod MakingAnswer
 pub mod MakingClearing
 pub mod MakingFirst

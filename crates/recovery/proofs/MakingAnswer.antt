@@ -10,7 +10,7 @@ use Rattle.superblock.specs.NextTables.{slots_of}
 use Rattle.array_io.specs.Believed.Fresh.{zeros_of}
 use Rattle.array_io.specs.Believed.Settled.{IsSettled}
 use Rattle.array_io.specs.Believed.Views.{ArrayView, HasItsSlots, RestsOn, view_of}
-use Rattle.recovery.specs.Making.{BankView, IsFirstTable, IsQuietBehind, Makes, Opened, Outcome, Returned, opened}
+use Rattle.recovery.specs.Making.{BankView, IsFirstTable, IsQuietBeyond, Makes, Opened, Outcome, Returned, opened}
 
 -- what is said of the array of an outcome, and of none
 abbrev OnOpened : (ArrayView → Type 0) → Outcome → Type 0
@@ -26,7 +26,7 @@ not_both array bank refusal is = subst (OnOpened (λ a. Unit {0})) is tt
 -- the set of this first table is there
 pub made_opened : (honest : Type 0) (id : List ℕ) (geometry : Geometry) (old : BankView) (panel : Panel) (history : History) (table : Table)
     → IsFirstTable id geometry table → IsLater old.panel panel → HasItsSlots table panel
-    → (honest → IsQuietBehind table.id (slots_of table) old → IsSettled panel.devices table 0 history None (zeros_of table.geometry))
+    → (honest → IsQuietBeyond table.id (slots_of table) old → IsSettled panel.devices table 0 history None (zeros_of table.geometry))
     → Makes honest id geometry old (opened panel history table 0)
 made_opened honest id geometry old panel history table first later its_slots rests =
     let made : ArrayView = view_of panel history table 0 in
@@ -37,7 +37,7 @@ made_opened honest id geometry old panel history table first later its_slots res
       its_slots = λ array is. of_opened (λ a. HasItsSlots a.table a.panel) made array is its_slots;
       rests = λ true_bank quiet array is. of_opened (λ a. RestsOn a None (zeros_of geometry)) made array is
           (subst (λ (g : Geometry). IsSettled panel.devices table 0 history None (zeros_of g)) first.of_geometry
-          (rests true_bank (subst (λ (g : Geometry). IsQuietBehind table.id (g.members + 2) old) (sym first.of_geometry)
-          (subst (λ (i : List ℕ). IsQuietBehind i (geometry.members + 2) old) (sym first.of_id) quiet))));
+          (rests true_bank (subst (λ (g : Geometry). IsQuietBeyond table.id (g.members + 2) old) (sym first.of_geometry)
+          (subst (λ (i : List ℕ). IsQuietBeyond i (geometry.members + 2) old) (sym first.of_id) quiet))));
       cause = λ bank refusal is. absurd (not_both made bank refusal is);
     }

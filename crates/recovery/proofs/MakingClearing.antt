@@ -20,7 +20,7 @@ pub cleared_none : (slots : ℕ) (h : History) → HasCleared slots h h
 cleared_none slots h = record {
   start = λ device. refl;
   down = λ device. refl;
-  behind = λ device at value behind may. may;
+  beyond = λ device at value beyond may. may;
   zeros = λ device at zero. zero;
 }
 
@@ -29,7 +29,7 @@ pub cleared_both : (slots : ℕ) (old mid new : History) → HasCleared slots ol
 cleared_both slots old mid new first second = record {
   start = λ device. second.start device ∙ first.start device;
   down = λ device. second.down device ∙ first.down device;
-  behind = λ device at value behind may. first.behind device at value behind (second.behind device at value behind may);
+  beyond = λ device at value beyond may. first.beyond device at value beyond (second.beyond device at value beyond may);
   zeros = λ device at zero. second.zeros device at (first.zeros device at zero);
 }
 
@@ -48,16 +48,16 @@ seen_keeps : (b : Bool) (l : List Bytes) (at a : ℕ) (v : Bytes) → sector_of 
 seen_keeps true l at a v is = set_keeps l at a v is
 seen_keeps false l at a v is = is
 
-wrote_behind : (slots dev at : ℕ) (v : Bytes) (h : History) → dev < slots → (device a : ℕ) (value : Bytes) → slots ≤ device
+wrote_beyond : (slots dev at : ℕ) (v : Bytes) (h : History) → dev < slots → (device a : ℕ) (value : Bytes) → slots ≤ device
     → ((device ≡ dev) × (a ≡ at) × (value ≡ v)) ⊎ MayHold h device a value → MayHold h device a value
-wrote_behind slots dev at v h below device a value behind (inl (same, place, is)) = absurd (omega (arith, below, behind, same))
-wrote_behind slots dev at v h below device a value behind (inr before) = before
+wrote_beyond slots dev at v h below device a value beyond (inl (same, place, is)) = absurd (omega (arith, below, beyond, same))
+wrote_beyond slots dev at v h below device a value beyond (inr before) = before
 
 wrote_clears : (slots dev at : ℕ) (h : History) → dev < slots → HasCleared slots h (After (Wrote dev at (replicate 512 0)) h)
 wrote_clears slots dev at h below = record {
   start = λ device. refl;
   down = λ device. refl;
-  behind = λ device a value behind may. wrote_behind slots dev at (replicate 512 0) h below device a value behind may;
+  beyond = λ device a value beyond may. wrote_beyond slots dev at (replicate 512 0) h below device a value beyond may;
   zeros = λ device a zero. seen_keeps (device == dev) (seen h device) at a (replicate 512 0) zero;
 }
 
@@ -81,7 +81,7 @@ flush_clears : (slots dev : ℕ) (h : History) → HasCleared slots h (After (Fl
 flush_clears slots dev h = record {
   start = λ device. refl;
   down = λ device. refl;
-  behind = λ device a value behind may. may.0;
+  beyond = λ device a value beyond may. may.0;
   zeros = λ device a zero. zero;
 }
 
@@ -118,7 +118,7 @@ pub slot_stays : (slots : ℕ) (geometry : Geometry) (old new : History) (slot :
     → HasCleared slots old new → IsClearedSlot geometry old slot → IsClearedSlot geometry new slot
 slot_stays slots geometry old new slot cleared is = record {
   places = zeros_stay slots slot 0 SUPERBLOCK_PLACES old new cleared is.places;
-  seals = λ behind. zeros_stay slots slot FIRST_SEAL (FIRST_SEAL + HALVES) old new cleared (is.seals behind);
+  seals = λ beyond. zeros_stay slots slot FIRST_SEAL (FIRST_SEAL + HALVES) old new cleared (is.seals beyond);
   rows = λ below. zeros_stay slots slot FIRST_ROW _ old new cleared (is.rows below);
 }
 
@@ -133,7 +133,7 @@ pub member_cleared : (slots : ℕ) (geometry : Geometry) (slot end : ℕ) (resul
     → OnOk result (IsClearedSlot geometry new slot)
 member_cleared slots geometry slot end (Ok done) mid new member is places cleared rows = record {
   places = zeros_stay slots slot 0 SUPERBLOCK_PLACES mid new cleared places;
-  seals = λ behind. absurd (omega (arith, member, behind));
+  seals = λ beyond. absurd (omega (arith, member, beyond));
   rows = λ below. subst (λ (n : ℕ). AreZero new slot FIRST_ROW n) is rows;
 }
 member_cleared slots geometry slot end (Err stop) mid new member is places cleared rows = tt
@@ -147,9 +147,9 @@ stop_in slots slot panel stop within (cause, inr is) =
 -- a journal's places and seals are its first sectors
 pub journal_cleared : (geometry : Geometry) (slot : ℕ) (result : Result (Unit {0}) Stop) (h : History) → geometry.members ≤ slot → OnOk result (AreZero h slot 0 (FIRST_SEAL + HALVES))
     → OnOk result (IsClearedSlot geometry h slot)
-journal_cleared geometry slot (Ok done) h behind zeros = record {
+journal_cleared geometry slot (Ok done) h beyond zeros = record {
   places = λ at from below. zeros at from (omega (arith, below));
   seals = λ _ at from below. zeros at (omega arith) below;
-  rows = λ below. absurd (omega (arith, below, behind));
+  rows = λ below. absurd (omega (arith, below, beyond));
 }
-journal_cleared geometry slot (Err stop) h behind zeros = tt
+journal_cleared geometry slot (Err stop) h beyond zeros = tt

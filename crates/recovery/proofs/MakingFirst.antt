@@ -24,7 +24,7 @@ pub filled_none : (A : Type 0) (value none : A) → IsFilled A value none 0 (rep
 filled_none A value none = record {
   ten = length-replicate 10 none;
   filled = λ k below. absurd (omega (arith, below));
-  empty = λ k behind. none_at A none k;
+  empty = λ k beyond. none_at A none k;
 }
 
 pub filled_more : (A : Type 0) (value none : A) (n : ℕ) (places : List A) → n < 10 → IsFilled A value none n places
@@ -35,14 +35,14 @@ filled_more A value none n places within is = record {
     | inl same ↦ ap (λ (i : ℕ). slice_index_or (slice_set places n value) i none) same ∙ get_or-set_same places n value none (omega (arith, within, is.ten))
     | inr apart ↦ get_or-set_other places n k value none apart ∙ is.filled k (omega (arith, below, apart))
   ];
-  empty = λ k behind. get_or-set_other places n k value none (λ same. absurd (omega (arith, behind, same))) ∙ is.empty k (omega (arith, behind));
+  empty = λ k beyond. get_or-set_other places n k value none (λ same. absurd (omega (arith, beyond, same))) ∙ is.empty k (omega (arith, beyond));
 }
 
 -- no place says that a member is rebuilding
 none_rebuilds : (n : ℕ) (states : List State) → IsFilled State InSync Missing n states → (slot : ℕ) → state_at states slot ≢ Rebuilding
 none_rebuilds n states is slot rebuilding = elim (cases_lt slot n) [
   | inl below ↦ in_sync (sym (is.filled slot below) ∙ rebuilding)
-  | inr behind ↦ missing (sym (is.empty slot behind) ∙ rebuilding)
+  | inr beyond ↦ missing (sym (is.empty slot beyond) ∙ rebuilding)
 ]
   where
     in_sync : InSync ≡ Rebuilding → ⊥
@@ -60,8 +60,8 @@ first_is_table geometry n states incarnations all filled numbered = record {
   generation_most = omega arith;
   incarnation_least = λ slot below. omega (arith, numbered.filled slot (omega (arith, all, below)));
   incarnation_most = λ slot below. omega (arith, numbered.filled slot (omega (arith, all, below)));
-  behind_missing = λ slot behind. filled.empty slot (omega (arith, all, behind));
-  behind_zero = λ slot behind. numbered.empty slot (omega (arith, all, behind));
+  missing_beyond = λ slot beyond. filled.empty slot (omega (arith, all, beyond));
+  zero_beyond = λ slot beyond. numbered.empty slot (omega (arith, all, beyond));
   one_out = λ first second below below' out out'. absurd (out (filled.filled first (omega (arith, all, below))));
   rebuilds_member = λ slot is. absurd (none_rebuilds n states filled slot is);
   position_below = λ slot is. absurd (none_rebuilds n states filled slot is);

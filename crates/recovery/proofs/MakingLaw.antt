@@ -28,7 +28,7 @@ use Rattle.array_io.proofs.Laws.Fresh.{in_sync_not_missing}
 use Rattle.array_io.proofs.Images.Put.{put_there}
 use Rattle.array_io.proofs.Laws.SettledFresh.{IsFreshNow, settled_fresh, zeros_are}
 use Rattle.recovery.specs.Clearing.{HasCleared, IsClearedSlot, IsFlushed, IsStopIn, IsUsable, IsZeroAt}
-use Rattle.recovery.specs.Making.{IsFirstTable, IsQuietBehind, bank_view}
+use Rattle.recovery.specs.Making.{IsFirstTable, IsQuietBeyond, bank_view}
 use Rattle.recovery.proofs.MakingClearing.{cleared_both, slot_stays}
 
 -- the devices of the set were cleared, and each was flushed
@@ -66,7 +66,7 @@ whole_slot panel h d a (Some disk) is_true may within = is_true.whole d a (secto
 pub record IsMadeOn (table : Table) (devices : ℕ) (before after : Panel) (old mid new : History) : Type 0 where
   pub first : IsFirstTable table.id table.geometry table
   pub usable : IsUsable table.geometry before
-  pub quiet : IsQuietBehind table.id (slots_of table) (bank_view before old)
+  pub quiet : IsQuietBeyond table.id (slots_of table) (bank_view before old)
   pub later : IsLater before after
   pub was_true : IsTrueTo before old
   pub is_true : IsTrueTo after new
@@ -88,7 +88,7 @@ module _ (table : Table) (devices : ℕ) (before after : Panel) (old mid new : H
   down_same : (slot : ℕ) → is_down new slot ≡ is_down old slot
   down_same slot = made.published.down slot ∙ made.cleaned.cleared.down slot
 
-  -- what a stop leaves besides the superblocks is what reads gave after the flushes
+  -- what a crash leaves besides the superblocks is what reads gave after the flushes
   elsewhere : (slot at : ℕ) (value : Bytes) → slot < slots_of table → at ≢ 1 → MayHold new slot at value → value ≡ sector_of (seen mid slot) at
   elsewhere slot at value of_set apart may = by_case (made.published.within.holds slot at value may)
     where
@@ -99,20 +99,20 @@ module _ (table : Table) (devices : ℕ) (before after : Panel) (old mid new : H
   zero_left : (slot at : ℕ) (value : Bytes) → slot < slots_of table → at ≢ 1 → IsZeroAt mid slot at → MayHold new slot at value → value ≡ replicate 512 0
   zero_left slot at value of_set apart zero may = elsewhere slot at value of_set apart may ∙ zero
 
-  -- behind the set a stop leaves what it left before
-  behind : (slot at : ℕ) (value : Bytes) → slots_of table ≤ slot → MayHold new slot at value → MayHold old slot at value
-  behind slot at value is may = by_case (made.published.within.holds slot at value may)
+  -- after the set a crash leaves what it left before
+  beyond : (slot at : ℕ) (value : Bytes) → slots_of table ≤ slot → MayHold new slot at value → MayHold old slot at value
+  beyond slot at value is may = by_case (made.published.within.holds slot at value may)
     where
       by_case : MayHold mid slot at value ⊎ IsNewThere table None made.published.sectors slot at value → MayHold old slot at value
-      by_case (inl was) = made.cleaned.cleared.behind slot at value is was
+      by_case (inl was) = made.cleaned.cleared.beyond slot at value is was
       by_case (inr there) = absurd (omega (arith, is, made.published.gets slot there.gets))
 
-  slot_behind : (slot : ℕ) (content : Content) → slots_of table ≤ slot → SlotMayHold new slot content → SlotMayHold old slot content
-  slot_behind slot None is may = sym (down_same slot) ∙ may
-  slot_behind slot (Some disk) is may = (
+  slot_beyond : (slot : ℕ) (content : Content) → slots_of table ≤ slot → SlotMayHold new slot content → SlotMayHold old slot content
+  slot_beyond slot None is may = sym (down_same slot) ∙ may
+  slot_beyond slot (Some disk) is may = (
     λ none. may.0 (start_same slot ∙ none),
     may.1 ∙ ap (λ (c : Content). length (disk_of c)) (start_same slot),
-    λ a. behind slot a (sector_of disk a) is (may.2 a),
+    λ a. beyond slot a (sector_of disk a) is (may.2 a),
   )
 
   one_in_set : (slot at : ℕ) (first second : Bytes) → slot < slots_of table → MayHold new slot at first → MayHold new slot at second → first ≡ second
@@ -126,7 +126,7 @@ module _ (table : Table) (devices : ℕ) (before after : Panel) (old mid new : H
   none_pending slot at first second is_up is_first is_second = elim (cases_lt slot (slots_of table)) [
     | inl of_set ↦ one_in_set slot at first second of_set is_first is_second
     | inr is ↦ made.quiet.one_value slot at first second is (sym (down_same slot) ∙ is_up)
-        (behind slot at first is is_first) (behind slot at second is is_second)
+        (beyond slot at first is is_first) (beyond slot at second is is_second)
   ]
 
   -- the image before, with what stands in one slot now
@@ -137,12 +137,12 @@ module _ (table : Table) (devices : ℕ) (before after : Panel) (old mid new : H
       by_case true is = subst (λ (k : ℕ). SlotMayHold old k content) (sym (eqb-true d slot is)) may
       by_case false is = readable_left old d
 
-  none_behind : (image : Slots) (slot : ℕ) → MayLeave new image → slots_of table ≤ slot → HasNone table.id devices slot (image slot)
-  none_behind image slot may is =
+  none_beyond_end : (image : Slots) (slot : ℕ) → MayLeave new image → slots_of table ≤ slot → HasNone table.id devices slot (image slot)
+  none_beyond_end image slot may is =
       let content = image slot in
       subst (λ (n : ℕ). HasNone table.id n slot content) (sym made.devices_are)
       (subst (λ (c : Content). HasNone table.id before.devices slot c) (put_there (readable old) slot content)
-      (made.quiet.nothing (with_slot (readable old) slot content) slot (left_before slot content (slot_behind slot content is (may slot))) is))
+      (made.quiet.nothing (with_slot (readable old) slot content) slot (left_before slot content (slot_beyond slot content is (may slot))) is))
 
   long_left : (image : Slots) (slot : ℕ) → MayLeave new image → slot < slots_of table → least_sectors table.geometry slot ≤ length (disk_of (image slot))
   long_left image slot may of_set = omega (
@@ -180,7 +180,7 @@ module _ (table : Table) (devices : ℕ) (before after : Panel) (old mid new : H
         let of_set : member < slots_of table = omega (arith, is) in
         at_zero image member (FIRST_ROW + row) may of_set (λ same. absurd (omega (arith, same)))
         ((made.cleaned.each member of_set).rows is (FIRST_ROW + row) (omega arith) (omega (arith, below))) ∙ zeros_are;
-    alone = λ slot place superblock is. none_behind image slot may is place superblock;
+    alone = λ slot place superblock is. none_beyond_end image slot may is place superblock;
     whole = λ slot a within. whole_slot after new slot a (image slot) made.is_true (may slot) within;
   }
 
@@ -230,7 +230,7 @@ cleaned_both geometry old between mid first each second flushed = record {
 
 -- a set that was made is settled on zeros
 pub made_rests : (honest : Type 0) (table : Table) (before between after : Panel) (old mid new : History) (result : Result (Unit {0}) Stop)
-    → IsFirstTable table.id table.geometry table → IsUsable table.geometry before → IsQuietBehind table.id (slots_of table) (bank_view before old)
+    → IsFirstTable table.id table.geometry table → IsUsable table.geometry before → IsQuietBeyond table.id (slots_of table) (bank_view before old)
     → IsLater before after → IsTrueTo before old → IsTrueTo after new → IsCleaned table.geometry old mid → honest
     → Publishes honest table None between after mid new result → OnOk result (IsSettled after.devices table 0 new None (zeros_of table.geometry))
 made_rests honest table before between after old mid new (Err stop) first usable quiet later was_true is_true cleaned true_bank published = tt

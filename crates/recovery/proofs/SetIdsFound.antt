@@ -22,7 +22,7 @@ use Rattle.superblock.proofs.Spelled.{one_superblock}
 use Rattle.recovery.specs.Finding.{ReadsPlace}
 use Rattle.recovery.specs.Making.{BankView}
 use Rattle.recovery.specs.SetIds.{FindsLeast, InPlace, InSlot, InSlotsBelow, IsAtMost, IsIdIn, IsIdOf, IsIdOn, IsLesser, ReadsId}
-use Rattle.recovery.proofs.Finding.{Honest, OnRefusal, no_found, no_refusal, none_down, none_fell_first, none_fell_second, same_found, same_readable, same_while_up}
+use Rattle.recovery.proofs.Finding.{Honest, OnRefusal, no_found, no_refusal, none_down, none_failed_first, none_failed_second, same_found, same_readable, same_while_up}
 
 -- the id of a superblock that counts in its set
 pub id_found : (devices slot place : ℕ) (sector : Bytes) (superblock own : Superblock) → sector ≡ superblock_sector superblock
@@ -104,7 +104,7 @@ place_searched honest above best further found devices slot place old new is les
   cause = λ refusal same. absurd (no_refusal found refusal same);
 }
 
--- One search behind another.
+-- One search after another.
 pub search_both : (honest still : Type 0) (above best first : Option (List ℕ)) (IsFirst IsSecond MayBe : Slots → List ℕ → Type 0) (old mid new : BankView)
     (answer : Result (Option (List ℕ)) Refusal) → (honest → still) → (honest → Honest old) → (honest → Honest mid)
     → ((image : Slots) (id : List ℕ) → IsFirst image id → MayBe image id) → ((image : Slots) (id : List ℕ) → IsSecond image id → MayBe image id)
@@ -124,10 +124,10 @@ search_both honest still above best first IsFirst IsSecond MayBe old mid new ans
   ];
   kept = λ found same id most. two.kept found same id (one.kept first refl id most);
   least = λ fair none found same id may over. elim (split (readable old.history) id may) [
-    | inl is ↦ two.kept found same id (one.least fair (none_fell_first old.panel mid.panel new.panel two.later none) first refl id is over)
-    | inr is ↦ two.least (goes_on fair) (none_fell_second old.panel mid.panel new.panel one.later none) found same id
+    | inl is ↦ two.kept found same id (one.least fair (none_failed_first old.panel mid.panel new.panel two.later none) first refl id is over)
+    | inr is ↦ two.least (goes_on fair) (none_failed_second old.panel mid.panel new.panel one.later none) found same id
         (subst (λ (image : Slots). IsSecond image id)
-        (sym (same_readable old mid (is_old fair) (is_mid fair) one.later (one.reads fair) (none_fell_first old.panel mid.panel new.panel two.later none))) is) over
+        (sym (same_readable old mid (is_old fair) (is_mid fair) one.later (one.reads fair) (none_failed_first old.panel mid.panel new.panel two.later none))) is) over
   ];
   cause = two.cause;
 }

@@ -18,7 +18,7 @@ use Rattle.superblock.specs.NextTables.{slots_of}
 use Rattle.superblock.proofs.Newest.{IsBestTo, chosen_at_end, none_at_end, own_of_newest}
 use Rattle.recovery.specs.declared.survey.Survey.{Survey}
 use Rattle.recovery.specs.Finding.{Finds, NewestFound, OthersStay}
-use Rattle.array_io.specs.Believed.ReadWhole.{NoneFell}
+use Rattle.array_io.specs.Believed.ReadWhole.{NoDeviceFailed}
 use Rattle.recovery.specs.Making.{BankView, FindsTable, IsCarried}
 use Rattle.recovery.specs.Surveying.{FindsLeft, IsOwn, IsOwnGeneration, IsSurveyOf, Surveys, Tells, generation_by, own_by}
 use Rattle.recovery.proofs.Finding.{Honest, OnFound, OnRefusal, no_found, no_refusal, none_down, same_found, same_readable, slots_step, still_carried}
@@ -28,10 +28,10 @@ others_readable : (old new : History) (slot d : ℕ) → HasRead old new → Oth
 others_readable old new slot d read others apart =
     ap (λ (b : Bool). cond b None (Some (seen new d))) (others d apart) ∙ ap (λ (disk : List Bytes). cond (is_down old d) None (Some disk)) (seen_read read d)
 
--- where the slot's device is up behind reads of it, no device fell
-none_fell : (old new : BankView) (slot : ℕ) → Honest old → Honest new → OthersStay slot old.history new.history → new.panel.down slot ≡ false
-    → NoneFell old.panel new.panel
-none_fell old new slot is_old is_new others up d within was = elim (cases_eq d slot) [
+-- where the slot's device is up after reads of it, no device failed
+none_failed : (old new : BankView) (slot : ℕ) → Honest old → Honest new → OthersStay slot old.history new.history → new.panel.down slot ≡ false
+    → NoDeviceFailed old.panel new.panel
+none_failed old new slot is_old is_new others up d within was = elim (cases_eq d slot) [
   | inl same ↦ subst (λ (k : ℕ). new.panel.down k ≡ false) (sym same) up
   | inr apart ↦ is_new.down d ∙ others d apart ∙ sym (is_old.down d) ∙ was
 ]
@@ -52,7 +52,7 @@ left_up honest id devices slot old new found is_old is_new is others up = record
   reads = is.reads;
   others = others;
   left = λ fair other same.
-      let none = none_fell old new slot (is_old fair) (is_new fair) (others fair) up in
+      let none = none_failed old new slot (is_old fair) (is_new fair) (others fair) up in
       subst (λ (o : Option Superblock). NewestFound id devices slot (readable new.history) o) (same_found found other same)
       (subst (λ (image : Slots). NewestFound id devices slot image found)
       (sym (same_readable old new (is_old fair) (is_new fair) is.later (is.reads fair) none)) (is.sought fair none found refl));

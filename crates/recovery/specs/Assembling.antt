@@ -12,14 +12,14 @@ use Rattle.superblock.specs.declared.table.Table.{Table}
 use Rattle.superblock.specs.Tables.{state_at}
 use Rattle.superblock.specs.Cases.{HasNone, Lost}
 use Rattle.superblock.specs.Counted.{IsChosen, IsInFull, IsLive}
-use Rattle.superblock.specs.Losses.{IsOneLoss}
+use Rattle.superblock.specs.Losses.{IsSingleFailure}
 use Rattle.superblock.specs.NextTables.{IsNotOlder, slots_of}
 use Rattle.superblock.specs.States.{position_in}
 use Rattle.array_io.specs.Believed.Moments.{HoldsNow, HoldsThroughout}
 use Rattle.array_io.specs.Believed.Views.{ArrayView, HasItsSlots, RestsAfter}
 use Rattle.recovery.specs.Making.{BankView, IsCarried, Opened, Outcome, Returned, bank_after, given_back, opened}
 
--- From what a set is assembled: nothing is pending, and all cases that a stop now may leave hold for X, with this lost before.
+-- From what a set is assembled: nothing is pending, and all cases that a crash now may leave hold for X, with this lost before.
 pub record MayAssemble (base : Table) (lost : Option Lost) (X : List (List Bytes)) (bank : BankView) : Type 0 where
   pub nothing_pending : NothingPending bank.history
   pub holds : HoldsNow base bank.panel.devices lost X bank.history
@@ -38,7 +38,7 @@ pub record HasStatesOf (table : Table) (old : BankView) (array : ArrayView) : Ty
   pub live_stays : (slot : ℕ) → slot < slots_of table → IsLive old.panel.devices table slot (readable old.history slot) → is_down array.history slot ≡ false
       → state_at array.table.states slot ≡ state_at table.states slot
   pub not_live : (slot : ℕ) → slot < slots_of table → ¬ IsLive old.panel.devices table slot (readable old.history slot) → state_at array.table.states slot ≡ Missing
-  pub fallen : (slot : ℕ) → slot < slots_of table → is_down array.history slot ≡ true → state_at array.table.states slot ≡ Missing
+  pub failure : (slot : ℕ) → slot < slots_of table → is_down array.history slot ≡ true → state_at array.table.states slot ≡ Missing
   pub position : array.table.position ≡ position_in array.table.states table.position
 
 -- Two slots are lost, by a table that was chosen at some moment of the call: each is down at the return, or was not live and in sync at that moment.
@@ -88,9 +88,9 @@ pub record AssemblesTo (Reaches : (base : Table) (lost : Option Lost) (X : List 
       → HoldsThroughout base old.panel.devices lost X old.history (bank_after outcome).history
   -- at Ok, with one slot lost at most, this is reached
   pub rests : honest → (base : Table) (lost : Option Lost) (X : List (List Bytes)) → base.id ≡ id → MayAssemble base lost X old
-      → (array : ArrayView) → outcome ≡ Opened array → IsOneLoss (slots_of base) lost array.history → Reaches base lost X array
+      → (array : ArrayView) → outcome ≡ Opened array → IsSingleFailure (slots_of base) lost array.history → Reaches base lost X array
   pub states : honest → (base : Table) (lost : Option Lost) (X : List (List Bytes)) → base.id ≡ id → MayAssemble base lost X old
-      → (array : ArrayView) → outcome ≡ Opened array → IsOneLoss (slots_of base) lost array.history
+      → (array : ArrayView) → outcome ≡ Opened array → IsSingleFailure (slots_of base) lost array.history
       → (table : Table) → IsChosen id old.panel.devices (readable old.history) table → HasStatesOf table old array
   pub refused : (bank : BankView) (refusal : Refusal) → outcome ≡ Returned bank refusal → IsOfAssembly refusal
   pub cause : honest → (bank : BankView) (refusal : Refusal) → outcome ≡ Returned bank refusal → IsNoAssembly id old bank refusal

@@ -18,7 +18,7 @@ IsZeroAt h device at = sector_of (seen h device) at ≡ replicate 512 0
 abbrev pub AreZero : History → (device from end : ℕ) → Type 0
 AreZero h device from end = (at : ℕ) → from ≤ at → at < end → IsZeroAt h device at
 
--- a stop now leaves on a device what reads of it give
+-- a crash now leaves on a device what reads of it give
 abbrev pub IsFlushed : History → (device : ℕ) → Type 0
 IsFlushed h device = (at : ℕ) (value : Bytes) → MayHold h device at value → value ≡ sector_of (seen h device) at
 
@@ -26,7 +26,7 @@ IsFlushed h device = (at : ℕ) (value : Bytes) → MayHold h device at value �
 pub record HasCleared (slots : ℕ) (old new : History) : Type 0 where
   pub start : (device : ℕ) → start_of new device ≡ start_of old device
   pub down : (device : ℕ) → is_down new device ≡ is_down old device
-  pub behind : (device at : ℕ) (value : Bytes) → slots ≤ device → MayHold new device at value → MayHold old device at value
+  pub beyond : (device at : ℕ) (value : Bytes) → slots ≤ device → MayHold new device at value → MayHold old device at value
   pub zeros : (device at : ℕ) → IsZeroAt old device at → IsZeroAt new device at
 
 -- a slot's places for superblocks are zero, a journal's seals, and a member's rows

@@ -1,4 +1,4 @@
--- What a look at a set finds, without a write.
+-- What an inspection of a set finds, without a write.
 use Rattle.std.specs.Prelude.{◌≡◌, ◌≢◌, ◌⊎◌, ℕ, ◌+◌, ◌<◌, ◌≤◌, true, false, List, slice_index_or, Option, Some, None, Result, Ok, Err}
 use Rattle.sector_model.specs.declared.refusal.Refusal.{Refusal}
 use Rattle.sector_model.specs.declared.refusal.Refusal.TheVariants.{Worn}
@@ -121,7 +121,7 @@ pub record ReadsLast {A : Type 0} (honest : Type 0) (old new : BankView) (answer
   pub found : (value : A) → answer ≡ Ok value → IsSought value
   pub cause : (refusal : Refusal) → answer ≡ Err refusal → (refusal ≡ Worn) × (GREATEST_COUNT ≤ new.panel.calls)
 
--- A look at a set: what it found was so when all superblocks were read (`read`), and its last entries are so at the return. No device fell in between,
+-- An inspection of a set: what it found was so when all superblocks were read (`read`), and its last entries are so at the return. No device failed in between,
 -- unless one of a journal did.
 pub record HasExamined (honest : Type 0) (id : List ℕ) (old new : BankView) (examined : Examined) : Type 0 where
   pub read : BankView
@@ -136,7 +136,7 @@ pub record HasExamined (honest : Type 0) (id : List ℕ) (old new : BankView) (e
   pub outlook : IsOutlook honest read examined.table examined.outlook
   pub last : AreLastNumbers honest new examined.table examined.last
 
--- Looking at the set of an id on a bank, by reads alone.
+-- Inspecting the set of an id on a bank, by reads alone.
 pub record Examines (honest : Type 0) (id : List ℕ) (old new : BankView) (answer : Result (Option Examined) Refusal) : Type 0 where
   pub later : IsLater old.panel new.panel
   pub reads : honest → HasRead old.history new.history

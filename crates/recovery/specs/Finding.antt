@@ -10,7 +10,7 @@ use Rattle.sector_model.specs.Reads.{HasRead}
 use Rattle.superblock.specs.declared.table.Superblock.{Superblock}
 use Rattle.superblock.specs.Counted.{Counts}
 use Rattle.superblock.specs.Newest.{CountsNone, IsNewest, IsOfSet, SlotCountsNone}
-use Rattle.array_io.specs.Believed.ReadWhole.{NoneFell}
+use Rattle.array_io.specs.Believed.ReadWhole.{NoDeviceFailed}
 use Rattle.recovery.specs.Making.{BankView}
 
 -- A read of a place of a slot: it gives what stands there by what reads gave before; where it gives nothing, and no device went down between, nothing
@@ -20,7 +20,7 @@ pub record ReadsPlace (honest : Type 0) (slot place : ℕ) (old new : BankView) 
   pub reads : honest → HasRead old.history new.history
   pub stands : (sector : Bytes) → answer ≡ Ok (Some sector)
       → (old.panel.down slot ≡ false) × (honest → sector ≡ sector_of (seen old.history slot) place)
-  pub nothing : honest → NoneFell old.panel new.panel → answer ≡ Ok None → length (disk_of (readable old.history slot)) ≤ place
+  pub nothing : honest → NoDeviceFailed old.panel new.panel → answer ≡ Ok None → length (disk_of (readable old.history slot)) ≤ place
   pub cause : (refusal : Refusal) → answer ≡ Err refusal → (refusal ≡ Worn) × (GREATEST_COUNT ≤ new.panel.calls)
 
 -- what is found in a place of a slot: the superblock that counts there, or that none does
@@ -40,7 +40,7 @@ pub record Finds (honest : Type 0) (id : List ℕ) (devices : ℕ) (IsSought : S
   pub later : IsLater old.panel new.panel
   pub fits : (superblock : Superblock) → answer ≡ Ok (Some superblock) → IsOfSet id devices superblock
   pub reads : honest → HasRead old.history new.history
-  pub sought : honest → NoneFell old.panel new.panel → (found : Option Superblock) → answer ≡ Ok found → IsSought (readable old.history) found
+  pub sought : honest → NoDeviceFailed old.panel new.panel → (found : Option Superblock) → answer ≡ Ok found → IsSought (readable old.history) found
   pub cause : (refusal : Refusal) → answer ≡ Err refusal → (refusal ≡ Worn) × (GREATEST_COUNT ≤ new.panel.calls)
 
 -- of all devices but this one, each is up or down as before

@@ -3,7 +3,7 @@ pub mod Clearing
 pub mod Examining
 pub mod Finding
 pub mod Foreseeing
-pub mod Lagging
+pub mod StaleSuperblocks
 pub mod Making
 pub mod PuttingInOrder
 pub mod Replaying

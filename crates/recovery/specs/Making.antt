@@ -15,7 +15,7 @@ use Rattle.superblock.specs.Tables.{incarnation_at, state_at}
 use Rattle.superblock.specs.Cases.{HasNone}
 use Rattle.superblock.specs.Counted.{Counts, IsChosen, least_sectors}
 use Rattle.superblock.specs.NextTables.{slots_of}
-use Rattle.array_io.specs.Believed.ReadWhole.{NoneFell}
+use Rattle.array_io.specs.Believed.ReadWhole.{NoDeviceFailed}
 use Rattle.array_io.specs.Believed.Fresh.{zeros_of}
 use Rattle.array_io.specs.Believed.Views.{ArrayView, HasItsSlots, RestsOn, view_of}
 
@@ -45,8 +45,8 @@ abbrev pub bank_after : Outcome → BankView
 bank_after (Opened array) = record { panel = array.panel; history = array.history }
 bank_after (Returned bank refusal) = bank
 
--- behind the set's slots nothing is pending, and no superblock of the set counts
-pub record IsQuietBehind (id : List ℕ) (slots : ℕ) (bank : BankView) : Type 0 where
+-- after the set's slots nothing is pending, and no superblock of the set counts
+pub record IsQuietBeyond (id : List ℕ) (slots : ℕ) (bank : BankView) : Type 0 where
   pub one_value : (device at : ℕ) (first second : Bytes) → slots ≤ device → is_down bank.history device ≡ false
       → MayHold bank.history device at first → MayHold bank.history device at second → first ≡ second
   pub nothing : (image : Slots) (slot : ℕ) → MayLeave bank.history image → slots ≤ slot → HasNone id bank.panel.devices slot (image slot)
@@ -72,14 +72,14 @@ IsNoMake geometry panel NotUsable = HasUnusable geometry panel
 IsNoMake geometry panel Worn = GREATEST_COUNT ≤ panel.calls
 IsNoMake geometry panel refusal = ⊥
 
--- `make(bank, entry, id, geometry)`: at Ok the set is settled on the list of zeros, none lost. 19, 11, 16. A stop within it, and a refusal, leave
+-- `make(bank, entry, id, geometry)`: at Ok the set is settled on the list of zeros, none lost. 19, 11, 16. A crash within it, and a refusal, leave
 -- no promise about a set.
 pub record Makes (honest : Type 0) (id : List ℕ) (geometry : Geometry) (old : BankView) (outcome : Outcome) : Type 0 where
   pub later : IsLater old.panel (bank_after outcome).panel
   pub first : (array : ArrayView) → outcome ≡ Opened array → IsFirstTable id geometry array.table
   pub number : (array : ArrayView) → outcome ≡ Opened array → array.number ≡ 0
   pub its_slots : (array : ArrayView) → outcome ≡ Opened array → HasItsSlots array.table array.panel
-  pub rests : honest → IsQuietBehind id (geometry.members + 2) old → (array : ArrayView) → outcome ≡ Opened array → RestsOn array None (zeros_of geometry)
+  pub rests : honest → IsQuietBeyond id (geometry.members + 2) old → (array : ArrayView) → outcome ≡ Opened array → RestsOn array None (zeros_of geometry)
   pub cause : (bank : BankView) (refusal : Refusal) → outcome ≡ Returned bank refusal → IsNoMake geometry bank.panel refusal
 
 -- a superblock counts that carries this table
@@ -96,6 +96,6 @@ pub record FindsTable (honest : Type 0) (id : List ℕ) (old new : BankView) (an
   pub fits : (table : Table) → answer ≡ Ok (Some table) → (table.id ≡ id) × (slots_of table ≤ new.panel.devices)
   pub reads : honest → HasRead old.history new.history
   pub carried : honest → (table : Table) → answer ≡ Ok (Some table) → IsCarried id new.panel.devices (readable old.history) table
-  pub chosen : honest → NoneFell old.panel new.panel → (table : Table) → answer ≡ Ok (Some table) → IsChosen id new.panel.devices (readable new.history) table
-  pub none : honest → NoneFell old.panel new.panel → answer ≡ Ok None → (slot : ℕ) → HasNone id new.panel.devices slot (readable new.history slot)
+  pub chosen : honest → NoDeviceFailed old.panel new.panel → (table : Table) → answer ≡ Ok (Some table) → IsChosen id new.panel.devices (readable new.history) table
+  pub none : honest → NoDeviceFailed old.panel new.panel → answer ≡ Ok None → (slot : ℕ) → HasNone id new.panel.devices slot (readable new.history slot)
   pub cause : (refusal : Refusal) → answer ≡ Err refusal → (refusal ≡ Worn) × (GREATEST_COUNT ≤ new.panel.calls)

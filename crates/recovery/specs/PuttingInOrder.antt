@@ -16,7 +16,7 @@ use Rattle.recovery.specs.Assembling.{AssemblesTo}
 use Rattle.recovery.specs.Making.{BankView, IsCarried, Opened, Outcome}
 use Rattle.recovery.specs.Unwritten.{RefusesUnwritten}
 
--- The superblocks are in order by this table: nothing is pending, and all cases that a stop now may leave hold for X; reads choose the table; what
+-- The superblocks are in order by this table: nothing is pending, and all cases that a crash now may leave hold for X; reads choose the table; what
 -- it doesn't call missing is there; and where it is complete, reads of each slot give it.
 pub record IsInOrderBy (base table : Table) (devices : ℕ) (lost : Option Lost) (X : List (List Bytes)) (h : History) : Type 0 where
   pub nothing_pending : NothingPending h

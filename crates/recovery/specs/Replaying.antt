@@ -7,14 +7,14 @@ use Rattle.sector_model.specs.Readable.{readable}
 use Rattle.layout_map.specs.declared.sizes.TheConstants.{HALVES}
 use Rattle.superblock.specs.declared.table.Table.{Table}
 use Rattle.superblock.specs.Cases.{HasNone}
-use Rattle.superblock.specs.Losses.{IsOneLoss}
+use Rattle.superblock.specs.Losses.{IsSingleFailure}
 use Rattle.superblock.specs.NextTables.{IsComplete, slots_of}
 use Rattle.stripe_journal.specs.declared.entry.Entry.{Entry}
 use Rattle.stripe_journal.specs.declared.seal.Seal.{Seal}
 use Rattle.stripe_journal.specs.LastEntry.{IsLastSealed}
 use Rattle.stripe_journal.specs.LastSealed.{Belongs}
 use Rattle.array_io.specs.Believed.ArrayCalls.{Answer}
-use Rattle.array_io.specs.Believed.Views.{ArrayView, GoesOn, HasEnded, StaysButForFalls}
+use Rattle.array_io.specs.Believed.Views.{ArrayView, GoesOn, HasEnded, StaysButForFailures}
 use Rattle.array_io.specs.Steps.Bringing.{CarriesAll, CountsOn}
 use Rattle.array_io.specs.Steps.CallSteps.{IsStepEnd, StaysDown}
 use Rattle.array_io.specs.Steps.Putting.{Awaited, Copied, HasSeal, HoldsAll, IsComing, IsPut, MayWrite, Progress, PutsFrom, reached}
@@ -32,7 +32,7 @@ BringsTo honest before after old new result = Brings honest before (λ from tabl
 
 -- a journal of the set on which the table counts
 pub record IsJournalOn (table : Table) (journal : ℕ) : Type 0 where
-  pub behind : table.geometry.members ≤ journal
+  pub beyond : table.geometry.members ≤ journal
   pub counted : CountsOn table journal
 
 -- the seal is one of the set
@@ -89,7 +89,7 @@ IsLatestBy first (Some lower) (Some upper) result = IsSomeSuch result (IsLaterOf
 
 -- another journal of the set than this one
 pub record IsOtherJournal (table : Table) (journal other : ℕ) : Type 0 where
-  pub behind : table.geometry.members ≤ other
+  pub beyond : table.geometry.members ≤ other
   pub of_set : other < slots_of table
   pub apart : other ≢ journal
 
@@ -127,10 +127,10 @@ progress_beside false = Awaited
 abbrev pub progress_of : Latest → ℕ → Progress
 progress_of latest = reached (λ k. progress_beside (is_on_both latest)) latest.source HasSeal
 
--- the journal that lags, if one does on which the table counts
-abbrev pub IsLagging : Table → Latest → Option ℕ → Type 0
-IsLagging table latest None = (journal : ℕ) → IsJournalOn table journal → journal ≢ latest.source → is_on_both latest ≡ true
-IsLagging table latest (Some journal) = IsOtherJournal table latest.source journal × (is_on_both latest ≡ false)
+-- the stale journal, if there is one on which the table counts
+abbrev pub IsStaleJournal : Table → Latest → Option ℕ → Type 0
+IsStaleJournal table latest None = (journal : ℕ) → IsJournalOn table journal → journal ≢ latest.source → is_on_both latest ≡ true
+IsStaleJournal table latest (Some journal) = IsOtherJournal table latest.source journal × (is_on_both latest ≡ false)
 
 -- The last entry is the one of the journal that has it, and on the other one the last is what stands beside.
 pub record IsLatestOn (latest : Latest) (from : PutsFrom) (table : Table) (h : History) : Type 0 where
@@ -160,11 +160,11 @@ pub record MayReplay (from : PutsFrom) (table : Table) (h : History) : Type 0 wh
 -- Bringing the last entry onto the journals and members that lack it. 15, 16.
 pub record SettlesEntry (honest : Type 0) (old new : ArrayView) (result : Result ℕ Refusal) : Type 0 where
   pub goes_on : GoesOn old new
-  pub stays : StaysButForFalls honest old new (HasEnded result)
+  pub stays : StaysButForFailures honest old new (HasEnded result)
   pub moments : honest → (from : PutsFrom) → MayReplay from old.table old.history → Throughout (HoldsAll from) old.history new.history
   -- the run went on from the one to the other, and what was down stays so
   pub runs : honest → Throughout (StaysDown old.history) old.history new.history
-  pub reached : honest → (number : ℕ) → result ≡ Ok number → (from : PutsFrom) → MayReplay from old.table old.history → IsOneLoss (slots_of from.base) from.lost new.history
+  pub reached : honest → (number : ℕ) → result ≡ Ok number → (from : PutsFrom) → MayReplay from old.table old.history → IsSingleFailure (slots_of from.base) from.lost new.history
       → MayReplay from new.table new.history × IsPut number from new.table new.history
   pub cause : (refusal : Refusal) → result ≡ Err refusal → IsStepEnd old new refusal
   -- where no superblock of the set counts at Ok, none did before

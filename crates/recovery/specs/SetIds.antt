@@ -11,7 +11,7 @@ use Rattle.sector_model.specs.Reads.{HasRead}
 use Rattle.superblock.specs.declared.table.Superblock.{Superblock}
 use Rattle.superblock.specs.Counted.{Content, Counts}
 use Rattle.superblock.specs.Newest.{CountsIn}
-use Rattle.array_io.specs.Believed.ReadWhole.{NoneFell}
+use Rattle.array_io.specs.Believed.ReadWhole.{NoDeviceFailed}
 use Rattle.recovery.specs.Making.{BankView}
 
 -- an id as a number, its first byte the greatest: ids rise as their texts do
@@ -51,7 +51,7 @@ pub record ReadsId (honest : Type 0) (devices slot place : ℕ) (old new : BankV
   pub reads : honest → HasRead old.history new.history
   pub counts : honest → (id : List ℕ) → answer ≡ Ok (Some id)
       → (superblock : Superblock) × Counts id devices slot (readable old.history slot) place superblock
-  pub only : honest → NoneFell old.panel new.panel → (found : Option (List ℕ)) → answer ≡ Ok found
+  pub only : honest → NoDeviceFailed old.panel new.panel → (found : Option (List ℕ)) → answer ≡ Ok found
       → (id : List ℕ) (superblock : Superblock) → Counts id devices slot (readable old.history slot) place superblock → found ≡ Some id
   pub cause : (refusal : Refusal) → answer ≡ Err refusal → (refusal ≡ Worn) × (GREATEST_COUNT ≤ new.panel.calls)
 
@@ -69,7 +69,7 @@ pub record FindsLeast (honest : Type 0) (above best : Option (List ℕ)) (MayBe 
   pub reads : honest → HasRead old.history new.history
   pub one : honest → (id : List ℕ) → answer ≡ Ok (Some id) → (best ≡ Some id) ⊎ (MayBe (readable old.history) id × IsAbove above id)
   pub kept : (found : Option (List ℕ)) → answer ≡ Ok found → (id : List ℕ) → IsAtMost best id → IsAtMost found id
-  pub least : honest → NoneFell old.panel new.panel → (found : Option (List ℕ)) → answer ≡ Ok found
+  pub least : honest → NoDeviceFailed old.panel new.panel → (found : Option (List ℕ)) → answer ≡ Ok found
       → (id : List ℕ) → MayBe (readable old.history) id → IsAbove above id → IsAtMost found id
   pub cause : (refusal : Refusal) → answer ≡ Err refusal → (refusal ≡ Worn) × (GREATEST_COUNT ≤ new.panel.calls)
 

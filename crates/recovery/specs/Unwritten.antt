@@ -13,9 +13,9 @@ use Rattle.recovery.specs.declared.survey.Out.TheVariants as out
 use Rattle.recovery.specs.Making.{BankView, Outcome, Returned, bank_after}
 use Rattle.recovery.specs.Surveying.{IsOutOf}
 
--- no device fell from the one moment to the other
-abbrev pub NoneFellIn : (old new : History) → Type 0
-NoneFellIn old new = (device : ℕ) → is_down new device ≡ true → is_down old device ≡ true
+-- no device failed from the one moment to the other
+abbrev pub NoDeviceFailedIn : (old new : History) → Type 0
+NoDeviceFailedIn old new = (device : ℕ) → is_down new device ≡ true → is_down old device ≡ true
 
 -- two slots of the set are lost, by the table that reads of a bank choose
 pub record HasTwoLost (honest : Type 0) (id : List ℕ) (bank : BankView) : Type 0 where
@@ -33,7 +33,7 @@ pub record IsRefusedFor (reason : Refusal) (old : BankView) (outcome : Outcome) 
   pub why : (refusal ≡ reason) ⊎ ((refusal ≡ Worn) × (GREATEST_COUNT ≤ bank.panel.calls))
   pub reads : HasRead old.history bank.history
 
--- For what assembling is refused before it writes: that two slots are lost from the start on, if no device falls in it; and that no superblock counts.
+-- For what assembling is refused before it writes: that two slots are lost from the start on, if no device fails in it; and that no superblock counts.
 pub record RefusesUnwritten (honest : Type 0) (id : List ℕ) (old : BankView) (outcome : Outcome) : Type 0 where
-  pub two_lost : honest → HasTwoLost honest id old → NoneFellIn old.history (bank_after outcome).history → IsRefusedFor TwoLost old outcome
+  pub two_lost : honest → HasTwoLost honest id old → NoDeviceFailedIn old.history (bank_after outcome).history → IsRefusedFor TwoLost old outcome
   pub none : honest → ((slot : ℕ) → HasNone id old.panel.devices slot (readable old.history slot)) → IsRefusedFor NoSet old outcome

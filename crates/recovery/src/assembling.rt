@@ -1,4 +1,4 @@
-//! Assembling a set after a stop.
+//! Assembling a set after a crash.
 ghost use Rattle.std.specs.Prelude.{◌≡◌, ◌↔◌, ◌≤◌, ◌<◌, IfOk, IfErr};
 ghost use Rattle.array_io.specs.Believed.Views.{HasItsSlots};
 ghost use Rattle.array_io.specs.Believed.OpenArray.{IsHonest};
@@ -8,16 +8,16 @@ ghost use Rattle.recovery.specs.SeenBank.{bank_seen, ended_as, given_back_as, op
 ghost use Rattle.recovery.specs.Unwritten.{RefusesUnwritten};
 
 use crate::Returned;
-use crate::lagging::bring_up;
 use crate::replaying::settle_entry;
-use crate::survey::{Out, survey_bank, who_is_out};
+use crate::stale_superblocks::bring_up;
+use crate::survey::{Out, missing_slots, survey_bank};
 use array_io::{Array, mark_slot};
 use sector_model::{Bank, Refusal, Stop};
 use stripe_journal::Entry;
 use superblock::Table;
 
 /// Assembles the set of this id: reads which table its superblocks choose, and which slots that table counts on are
-/// there; marks the one missing that is not; brings up lagging superblocks where all are there; and then brings the last
+/// there; marks the one missing that is not; brings up stale superblocks where all are there; and then brings the last
 /// entry of the journals onto the journal and the members that lack it. A slot whose device goes down meanwhile is marked
 /// missing too. `entry` is where the array holds entries.
 ///
@@ -78,7 +78,7 @@ fn put_in_order<B: Bank>(bank: &mut B, id: &[u8; 16]) -> Result<Table, Refusal>
         return Err(Refusal::NoSet);
     };
     let mut table = survey.table;
-    match who_is_out(bank, &survey) {
+    match missing_slots(bank, &survey) {
         Out::Nobody => match bring_up(bank, &table) {
             Ok(()) => Ok(table),
             Err(Stop::Worn) => Err(Refusal::Worn),
@@ -96,8 +96,8 @@ fn put_in_order<B: Bank>(bank: &mut B, id: &[u8; 16]) -> Result<Table, Refusal>
 }
 
 #[cfg(test)]
-mod forged;
+mod crashes;
 #[cfg(test)]
-mod stops;
+mod forged;
 #[cfg(test)]
 mod tests;

@@ -1,4 +1,4 @@
-//! What a look at a set finds.
+//! What an inspection of a set finds.
 ghost use Rattle.std.specs.Prelude.{◌≡◌, ◌≤◌, ◌<◌, ◌+◌, length};
 
 use superblock::Table;
@@ -35,7 +35,7 @@ pub enum Standing {
     HigherIncarnation,
 }
 
-/// What a look finds in a slot.
+/// What an inspection finds in a slot.
 #[derive(Clone, Copy, Debug, PartialEq, Eq)]
 pub struct ExaminedSlot {
     /// Whether its device is there.
@@ -63,12 +63,12 @@ pub enum Outlook {
     TwoLost,
 }
 
-/// What a look at a set finds.
+/// What an inspection of a set finds.
 #[derive(Clone, Copy)]
 pub struct Examined {
     /// The table that its superblocks choose.
     pub table: Table,
-    /// What each slot of the set has; behind the second journal nothing is read.
+    /// What each slot of the set has; after the second journal nothing is read.
     pub slots: [ExaminedSlot; 10],
     /// The number of the last entry of each journal, 0 where it has none; `None` where its seals can't be read.
     pub last: [Option<u64>; 2],

@@ -1,4 +1,4 @@
-//! Looking at a set without a write.
+//! Inspecting a set without a write.
 ghost use Rattle.std.specs.Prelude.{◌≡◌, ◌≢◌, ◌↔◌, ◌≤◌, ◌<◌, ◌+◌, ℕ, length, IfErr, IfOk};
 ghost use Rattle.sector_model.specs.Bank.{IsLater};
 ghost use Rattle.sector_model.specs.Reads.{HasRead};
@@ -11,7 +11,7 @@ ghost use Rattle.recovery.specs.Examining.{AreExaminedSlots, AreLastNumbers, Exa
 ghost use Rattle.recovery.specs.Surveying.{IsGone, IsSurveyOf};
 ghost use Rattle.recovery.specs.SeenBank.{bank_seen};
 
-use crate::survey::{Out, Survey, is_gone, presence_of, survey_bank, who_is_out};
+use crate::survey::{Out, Survey, is_gone, missing_slots, presence_of, survey_bank};
 use crate::{Examined, ExaminedSlot, Outlook, Presence, Standing};
 use sector_model::{Bank, Refusal, Stop};
 use stripe_journal::{Seal, last_sealed};
@@ -25,7 +25,7 @@ const UNEXAMINED: ExaminedSlot = ExaminedSlot {
     standing: Standing::NotThere,
 };
 
-/// Looks at the set of this id, by reads of superblocks and seals alone: which table its superblocks choose, what each of
+/// Inspects the set of this id, by reads of superblocks and seals alone: which table its superblocks choose, what each of
 /// its slots has, and what assembling it would do now. `None` where no superblock of this id counts; `Worn` where the
 /// count of device calls stands at 2^62.
 pub fn examine<B: Bank>(bank: &mut B, id: &[u8; 16]) -> Result<Option<Examined>, Refusal>
@@ -126,7 +126,7 @@ fn outlook_of<B: Bank>(bank: &B, survey: &Survey) -> Outlook
     requires { IsSurveyOf (B.honest bank.now) (bank_seen B.Bank bank.now) survey.now }
     ensures { IsOutlook (B.honest bank.now) (bank_seen B.Bank bank.now) survey.now.table result }
 {
-    match who_is_out(bank, survey) {
+    match missing_slots(bank, survey) {
         Out::Nobody => outlook_by(&survey.table),
         Out::One(slot) => Outlook::WouldMark(slot),
         Out::Two(_, _) => Outlook::TwoLost,
@@ -163,7 +163,7 @@ fn last_numbers<B: Bank>(bank: &mut B, table: &Table) -> Result<[Option<u64>; 2]
 // The number of the last entry of a journal of the set, by reads: 0 where it has none, `None` where its seals can't be
 // read.
 fn last_number<B: Bank>(bank: &mut B, table: &Table, journal: u8) -> Result<Option<u64>, Refusal>
-    requires behind { table.now.geometry.members ≤ journal }
+    requires beyond { table.now.geometry.members ≤ journal }
     requires of_set { journal < slots_of table.now }
     requires device { journal < (B.panel bank.old).devices }
     ensures honest { B.honest bank.old ↔ B.honest bank.new }

@@ -9,9 +9,9 @@ ghost use Rattle.array_io.specs.Believed.Views.{HasItsSlots};
 ghost use Rattle.array_io.specs.Steps.MarkingOn.{AreOthersInSync, IsOutBeside};
 ghost use Rattle.array_io.specs.Steps.Putting.{MayWrite};
 ghost use Rattle.array_io.specs.Steps.PuttingSteps.{HasItsRows};
-ghost use Rattle.recovery.specs.Replaying.{BringsTo, IsFound, IsFoundIn, IsFoundOn, IsLagging, IsLaterOf, IsLatestBeside, IsLatestBy, IsLatestOf, IsLatestOn, IsLoaded, IsOtherJournal, Known, KnowsSeals, also_known, is_on_both};
+ghost use Rattle.recovery.specs.Replaying.{BringsTo, IsFound, IsFoundIn, IsFoundOn, IsStaleJournal, IsLaterOf, IsLatestBeside, IsLatestBy, IsLatestOf, IsLatestOn, IsLoaded, IsOtherJournal, Known, KnowsSeals, also_known, is_on_both};
 
-use array_io::{done_or_mark, load_entry};
+use array_io::{done_or_fail_slot, load_entry};
 use sector_model::{Bank, Refusal};
 use stripe_journal::{Entry, Seal, last_sealed};
 use superblock::{State, Table};
@@ -47,8 +47,8 @@ pub(crate) fn latest_entry<B: Bank>(
         (array_on B.Bank bank.old table.old number) (array_on B.Bank bank.new table.new number) result }
 {
     let first = table.geometry.members;
-    let lower = seal_or_mark(bank, table, first)?;
-    let upper = seal_or_mark(bank, table, first + 1)?;
+    let lower = seal_or_fail_slot(bank, table, first)?;
+    let upper = seal_or_fail_slot(bank, table, first + 1)?;
     match latest_of(first, lower, upper) {
         Some(latest) => load_latest(bank, table, latest, entry),
         None => Ok(None),
@@ -56,9 +56,9 @@ pub(crate) fn latest_entry<B: Bank>(
 }
 
 /// The slot of the journal that lacks the last entry, if one does on which the table counts.
-pub(crate) fn lagging(table: &Table, latest: &Latest) -> Option<u8>
+pub(crate) fn stale_journal(table: &Table, latest: &Latest) -> Option<u8>
     requires { IsLatestOf table.now latest.now }
-    ensures { IsLagging table.now latest.now result }
+    ensures { IsStaleJournal table.now latest.now result }
 {
     let other = journal_beside(table, latest.source);
     if table.states[other as usize] == State::Missing || has_it_too(latest) {
@@ -88,14 +88,14 @@ fn journal_beside(table: &Table, journal: u8) -> u8
 
 // The last seal of a journal, by reads; `None` where none counts, where the table calls the journal missing, or where its
 // device goes down and it is marked missing. Refused as `latest_entry` is.
-fn seal_or_mark<B: Bank>(
+fn seal_or_fail_slot<B: Bank>(
     bank: &mut B,
     table: &mut Table,
     journal: u8,
 ) -> Result<Option<Seal>, Refusal>
     requires its_slots { HasItsSlots table.old (B.panel bank.old) }
     requires of_set { journal < slots_of table.old }
-    requires behind { table.old.geometry.members ≤ journal }
+    requires beyond { table.old.geometry.members ≤ journal }
     ensures honest { B.honest bank.old ↔ B.honest bank.new }
     ensures its_slots { HasItsSlots table.new (B.panel bank.new) }
     ensures geometry { table.new.geometry ≡ table.old.geometry }
@@ -112,7 +112,7 @@ fn seal_or_mark<B: Bank>(
     match last_sealed(bank, journal, &id, &geometry) {
         Ok(last) => Ok(last),
         Err(stop) => {
-            done_or_mark(bank, table, journal, Err(stop))?;
+            done_or_fail_slot(bank, table, journal, Err(stop))?;
             Ok(None)
         }
     }
@@ -176,7 +176,7 @@ fn load_latest<B: Bank>(
     ensures loads { (number : ℕ) → BringsTo (B.honest bank.old) (IsLatestOn latest) (IsFound (body_of table.old.geometry.members entry.new))
         (array_on B.Bank bank.old table.old number) (array_on B.Bank bank.new table.new number) result }
 {
-    if load_or_mark(bank, table, &latest, entry)? {
+    if load_or_fail_slot(bank, table, &latest, entry)? {
         return Ok(Some(latest));
     }
     match latest_beside(table, latest) {
@@ -217,7 +217,7 @@ fn load_alone<B: Bank>(
     ensures loads { (number : ℕ) → BringsTo (B.honest bank.old) (IsLatestOn latest) (IsFound (body_of table.old.geometry.members entry.new))
         (array_on B.Bank bank.old table.old number) (array_on B.Bank bank.new table.new number) result }
 {
-    if load_or_mark(bank, table, &latest, entry)? {
+    if load_or_fail_slot(bank, table, &latest, entry)? {
         Ok(Some(latest))
     } else {
         Err(Refusal::TwoLost)
@@ -226,7 +226,7 @@ fn load_alone<B: Bank>(
 
 // Loads the last entry from the journal that has it; `false` where that goes down and is marked missing. Refused as
 // `latest_entry` is.
-fn load_or_mark<B: Bank>(
+fn load_or_fail_slot<B: Bank>(
     bank: &mut B,
     table: &mut Table,
     latest: &Latest,
@@ -246,7 +246,7 @@ fn load_or_mark<B: Bank>(
     match load_entry(bank, latest.source, &geometry, &latest.seal, entry) {
         Ok(()) => Ok(true),
         Err(stop) => {
-            done_or_mark(bank, table, latest.source, Err(stop))?;
+            done_or_fail_slot(bank, table, latest.source, Err(stop))?;
             Ok(false)
         }
     }

@@ -7,7 +7,7 @@ ghost use Rattle.array_io.specs.Believed.Views.{HasItsSlots};
 ghost use Rattle.array_io.specs.Believed.OpenArray.{IsHonest};
 ghost use Rattle.superblock.specs.NextTables.{slots_of};
 ghost use Rattle.recovery.specs.Clearing.{IsStopIn, IsUsable};
-ghost use Rattle.recovery.specs.Making.{IsFirstTable, IsNoMake, IsQuietBehind, Makes};
+ghost use Rattle.recovery.specs.Making.{IsFirstTable, IsNoMake, IsQuietBeyond, Makes};
 ghost use Rattle.recovery.specs.SeenBank.{bank_seen, given_back_as, opened_as};
 
 mod clearing;
@@ -25,7 +25,7 @@ use superblock::{State, Table, least_of, publish};
 /// generation 1 with all slots in sync and incarnation 1. The new set's logical sectors are all zero.
 ///
 /// `BadGeometry` where the bank has fewer slots; `NotUsable` where one of the set's devices is down, goes down in the
-/// call, or is too short; `Worn` where the count of device calls stands at 2^62. After a refusal, as after a stop
+/// call, or is too short; `Worn` where the count of device calls stands at 2^62. After a refusal, as after a crash
 /// within the call, nothing is promised of a set on these devices; the bank is given back as it stands, and the entry
 /// is given up.
 pub fn make<B: Bank>(
@@ -78,7 +78,7 @@ fn put_set<B: Bank>(bank: &mut B, table: &Table) -> Result<(), Refusal>
     ensures panel { IsLater (B.panel bank.old) (B.panel bank.new) }
     ensures honest { B.honest bank.old ↔ B.honest bank.new }
     ensures its_slots { OnOk result (HasItsSlots table.now (B.panel bank.new)) }
-    ensures rests { B.honest bank.old → IsQuietBehind table.now.id (slots_of table.now) (bank_seen B.Bank bank.old)
+    ensures rests { B.honest bank.old → IsQuietBeyond table.now.id (slots_of table.now) (bank_seen B.Bank bank.old)
         → OnOk result
         (IsSettled (B.panel bank.new).devices table.now 0 (B.history bank.new) None (zeros_of table.now.geometry)) }
     ensures cause { IfErr result (IsNoMake table.now.geometry (B.panel bank.new)) }
@@ -114,7 +114,7 @@ fn write_set<B: Bank>(bank: &mut B, table: &Table) -> Result<(), Stop>
     requires usable { IsUsable table.now.geometry (B.panel bank.old) }
     ensures panel { IsLater (B.panel bank.old) (B.panel bank.new) }
     ensures honest { B.honest bank.old ↔ B.honest bank.new }
-    ensures rests { B.honest bank.old → IsQuietBehind table.now.id (slots_of table.now) (bank_seen B.Bank bank.old)
+    ensures rests { B.honest bank.old → IsQuietBeyond table.now.id (slots_of table.now) (bank_seen B.Bank bank.old)
         → OnOk result
         (IsSettled (B.panel bank.new).devices table.now 0 (B.history bank.new) None (zeros_of table.now.geometry)) }
     ensures err { IfErr result (IsStopIn (slots_of table.now) (B.panel bank.new)) }

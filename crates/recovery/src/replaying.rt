@@ -7,7 +7,7 @@ ghost use Rattle.array_io.specs.Steps.Putting.{Copied, IsComing, IsPutBefore};
 ghost use Rattle.array_io.specs.Steps.PuttingSteps.{Brings};
 ghost use Rattle.recovery.specs.Replaying.{IsLatestOf, SettlesEntry, progress_of};
 
-use crate::latest::{Latest, lagging, latest_entry};
+use crate::latest::{Latest, latest_entry, stale_journal};
 use array_io::{put_on_journal, put_on_members};
 use sector_model::{Bank, Refusal};
 use stripe_journal::Entry;
@@ -34,13 +34,13 @@ pub(crate) fn settle_entry<B: Bank>(
     let Some(latest) = latest_entry(bank, table, entry)? else {
         return Ok(0);
     };
-    copy_to_lagging(bank, table, &latest, entry)?;
+    copy_to_stale_journal(bank, table, &latest, entry)?;
     put_on_members(bank, table, &latest.seal, entry)?;
     Ok(latest.seal.number)
 }
 
-// Puts the last entry on the journal that lags, if one does. Refused as `settle_entry` is.
-fn copy_to_lagging<B: Bank>(
+// Puts the last entry on the stale journal, if there is one. Refused as `settle_entry` is.
+fn copy_to_stale_journal<B: Bank>(
     bank: &mut B,
     table: &mut Table,
     latest: &Latest,
@@ -55,7 +55,7 @@ fn copy_to_lagging<B: Bank>(
         (IsPutBefore 0 latest.now.seal (body_of table.old.geometry.members entry.now))
         (array_on B.Bank bank.old table.old number) (array_on B.Bank bank.new table.new number) result }
 {
-    match lagging(table, latest) {
+    match stale_journal(table, latest) {
         Some(journal) => put_on_journal(bank, table, &latest.seal, entry, journal),
         None => Ok(()),
     }

@@ -9,7 +9,7 @@ ghost use Rattle.recovery.specs.SeenBank.{bank_seen};
 
 use crate::Presence;
 use crate::find::newest_at;
-use crate::lagging::is_in;
+use crate::stale_superblocks::is_in;
 use sector_model::{Bank, Refusal};
 use superblock::{State, Superblock, Table, least_of, newer};
 
@@ -102,7 +102,7 @@ fn generation_in(newest: &Option<Superblock>) -> u64
 }
 
 /// Which slots that the surveyed table counts on are not there: down, too short, or of another incarnation.
-pub(crate) fn who_is_out<B: Bank>(bank: &B, survey: &Survey) -> Out
+pub(crate) fn missing_slots<B: Bank>(bank: &B, survey: &Survey) -> Out
     requires surveyed { IsSurveyOf (B.honest bank.now) (bank_seen B.Bank bank.now) survey.now }
     ensures { IsOutOf (B.honest bank.now) (bank_seen B.Bank bank.now) survey.now.table result }
 {

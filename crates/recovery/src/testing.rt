@@ -54,7 +54,7 @@ pub(crate) fn devices(rt: &(impl Abort + AllocGlobal), sectors: &[usize], byte: 
 }
 
 /// A plan by which these slots go down, each at its first call of this number or above.
-pub(crate) fn falls_at(rt: &impl Abort, slots: &[u8], call: u64) -> Plan {
+pub(crate) fn fails_at(rt: &impl Abort, slots: &[u8], call: u64) -> Plan {
     let mut plan = Plan::NONE;
     for slot in slots {
         assert!(rt; *slot < 10);
@@ -156,27 +156,27 @@ pub(crate) fn assembled(rt: &(impl Abort + AllocGlobal), image: Image) -> Array<
 }
 
 /// What assembling the set on these devices answers, of which a slot goes down at its first call of this number or above.
-pub(crate) fn answer_falling(
+pub(crate) fn answer_failing(
     rt: &(impl Abort + AllocGlobal),
     image: Image,
     slot: u8,
     call: u64,
 ) -> Result<Array<MemBank>, Returned<MemBank>> {
-    answer(rt, image, falls_at(rt, &[slot], call), ID)
+    answer(rt, image, fails_at(rt, &[slot], call), ID)
 }
 
 /// The array of such an answer.
-pub(crate) fn assembled_falling(
+pub(crate) fn assembled_failing(
     rt: &(impl Abort + AllocGlobal),
     image: Image,
     slot: u8,
     call: u64,
 ) -> Array<MemBank> {
-    array_of(rt, answer_falling(rt, image, slot, call))
+    array_of(rt, answer_failing(rt, image, slot, call))
 }
 
-/// The image of a stop after so many calls.
-pub(crate) fn stopped(
+/// The image of a crash after so many calls.
+pub(crate) fn crashed(
     rt: &(impl Abort + AllocGlobal),
     bank: &MemBank,
     call: u64,
@@ -187,12 +187,12 @@ pub(crate) fn stopped(
         .expect(rt, "memory")
 }
 
-/// The image of a stop now.
+/// The image of a crash now.
 pub(crate) fn image_now(rt: &(impl Abort + AllocGlobal), bank: &MemBank, choice: Choice) -> Image {
-    stopped(rt, bank, bank.now(), choice)
+    crashed(rt, bank, bank.now(), choice)
 }
 
-/// The image of a stop after so many calls, without the device of a slot where it is one of the set's.
+/// The image of a crash after so many calls, without the device of a slot where it is one of the set's.
 pub(crate) fn left(
     rt: &(impl Abort + AllocGlobal),
     bank: &MemBank,
@@ -200,7 +200,7 @@ pub(crate) fn left(
     choice: Choice,
     absent: usize,
 ) -> Image {
-    let mut image = stopped(rt, bank, call, choice);
+    let mut image = crashed(rt, bank, call, choice);
     if absent < image.slots.len() {
         take(rt, &mut image, absent);
     }

@@ -3,7 +3,7 @@ pub mod CommandLemmas
 pub mod FieldLemmas
 pub mod KeepLemmas
 pub mod LineLemmas
-pub mod LookLemmas
+pub mod InspectionLemmas
 pub mod Members
 pub mod NumberLemmas
 pub mod Padding

@@ -8,9 +8,9 @@ use Rattle.rebuild.specs.Rebuilding.{steps_left}
 use Rattle.volume_table.specs.declared.status.Status.{Status}
 use Rattle.report.specs.Report.{IsRebuildingSlot, left}
 
-true_behind : (b rest : Bool) → rest ≡ true → (b || rest) ≡ true
-true_behind true rest is = refl
-true_behind false rest is = is
+true_after : (b rest : Bool) → rest ≡ true → (b || rest) ≡ true
+true_after true rest is = refl
+true_after false rest is = is
 
 -- one of the first states is that of a rebuilding slot
 some_rebuilding : (states : List State) (few slot : ℕ) → slot < few → state_at states slot ≡ Rebuilding → has_rebuilding (take few states) ≡ true
@@ -18,7 +18,7 @@ some_rebuilding [] few slot below is = absurd (cc)
 some_rebuilding (state ∷ states) zero slot below is = absurd (omega (arith, below))
 some_rebuilding (state ∷ states) (suc few) zero below is = ap (λ (s : State). is_rebuilding s || has_rebuilding (take few states)) is
 some_rebuilding (state ∷ states) (suc few) (suc slot) below is =
-    true_behind (is_rebuilding state) (has_rebuilding (take few states)) (some_rebuilding states few slot (omega (arith, below)) is)
+    true_after (is_rebuilding state) (has_rebuilding (take few states)) (some_rebuilding states few slot (omega (arith, below)) is)
 
 -- or none of them is
 none_rebuilding : (states : List State) (few : ℕ) → ((slot : ℕ) → slot < few → state_at states slot ≢ Rebuilding) → has_rebuilding (take few states) ≡ false

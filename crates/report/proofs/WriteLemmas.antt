@@ -24,9 +24,9 @@ AppendsPart-front old new first second h =
       written = h.written;
     }
 
--- a part of the second piece behind the whole first is a part of both
-pub AppendsPart-behind : (old mid new : Option (List ℕ)) (first second : List ℕ) → Appends old mid first → AppendsPart mid new second → AppendsPart old new (first ++ second)
-AppendsPart-behind old mid new first second done h = record {
+-- a part of the second piece after the whole first is a part of both
+pub AppendsPart-after : (old mid new : Option (List ℕ)) (first second : List ℕ) → Appends old mid first → AppendsPart mid new second → AppendsPart old new (first ++ second)
+AppendsPart-after old mid new first second done h = record {
   part = first ++ h.part;
   is_part = record {
     rest = h.is_part.rest;
@@ -44,7 +44,7 @@ AppendsPart-none old new text some kept = record {
   written = Appends-kept old old new [] (Appends-nil old) kept;
 }
 
--- the bytes of a front, those of the item behind it, and the others
+-- the bytes of a front, those of the item after it, and the others
 flat_map-split : {X : Type 0} (f : X → List ℕ) (xs : List X) (i : ℕ) (d : X) → i < length xs
     → flat_map f xs ≡ flat_map f (take i xs) ++ (f (get_or xs i d) ++ flat_map f (drop (suc i) xs))
 flat_map-split f xs i d within =
@@ -56,4 +56,4 @@ pub AppendsPart-item : {X : Type 0} (f : X → List ℕ) (old mid new : Option (
     → Appends old mid (flat_map f (take i xs)) → AppendsPart mid new (f (get_or xs i d)) → AppendsPart old new (flat_map f xs)
 AppendsPart-item f old mid new xs i d within before part =
     subst (AppendsPart old new) (sym (flat_map-split f xs i d within))
-    (AppendsPart-behind old mid new _ _ before (AppendsPart-front mid new _ (flat_map f (drop (suc i) xs)) part))
+    (AppendsPart-after old mid new _ _ before (AppendsPart-front mid new _ (flat_map f (drop (suc i) xs)) part))

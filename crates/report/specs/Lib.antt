@@ -2,7 +2,7 @@ pub mod Fields
 pub mod Grammar
 pub mod Kept
 pub mod Lines
-pub mod Looks
+pub mod Inspections
 pub mod Replies
 pub mod Report
 pub mod Script

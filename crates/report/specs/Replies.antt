@@ -28,9 +28,9 @@ refusal_line refusal = codes "refused " ++ decimal (number_of refusal) ++ 32 ∷
 abbrev pub made_line : List ℕ
 made_line = codes "made" ++ 10 ∷ []
 
--- a line that names the file of a slot: words before the name, and what stands behind it
-abbrev pub slot_line : (before : List ℕ) (slot : ℕ) (behind : List ℕ) → List ℕ
-slot_line before slot behind = before ++ codes "dev" ++ decimal slot ++ codes ".img" ++ behind ++ 10 ∷ []
+-- a line that names the file of a slot: words before the name, and what stands after it
+abbrev pub slot_line : (before : List ℕ) (slot : ℕ) (after : List ℕ) → List ℕ
+slot_line before slot after = before ++ codes "dev" ++ decimal slot ++ codes ".img" ++ after ++ 10 ∷ []
 
 -- how many steps of 64 rows are left at a position of so many rows
 abbrev pub left_text : (position rows : ℕ) → List ℕ

@@ -20,7 +20,7 @@ state_word Rebuilding = codes "rebuilding"
 abbrev pub role_word : ℕ → ℕ → List ℕ
 role_word members slot = if nat_lt slot members then codes "member" else codes "journal"
 
--- a text at the left of so many places, with spaces behind it
+-- a text at the left of so many places, with spaces after it
 unfoldable pub at_left : ℕ → List ℕ → List ℕ
 at_left places text = text ++ replicate (places - length text) 32
 

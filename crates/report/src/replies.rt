@@ -61,19 +61,19 @@ pub fn write_made<W: Write>(writer: &mut W) -> Result<(), Refusal>
 }
 
 /// Writes a line that names the file of a slot, `cannot make dev3.img` or `in use dev3.img`: the words before the name, `dev3.img` with the number of the
-/// slot, what stands behind it, and a newline, in one call of `write` where the writer takes it whole. The words and what stands behind have 80 bytes at
+/// slot, what stands after it, and a newline, in one call of `write` where the writer takes it whole. The words and what stands after have 80 bytes at
 /// most (condition). The only refusal is `Refusal::WriteFault`, as for a reply.
 pub fn write_slot_line<W: Write>(
     writer: &mut W,
     before: &[u8],
     slot: u8,
-    behind: &[u8],
+    after: &[u8],
 ) -> Result<(), Refusal>
-    requires { length before.now + length behind.now ≤ 80 }
+    requires { length before.now + length after.now ≤ 80 }
     ensures ok { OnOk result
-        (Appends (W.contents writer.old) (W.contents writer.new) (slot_line before.now slot behind.now)) }
+        (Appends (W.contents writer.old) (W.contents writer.new) (slot_line before.now slot after.now)) }
     ensures part { OnErr result
-        (AppendsPart (W.contents writer.old) (W.contents writer.new) (slot_line before.now slot behind.now)) }
+        (AppendsPart (W.contents writer.old) (W.contents writer.new) (slot_line before.now slot after.now)) }
     ensures kind { IfErr result (λ refusal. refusal ≡ Refusal.WriteFault) }
 {
     let mut number = Buffer::new();
@@ -82,7 +82,7 @@ pub fn write_slot_line<W: Write>(
     append(&mut line, b"dev");
     append(&mut line, number.format(slot).as_bytes());
     append(&mut line, b".img");
-    append(&mut line, behind);
+    append(&mut line, after);
     line.push(b'\n');
     write_text(writer, line.as_slice())
 }

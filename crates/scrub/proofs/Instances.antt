@@ -2,7 +2,7 @@
 use Rattle.std.proofs.Common.{◌≡◌, inl, inr, ℕ, zero, suc, ◌<◌, List, [], Option, None, Ok, Err, refl, sym, subst, arith}
 use Rattle.std.specs.Prelude.{Contains}
 use Rattle.std.proofs.lemmas.Result.{IfOk-at_ok}
-use Rattle.sector_model.specs.declared.event.Event.TheVariants.{Quiet, Wrote, Lost, Flushed, Fell}
+use Rattle.sector_model.specs.declared.event.Event.TheVariants.{Quiet, Wrote, Lost, Flushed, DeviceFailed}
 use Rattle.sector_model.specs.declared.refusal.Refusal.TheVariants.{Incomplete}
 use Rattle.sector_model.specs.Bank.{Panel}
 use Rattle.sector_model.specs.History.{After, Began, Bytes, History, Slots}
@@ -26,7 +26,7 @@ only_read_itself (After Quiet h) = inl refl
 only_read_itself (After (Wrote device at value) h) = refl
 only_read_itself (After (Lost device at value) h) = refl
 only_read_itself (After (Flushed device) h) = refl
-only_read_itself (After (Fell device) h) = inl refl
+only_read_itself (After (DeviceFailed device) h) = inl refl
 
 only_read_after : (n : ℕ) (h : History) → OnlyRead h (after_reads n h)
 only_read_after zero h = only_read_itself h

@@ -1,4 +1,4 @@
--- What was read of the rows, or the fall among them, is a scrub.
+-- What was read of the rows, or the failure among them, is a scrub.
 use Rattle.std.proofs.Common.{◌≡◌, ◌∙◌, ◌⊎◌, inl, inr, ℕ, ◌+◌, ◌<◌, Bool, true, false, refl, sym, subst}
 use Rattle.std.specs.Prelude.{IfOk, IfSome, Option, Some, None, Ok, Err, Result}
 use Rattle.std.proofs.lemmas.Result.{IfErr-at_err, IfOk-at_ok}
@@ -15,14 +15,14 @@ use Rattle.layout_map.specs.declared.geometry.Geometry.{Geometry}
 use Rattle.superblock.specs.NextTables.{IsComplete, slots_of}
 use Rattle.array_io.specs.Steps.CallSteps.{StepsOf}
 use Rattle.array_io.specs.Steps.ReadingOn.{Between, KeepsList}
-use Rattle.array_io.specs.Steps.Scanning.{HasScanned, ScansOrMarks}
+use Rattle.array_io.specs.Steps.Scanning.{HasScanned, ScansOrFailsSlot}
 use Rattle.array_io.specs.Believed.Views.{ArrayView, HasItsSlots, IsEndOf, view_of}
 use Rattle.array_io.proofs.Calls.CallSteps.{step_is_end, two_or_worn}
 use Rattle.array_io.proofs.Images.Codecs.{spellings}
 use Rattle.array_io.proofs.Instances.{goes_on_at_rest, keeps_at_rest, stays_at_rest}
 use Rattle.array_io.proofs.Marks.MarkingHolds.{missing_then}
 use Rattle.array_io.proofs.Reading.ReadCall.{keeps_by_steps}
-use Rattle.array_io.proofs.Reading.Scanning.{all_scanned, answer_of_read, fall_scanned, none_complete, reads_alone, scans_step}
+use Rattle.array_io.proofs.Reading.Scanning.{all_scanned, answer_of_read, failure_scanned, none_complete, reads_alone, scans_step}
 use Rattle.array_io.proofs.Writes.Writable.{same_readable}
 use Rattle.scrub.specs.declared.report.ScrubReport.{ScrubReport}
 use Rattle.scrub.specs.Reports.{report_of, reported, told_by, were_read}
@@ -53,7 +53,7 @@ module _ (honest : Type 0) (number : ℕ) (table new_table : Table) (old_panel n
   Now = view_of new_panel new new_table number
 
   abbrev Scans : Result Bool Refusal → Type 0
-  Scans result = ScansOrMarks honest table new_table old_panel new_panel old new result
+  Scans result = ScansOrFailsSlot honest table new_table old_panel new_panel old new result
 
   steps : (result : Result Bool Refusal) → Scans result
       → StepsOf honest (KeepsList old_panel.devices) (Between old_panel.devices number)
@@ -106,7 +106,7 @@ module _ (honest : Type 0) (number : ℕ) (table new_table : Table) (old_panel n
         true_new (steps (Ok false) scans);
     cause = λ refusal refused. IfErr-at_err (λ (r : Refusal). IsNoScrub Was Now r) refused
         (none_complete honest table new_table old_panel new_panel old new
-        (fall_scanned honest table new_table old_panel new_panel old new scans refl));
+        (failure_scanned honest table new_table old_panel new_panel old new scans refl));
   }
 
   by_cause : (refusal : Refusal) → (refusal ≡ TwoLost) ⊎ (refusal ≡ Worn) → IsEndOf Was Now ⊥ refusal → IsNoScrub Was

@@ -19,10 +19,10 @@ use Rattle.scrub.specs.Scrubbing.{IsReport, Report, row_in}
 
 -- ---- the sum of a row
 
--- a sector behind others adds itself to their sum
-sum_behind : (sectors : List Bytes) (sector : Bytes) → xor_of_all (sectors ++ sector ∷ []) ≡ xor_of
+-- a sector after others adds itself to their sum
+sum_after : (sectors : List Bytes) (sector : Bytes) → xor_of_all (sectors ++ sector ∷ []) ≡ xor_of
     (xor_of_all sectors) sector
-sum_behind sectors sector =
+sum_after sectors sector =
     xor_of_all-append sectors (sector ∷ [])
     ∙ sym (xor_of-assoc (xor_of_all sectors) sector zero_sector)
     ∙ xor_of-zero_right (xor_of (xor_of_all sectors) sector) (length-xor_of (xor_of_all sectors) sector)
@@ -34,7 +34,7 @@ pub sum_next : (image : Slots) (row count : ℕ) (sum own : Bytes) → sum ≡ x
 sum_next image row count sum own is own_is =
     ap (λ (s : Bytes). xor_of s own) is
     ∙ ap (xor_of (xor_of_all (first_in_row image row count))) own_is
-    ∙ sym (sum_behind (first_in_row image row count) (sector_of (disk_of (image count)) (FIRST_ROW + row)))
+    ∙ sym (sum_after (first_in_row image row count) (sector_of (disk_of (image count)) (FIRST_ROW + row)))
     ∙ ap xor_of_all (sym (map-range_with_len_more (λ member. sector_of (disk_of (image member)) (FIRST_ROW + row)) 0 count
     count (omega arith)))
 
@@ -50,7 +50,7 @@ tells_none honest table image = record {
   rising = λ k below. omega (arith, below);
   below = λ bad among. absurd (no_row bad among);
   few = omega arith;
-  looked_at = refl;
+  inspected = refl;
   bad = refl;
   first_bad = refl;
   unsound = λ fair bad among. absurd (no_row bad among);
@@ -66,7 +66,7 @@ tells_sound honest table image row report is sound = record {
   rising = is.rising;
   below = λ bad among. omega (arith, is.below bad among);
   few = omega (arith, is.few);
-  looked_at = ap (λ (n : ℕ). n + 1) is.looked_at;
+  inspected = ap (λ (n : ℕ). n + 1) is.inspected;
   bad = is.bad;
   first_bad = is.first_bad;
   unsound = is.unsound;
@@ -115,10 +115,10 @@ tells_bad honest table image row report is unsound = record {
     | inr same ↦ omega (arith, same)
   ];
   few = omega (arith, is.few, length-append is.rows (row ∷ []));
-  looked_at = ap (λ (n : ℕ). n + 1) is.looked_at;
+  inspected = ap (λ (n : ℕ). n + 1) is.inspected;
   bad = omega (arith, is.bad, length-append is.rows (row ∷ []));
   first_bad = ap (λ (o : Option ℕ). first_or o report.rows) is.first_bad ∙ ap (first_or (slice_get is.rows 0))
-      is.looked_at ∙ first_next is.rows row;
+      is.inspected ∙ first_next is.rows row;
   unsound = λ fair bad among. elim (Contains-push_cases is.rows row bad among) [
     | inl before ↦ is.unsound fair bad before
     | inr same ↦ subst (λ (r : ℕ). ¬ IsSoundRow (row_in table image r)) same (unsound fair)
@@ -150,7 +150,7 @@ report_of_all honest table image report is = record {
   rows = is.rows;
   rising = is.rising;
   of_set = is.below;
-  tells = record { rows = is.looked_at; bad = is.bad; first_bad = is.first_bad };
+  tells = record { rows = is.inspected; bad = is.bad; first_bad = is.first_bad };
   are = λ fair. record {
     rising = is.rising;
     unsound = λ row among. (is.below row among, is.unsound fair row among);

@@ -29,7 +29,7 @@ told_by (Err refusal) = Err refusal
 abbrev pub no_row_yet : Report
 no_row_yet = record { rows = 0; bad = 0; first_bad = None }
 
--- the first of some rows, where this one comes behind them
+-- the first of some rows, where this one comes after them
 abbrev pub first_or : Option ℕ → ℕ → Option ℕ
 first_or None row = Some row
 first_or (Some first) row = Some first
@@ -61,7 +61,7 @@ pub record TellsBelow (honest : Type 0) (table : Table) (image : Slots) (row : �
   pub rising : IsStrictlyIncreasing rows
   pub below : (bad : ℕ) → Contains rows bad → bad < row
   pub few : length rows ≤ row
-  pub looked_at : report.rows ≡ row
+  pub inspected : report.rows ≡ row
   pub bad : report.bad ≡ length rows
   pub first_bad : report.first_bad ≡ slice_get rows 0
   pub unsound : honest → (bad : ℕ) → Contains rows bad → ¬ IsSoundRow (row_in table image bad)

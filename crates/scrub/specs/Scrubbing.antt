@@ -13,7 +13,7 @@ use Rattle.superblock.specs.declared.table.Table.{Table}
 use Rattle.superblock.specs.NextTables.{IsComplete}
 use Rattle.array_io.specs.Believed.Holds.{row_count}
 use Rattle.array_io.specs.Believed.ArrayCalls.{KeepsTheList}
-use Rattle.array_io.specs.Believed.Views.{ArrayView, GoesOn, HasEnded, IsEndOf, StaysButForFalls}
+use Rattle.array_io.specs.Believed.Views.{ArrayView, GoesOn, HasEnded, IsEndOf, StaysButForFailures}
 
 -- the sectors of the members in a row, as they stand
 abbrev pub row_in : Table → Slots → (row : ℕ) → List Bytes
@@ -59,7 +59,7 @@ IsNoScrub old new refusal = ⊥
 pub record Scrubs (honest : Type 0) (old new : ArrayView) (answer : Result Report Refusal) : Type 0 where
   pub goes_on : GoesOn old new
   pub number : new.number ≡ old.number
-  pub stays : StaysButForFalls honest old new (HasEnded answer)
+  pub stays : StaysButForFailures honest old new (HasEnded answer)
   -- of a set that is not complete it looks at no device
   pub incomplete : ¬ IsComplete old.table → (answer ≡ Err Incomplete) × (new ≡ old)
   pub complete : (report : Report) → answer ≡ Ok report → IsComplete new.table

@@ -4,13 +4,13 @@ ghost use Rattle.sector_model.specs.Readable.{readable};
 ghost use Rattle.layout_map.specs.Placement.{rows_of};
 ghost use Rattle.parity.specs.Xor.{xor_of_all};
 ghost use Rattle.superblock.specs.NextTables.{IsComplete};
-ghost use Rattle.array_io.specs.Steps.Scanning.{ScansOrMarks};
+ghost use Rattle.array_io.specs.Steps.Scanning.{ScansOrFailsSlot};
 ghost use Rattle.array_io.specs.Believed.Views.{HasItsSlots};
 ghost use Rattle.scrub.specs.Reports.{report_of, were_read};
 ghost use Rattle.scrub.specs.Scrubbing.{IsReport, row_in};
 
 use crate::ScrubReport;
-use array_io::value_or_mark;
+use array_io::value_or_fail_slot;
 use parity::{is_zero, xor_into};
 use sector_model::{Bank, Refusal, Sector};
 use superblock::Table;
@@ -25,7 +25,7 @@ pub(crate) fn scrub_rows<B: Bank>(
     requires complete { IsComplete table.old }
     ensures honest { B.honest bank.old ↔ B.honest bank.new }
     ensures its_slots { HasItsSlots table.new (B.panel bank.new) }
-    ensures scans { ScansOrMarks (B.honest bank.old) table.old table.new (B.panel bank.old) (B.panel bank.new)
+    ensures scans { ScansOrFailsSlot (B.honest bank.old) table.old table.new (B.panel bank.old) (B.panel bank.new)
         (B.history bank.old) (B.history bank.new) (were_read result) }
     ensures told { IfOk result (λ found. IfSome found (λ report.
         IsReport (B.honest bank.old) table.old (readable (B.history bank.old)) (report_of report))) }
@@ -42,7 +42,7 @@ pub(crate) fn scrub_rows<B: Bank>(
 }
 
 // `sum` becomes the XOR of the members' own sectors in a row (`true`). Where a device goes down meanwhile its slot is
-// marked missing (`false`), or that is refused as `value_or_mark` is.
+// marked missing (`false`), or that is refused as `value_or_fail_slot` is.
 fn sum_row<B: Bank>(
     bank: &mut B,
     table: &mut Table,
@@ -54,7 +54,7 @@ fn sum_row<B: Bank>(
     requires row { row < rows_of table.old.geometry.chunk table.old.geometry.stripes }
     ensures honest { B.honest bank.old ↔ B.honest bank.new }
     ensures its_slots { HasItsSlots table.new (B.panel bank.new) }
-    ensures scans { ScansOrMarks (B.honest bank.old) table.old table.new (B.panel bank.old) (B.panel bank.new)
+    ensures scans { ScansOrFailsSlot (B.honest bank.old) table.old table.new (B.panel bank.old) (B.panel bank.new)
         (B.history bank.old) (B.history bank.new) result }
     ensures sum { IfOk result (λ was_read. IsTrue was_read → B.honest bank.old
         → sum.new ≡ xor_of_all (row_in table.old (readable (B.history bank.old)) row)) }
@@ -62,7 +62,7 @@ fn sum_row<B: Bank>(
     *sum = [0; 512];
     let mut own = [0; 512];
     for member in 0..table.geometry.members {
-        if !value_or_mark(bank, table, member, row, &mut own)? {
+        if !value_or_fail_slot(bank, table, member, row, &mut own)? {
             return Ok(false);
         }
         xor_into(sum, &own);

@@ -65,18 +65,18 @@ fn put_byte(rt: &impl Abort, image: &mut Image, byte: &Byte) {
 }
 
 // A slot, and the number of the device call from which on it is down.
-type Fall = (usize, u64);
+type Failure = (usize, u64);
 
 // The bank of the set with these bytes, on which these devices go down.
-fn bank_of(rt: &(impl Abort + AllocGlobal), bytes: &[Byte], falls: &[Fall]) -> MemBank {
+fn bank_of(rt: &(impl Abort + AllocGlobal), bytes: &[Byte], failures: &[Failure]) -> MemBank {
     let mut image = blank(rt);
     for byte in bytes {
         put_byte(rt, &mut image, byte);
     }
     let mut plan = Plan::NONE;
-    for fall in falls {
-        assert!(rt; fall.0 < 10);
-        plan.down[fall.0] = Some(fall.1);
+    for failure in failures {
+        assert!(rt; failure.0 < 10);
+        plan.down[failure.0] = Some(failure.1);
     }
     assert!(rt; image.slots.len() == 5);
     MemBank::new(rt.alloc(), image, plan, 100).expect(rt, "memory")
@@ -159,7 +159,7 @@ fn bad_rows_are_counted(rt: HostRuntime) {
 
 // Member 1 goes down at its read of row 1: its slot is marked missing on the four others.
 #[test]
-fn member_falls(rt: HostRuntime) {
+fn member_fails(rt: HostRuntime) {
     let mut bank = bank_of(&rt, &[(2, 0, 1)], &[(1, 4)]);
     let table = check(&rt, &mut bank, Ok(None), [5 + 8, 8, 2]);
     same(&rt, table.states[1], State::Missing);
@@ -168,7 +168,7 @@ fn member_falls(rt: HostRuntime) {
 
 // Member 0 goes down when its superblock is to be written then.
 #[test]
-fn second_member_falls(rt: HostRuntime) {
+fn second_member_fails(rt: HostRuntime) {
     let mut bank = bank_of(&rt, &[], &[(1, 4), (0, 5)]);
     let table = check(&rt, &mut bank, Err(Refusal::TwoLost), [5 + 1, 0, 2]);
     same(&rt, table.states[1], State::Missing);

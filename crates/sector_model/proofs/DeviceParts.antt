@@ -6,7 +6,7 @@ use Rattle.std.proofs.lemmas.List.{take_at}
 use borrow.Rule.Slice.PartMut.{post_of}
 use Rattle.sector_model.specs.DeviceFiles.{Contents, AreAt, IsWritten}
 
--- a part was read behind the first
+-- a part was read after the first
 pub read_more : {a b : Contents} (place m n total : ℕ) (old new : List ℕ) → total ≡ m + n → a ≡ b → AreAt b.byte place m old → ((k : ℕ) → k < m → get_or new k 0 ≡ get_or old k 0)
     → ((k : ℕ) → k < n → get_or new (m + k) 0 ≡ a.byte (place + m + k)) → AreAt b.byte place total new
 read_more {a = a} {b = b} place m n total old new sum same before front rest = record {
@@ -21,7 +21,7 @@ read_more {a = a} {b = b} place m n total old new sum same before front rest = r
 pub read_same : (byte : ℕ → ℕ) (place m total : ℕ) (old new : List ℕ) → total ≡ m → AreAt byte place m old → ((k : ℕ) → k < m → get_or new k 0 ≡ get_or old k 0) → AreAt byte place total new
 read_same byte place m total old new same before front = record { each = λ k lt. front k (omega (arith, lt, same)) ∙ before.each k (omega (arith, lt, same)) }
 
--- a part was written behind the first
+-- a part was written after the first
 pub written_more : {a b c : Contents} (place m n total : ℕ) (from part : List ℕ) → total ≡ m + n → n ≤ length part → ((k : ℕ) → k < length part → get_or part k 0 ≡ get_or from (m + k) 0)
     → IsWritten place m from a b → IsWritten (place + m) n part b c → IsWritten place total from a c
 written_more {a = a} {b = b} {c = c} place m n total from rest sum short is_rest before part = record {

@@ -5,7 +5,7 @@ use Rattle.std.proofs.lemmas.Bool.{eq-eqb}
 use Rattle.std.proofs.lemmas.List.{drop_more, length-append}
 use Rattle.sector_model.specs.declared.memory.Entry.{Entry}
 use Rattle.sector_model.specs.declared.event.Event.{Event}
-use Rattle.sector_model.specs.declared.event.Event.TheVariants.{Quiet, Wrote, Lost, Flushed, Fell}
+use Rattle.sector_model.specs.declared.event.Event.TheVariants.{Quiet, Wrote, Lost, Flushed, DeviceFailed}
 use Rattle.sector_model.specs.History.{Bytes}
 use Rattle.sector_model.specs.Memory.{put_by, put_by_all, room_after}
 
@@ -18,7 +18,7 @@ put_by-most Quiet room d a = omega arith
 put_by-most (Wrote device at value) room d a = one_if (d == device && a == at) value
 put_by-most (Lost device at value) room d a = one_if (d == device && a == at && nat_lt 0 room) value
 put_by-most (Flushed device) room d a = omega arith
-put_by-most (Fell device) room d a = omega arith
+put_by-most (DeviceFailed device) room d a = omega arith
 
 -- an entry puts one candidate at most
 pub put_by_all-most : (log : List Entry) (room d a : ℕ) → length (put_by_all log room d a) ≤ length log
@@ -26,7 +26,7 @@ put_by_all-most [] room d a = omega arith
 put_by_all-most (entry ∷ log) room d a =
     omega (arith, length-append (put_by entry.event room d a) (put_by_all log (room_after entry.event room) d a), put_by-most entry.event room d a, put_by_all-most log (room_after entry.event room) d a)
 
--- what a read of a log answers behind its end
+-- what a read of a log answers after its end
 abbrev pub no_entry : Entry
 no_entry = record { call = 0; event = Quiet }
 

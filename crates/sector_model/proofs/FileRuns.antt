@@ -8,7 +8,7 @@ use Rattle.std.proofs.lemmas.Grind.{same_number_lists}
 use Rattle.std.proofs.lemmas.Bool.{cases_eq, cases_lt}
 use Rattle.sector_model.specs.declared.files.Slot.{Slot}
 use Rattle.sector_model.specs.declared.event.Event.{Event}
-use Rattle.sector_model.specs.declared.event.Event.TheVariants.{Quiet, Wrote, Lost, Flushed, Fell}
+use Rattle.sector_model.specs.declared.event.Event.TheVariants.{Quiet, Wrote, Lost, Flushed, DeviceFailed}
 use Rattle.sector_model.specs.declared.calls.TheConstants.{GREATEST_COUNT}
 use Rattle.sector_model.specs.Bank.{Panel, AfterCall, IsTrueTo, fault_at}
 use Rattle.sector_model.specs.DeviceFiles.{Contents, AreAt, IsWritten, IsSynced}
@@ -81,8 +81,8 @@ pub record Follows (e : Event) (dev : ℕ) (answered : Bool) (h : History) : Typ
 pub follows_quiet : (dev : ℕ) (answered : Bool) (h : History) → is_down h dev ≡ not answered → Follows Quiet dev answered h
 follows_quiet dev answered h is = record { down_here = is; down_others = λ d other. refl; seen_others = λ d other. refl; safe_others = λ d other. refl; whole = λ d a v may. inl may }
 
-pub follows_fell : (dev : ℕ) (h : History) → Follows (Fell dev) dev false h
-follows_fell dev h = record {
+pub follows_failed : (dev : ℕ) (h : History) → Follows (DeviceFailed dev) dev false h
+follows_failed dev h = record {
   down_here = ap (λ (b : Bool). b || is_down h dev) (eqb_self dev);
   down_others = λ d other. ap (λ (b : Bool). b || is_down h d) (eqb_other d dev other);
   seen_others = λ d other. refl;
@@ -329,9 +329,9 @@ module _ {F : Type 0} {told : F → Contents} {slots : List (Slot F)} {calls dev
       (λ up. kept_read _ _ _ _ h dev same flag (called_kept was_up)) is
 
   -- a read or a flush at which the device goes down
-  pub over_fell : (new : Slot F) (next : History) → new.sectors ≡ old.sectors → is_closed new ≡ true → next ≡ After (Fell dev) h → IsOver told (set slots dev new) (calls + 1) next
-  over_fell new next sectors closed is =
-      over_next new false (Fell dev) next sectors closed (λ was. refl) (follows_fell dev h) (λ up. absurd (differ closed up)) is
+  pub over_failed : (new : Slot F) (next : History) → new.sectors ≡ old.sectors → is_closed new ≡ true → next ≡ After (DeviceFailed dev) h → IsOver told (set slots dev new) (calls + 1) next
+  over_failed new next sectors closed is =
+      over_next new false (DeviceFailed dev) next sectors closed (λ was. refl) (follows_failed dev h) (λ up. absurd (differ closed up)) is
 
   -- a write at which it goes down
   pub over_lost : (new : Slot F) (next : History) (at : ℕ) (value : Bytes) → new.sectors ≡ old.sectors → is_closed new ≡ true → IsSector value → next ≡ After (Lost dev at value) h

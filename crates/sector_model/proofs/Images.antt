@@ -1,4 +1,4 @@
--- The run up to a stop, from the entries of the log, and the images of a choice.
+-- The run up to a crash, from the entries of the log, and the images of a choice.
 use Rattle.std.proofs.Common.{◌≡◌, ◌≢◌, ◌⊎◌, inl, inr, ◌≤◌, ◌<◌, ◌+◌, ℕ, zero, suc, Bool, true, false, cond, All, List, [], ◌∷◌, ◌++◌, length, get_or, take, Option, Some, None, refl, sym, ◌∙◌, ap, subst, zero-add, arith, ◌==◌, ◌&&◌}
 use Rattle.std.specs.Prelude.{nat_lt, if◌then◌else◌, slice_set, count_by}
 use Rattle.std.specs.List.{AllWithin}
@@ -11,7 +11,7 @@ use Rattle.sector_model.specs.declared.choice.Choice.{Choice}
 use Rattle.sector_model.specs.declared.choice.Choice.TheVariants.{Oldest, Newest, Mixed}
 use Rattle.sector_model.specs.declared.memory.Entry.{Entry}
 use Rattle.sector_model.specs.declared.event.Event.{Event}
-use Rattle.sector_model.specs.declared.event.Event.TheVariants.{Quiet, Wrote, Lost, Flushed, Fell}
+use Rattle.sector_model.specs.declared.event.Event.TheVariants.{Quiet, Wrote, Lost, Flushed, DeviceFailed}
 use Rattle.sector_model.specs.History.{History, Began, After, Bytes, Slots, MayHold, SlotMayHold, MayLeave, seen, disk_of, sector_of, start_of, calls_of, cut_at}
 use Rattle.sector_model.specs.Candidates.{logged, candidates, number_taken, taken, IsTaken, IsImageOf}
 use Rattle.sector_model.specs.Memory.{Disk, slots_of, run_of, run_on, event_of, log_before, IsInOrder, is_answered}
@@ -58,8 +58,8 @@ Adds log n =
     ((event_of log n ≡ Quiet) × (log_before (suc n) log ≡ log_before n log))
     ⊎ ((entry : Entry) × (event_of log n ≡ entry.event) × (log_before (suc n) log ≡ log_before n log ++ entry ∷ []))
 
-adds_behind : (entry : Entry) (log : List Entry) (n : ℕ) → entry.call < n → Adds log n → Adds (entry ∷ log) n
-adds_behind entry log n before adds =
+adds_after : (entry : Entry) (log : List Entry) (n : ℕ) → entry.call < n → Adds log n → Adds (entry ∷ log) n
+adds_after entry log n before adds =
     let event : event_of (entry ∷ log) n ≡ event_of log n = ap (λ (b : Bool). cond b entry.event (event_of log n)) (eqb_other n entry.call (λ same. absurd (omega (arith, same)))) in
     let now : log_before n (entry ∷ log) ≡ entry ∷ log_before n log = ap (λ (b : Bool). cond b (entry ∷ log_before n log) []) (lt_true entry.call n before) in
     let next : log_before (suc n) (entry ∷ log) ≡ entry ∷ log_before (suc n) log = ap (λ (b : Bool). cond b (entry ∷ log_before (suc n) log) []) (lt_true entry.call (suc n) (omega arith)) in
@@ -71,7 +71,7 @@ adds_behind entry log n before adds =
 adds_in_order : (first : ℕ) (log : List Entry) (n : ℕ) → OrderFrom first log → Adds log n
 adds_in_order first [] n order = inl (refl, refl)
 adds_in_order first (entry ∷ log) n order = elim (cases_lt entry.call n) [
-  | inl before ↦ adds_behind entry log n before (adds_in_order (entry.call + 1) log n order.1)
+  | inl before ↦ adds_after entry log n before (adds_in_order (entry.call + 1) log n order.1)
   | inr from ↦ elim (cases_eq n entry.call) [
     | inl same ↦ inr (
       entry,
@@ -86,7 +86,7 @@ adds_in_order first (entry ∷ log) n order = elim (cases_lt entry.call n) [
   ]
 ]
 
--- runs that a stop can't tell apart
+-- runs that a crash can't tell apart
 
 pub record IsAlike (h k : History) : Type 0 where
   pub candidates : (room d a : ℕ) → candidates room h d a ≡ candidates room k d a
@@ -115,7 +115,7 @@ alike_event (Flushed device) h k alike = record {
   seen = alike.seen;
   logged = ap (λ (n : ℕ). n + 1) alike.logged;
 }
-alike_event (Fell device) h k alike = record { candidates = alike.candidates; seen = alike.seen; logged = alike.logged }
+alike_event (DeviceFailed device) h k alike = record { candidates = alike.candidates; seen = alike.seen; logged = alike.logged }
 
 alike_on : (start : Slots) (log : List Entry) → OrderFrom 0 log → (n : ℕ) → IsAlike (run_of start log n) (run_on (Began start) (log_before n log))
 alike_on start log order zero = subst (λ (l : List Entry). IsAlike (Began start) (run_on (Began start) l)) (sym (none_before 0 log 0 order (omega arith))) record { candidates = λ room d a. refl; seen = λ d. refl; logged = refl }
@@ -183,7 +183,7 @@ is_taken choice room h k d (Some began) None alike is = is
 is_taken choice room h k d (Some began) (Some disk) alike is =
     (is.0, λ a within. is.1 a within ∙ sym (ap (λ (l : List Bytes). get_or l (number_taken choice d a (length l)) []) (alike.candidates room d a)))
 
--- each of the slots is that of the choice, after the entries of the calls before the stop
+-- each of the slots is that of the choice, after the entries of the calls before the crash
 abbrev AreTaken : Choice → (room : ℕ) → (start : List (Option Disk)) → List Entry → (image : List (Option Disk)) → Type 0
 AreTaken choice room start log image = (d : ℕ) → d < length start → IsTaken choice room (run_on (Began (slots_of start)) log) d (slots_of start d) (slots_of image d)
 
@@ -215,7 +215,7 @@ image_of choice room count call calls start began image log part order early le 
     (subst (λ (n : ℕ). AreTaken choice (room + n) start part image) (count_is ∙ sym (logged_of (slots_of start) log calls order early))
     (subst (λ (s : List (Option Disk)). AreTaken choice (room + count) s part image) start_is each))
 
--- what a choice takes is what a stop may leave
+-- what a choice takes is what a crash may leave
 
 and_true : (b c : Bool) → (b && c) ≡ true → (b ≡ true) × (c ≡ true)
 and_true true c is = (refl, is)
@@ -245,7 +245,7 @@ candidates_may room (After (Flushed device) h) d a there = by_device (d == devic
         → All (λ v. MayHold h d a v × (d ≡ device → v ≡ sector_of (seen h d) a)) (if b then sector_of (seen h d) a ∷ [] else candidates room h d a)
     by_device true is all = all_one (λ v. MayHold h d a v × (d ≡ device → v ≡ sector_of (seen h d) a)) (sector_of (seen h d) a) (may_hold_seen h d a there, λ same. refl)
     by_device false is all = λ k e within. (all k e within, λ same. absurd (false≢true (sym is ∙ eq-eqb d device same)))
-candidates_may room (After (Fell device) h) d a there = candidates_may room h d a there
+candidates_may room (After (DeviceFailed device) h) d a there = candidates_may room h d a there
 
 some_if : (b : Bool) (l : List Bytes) (v : Bytes) → 0 < length l → 0 < length (if b then l ++ v ∷ [] else l)
 some_if true l v some = omega (arith, length-append l (v ∷ []))
@@ -261,7 +261,7 @@ some_candidates room (After Quiet h) d a = some_candidates room h d a
 some_candidates room (After (Wrote device at value) h) d a = some_if (d == device && a == at) (candidates room h d a) value (some_candidates room h d a)
 some_candidates room (After (Lost device at value) h) d a = some_if (d == device && a == at && nat_lt (logged h) room) (candidates room h d a) value (some_candidates room h d a)
 some_candidates room (After (Flushed device) h) d a = flush_if (d == device) (candidates room h d a) (sector_of (seen h d) a) (some_candidates room h d a)
-some_candidates room (After (Fell device) h) d a = some_candidates room h d a
+some_candidates room (After (DeviceFailed device) h) d a = some_candidates room h d a
 
 number_within : (choice : Choice) (d a count : ℕ) → 0 < count → number_taken choice d a count < count
 number_within Oldest d a count some = some
@@ -272,7 +272,7 @@ taken_may : (choice : Choice) (room : ℕ) (h : History) (d a : ℕ) → start_o
 taken_may choice room h d a there =
     candidates_may room h d a there (number_taken choice d a (length (candidates room h d a))) [] (number_within choice d a (length (candidates room h d a)) (some_candidates room h d a))
 
--- behind the last sector of a device
+-- after the last sector of a device
 past_may : (h : History) (d a : ℕ) (disk : List Bytes) → start_of h d ≢ None → length disk ≡ length (disk_of (start_of h d)) → length disk ≤ a → MayHold h d a (sector_of disk a)
 past_may h d a disk there as_many past =
     subst (MayHold h d a) (get_or_past (seen h d) a [] (omega (arith, length-seen h d)) ∙ sym (get_or_past disk a [] past)) (may_hold_seen h d a there)

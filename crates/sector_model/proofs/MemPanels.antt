@@ -36,8 +36,8 @@ after_down dev calls more is disks flags count = record {
 }
 
 -- the device goes down
-pub after_fall : (dev calls more : ℕ) {a b : Disks} (f g : Flags) → dev < vec_len f → b ≡ a → g.items ≡ slice_set f.items dev true → more ≡ calls + 1 → AfterCall dev false (panel_of a f calls) (panel_of b g more)
-after_fall dev calls more f g device disks flags count = record {
+pub after_failure : (dev calls more : ℕ) {a b : Disks} (f g : Flags) → dev < vec_len f → b ≡ a → g.items ≡ slice_set f.items dev true → more ≡ calls + 1 → AfterCall dev false (panel_of a f calls) (panel_of b g more)
+after_failure dev calls more f g device disks flags count = record {
   devices = g.ok.0 ∙ ap length flags ∙ length-set f.items dev true ∙ sym f.ok.0;
   sectors = λ d. ap (λ (v : Disks). min (length (contents_of v.items d)) (2 ^ 32 - 1)) disks;
   calls = count;
@@ -62,8 +62,8 @@ after_answer dev calls more a b is sizes flags count = record {
 pub run_down : (dev : ℕ) (fault : Event) {h n : History} → is_down h dev ≡ true → n ≡ After Quiet h → n ≡ After (fault_at dev fault h) h
 run_down dev fault {h = h} is run = run ∙ ap (λ (b : Bool). After (if b then Quiet else fault) h) (sym is)
 
-pub run_fall : (dev : ℕ) (fault : Event) {h n : History} → is_down h dev ≡ false → n ≡ After fault h → n ≡ After (fault_at dev fault h) h
-run_fall dev fault {h = h} is run = run ∙ ap (λ (b : Bool). After (if b then Quiet else fault) h) (sym is)
+pub run_failure : (dev : ℕ) (fault : Event) {h n : History} → is_down h dev ≡ false → n ≡ After fault h → n ≡ After (fault_at dev fault h) h
+run_failure dev fault {h = h} is run = run ∙ ap (λ (b : Bool). After (if b then Quiet else fault) h) (sym is)
 
 -- why a call was answered or not
 pub cause_down : {a : Bool} (b : Bool) → a ≡ true → false ≡ not (a || b)

@@ -1,4 +1,4 @@
--- What reads give is one of the images that a stop now may leave; a run begins with nothing pending, and a stop then leaves what it began with.
+-- What reads give is one of the images that a crash now may leave; a run begins with nothing pending, and a crash then leaves what it began with.
 use Rattle.std.proofs.Common.{◌≡◌, ◌≢◌, ℕ, Bool, true, false, List, [], length, Option, Some, None, refl, sym, ◌∙◌, ap, cond}
 use Rattle.std.specs.Prelude.{is_none}
 use Rattle.std.proofs.Math.Path.{fun_ext}
@@ -66,6 +66,6 @@ slot_left image d (Some there) (Some disk) is may = ap (λ (l : List Bytes). Som
     at_there None is a v at = absurd at
     at_there (Some disk) is a v at = at ∙ ap (λ (s : Option (List Bytes)). sector_of (disk_of s) a) is
 
--- when a run begins, a stop leaves what it began with
+-- when a run begins, a crash leaves what it began with
 pub began_left : (image left : Slots) → MayLeave (Began image) left → left ≡ image
 began_left image left may = fun_ext (λ d. slot_left image d (image d) (left d) refl (may d))

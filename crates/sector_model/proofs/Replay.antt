@@ -9,7 +9,7 @@ use Rattle.std.proofs.lemmas.Bool.{cases_eq, eq-eqb}
 use Rattle.std.proofs.lemmas.Bool.Decides.{nat_tests}
 use Rattle.sector_model.specs.declared.memory.Entry.{Entry}
 use Rattle.sector_model.specs.declared.event.Event.{Event}
-use Rattle.sector_model.specs.declared.event.Event.TheVariants.{Quiet, Wrote, Lost, Flushed, Fell}
+use Rattle.sector_model.specs.declared.event.Event.TheVariants.{Quiet, Wrote, Lost, Flushed, DeviceFailed}
 use Rattle.sector_model.specs.declared.calls.TheConstants.{GREATEST_COUNT}
 use Rattle.sector_model.specs.History.{History, After, Bytes, Slots, IsSector, MayHold, IsAt, disk_of, seen, is_down, calls_of}
 use Rattle.sector_model.specs.MemoryLaw.{calls-run}
@@ -112,14 +112,14 @@ fault_down h slot Quiet fault d = absurd fault
 fault_down h slot (Wrote device at value) fault d = absurd fault
 fault_down h slot (Lost device at value) fault d = ap (λ (s : ℕ). d == s || is_down h d) fault.0
 fault_down h slot (Flushed device) fault d = absurd fault
-fault_down h slot (Fell device) fault d = ap (λ (s : ℕ). d == s || is_down h d) fault
+fault_down h slot (DeviceFailed device) fault d = ap (λ (s : ℕ). d == s || is_down h d) fault
 
 fault_seen : (h : History) (slot : ℕ) (event : Event) → IsFaultOf slot event → (d : ℕ) → seen (After event h) d ≡ seen h d
 fault_seen h slot Quiet fault d = absurd fault
 fault_seen h slot (Wrote device at value) fault d = absurd fault
 fault_seen h slot (Lost device at value) fault d = refl
 fault_seen h slot (Flushed device) fault d = absurd fault
-fault_seen h slot (Fell device) fault d = refl
+fault_seen h slot (DeviceFailed device) fault d = refl
 
 -- what a fault leaves is what was possible before, or a whole sector
 fault_whole : (h : History) (slot : ℕ) (event : Event) → IsFaultOf slot event → (d a : ℕ) (v : Bytes) → MayHold (After event h) d a v → MayHold h d a v ⊎ IsSector v
@@ -128,11 +128,11 @@ fault_whole h slot (Wrote device at value) fault d a v may = absurd fault
 fault_whole h slot (Lost device at value) fault d a v (inl put) = inr (subst IsSector (sym put.2) fault.1)
 fault_whole h slot (Lost device at value) fault d a v (inr may) = inl may
 fault_whole h slot (Flushed device) fault d a v may = absurd fault
-fault_whole h slot (Fell device) fault d a v may = inl may
+fault_whole h slot (DeviceFailed device) fault d a v may = inl may
 
-pub replayed_fall : (start : List (Option Disk)) (log : List Entry) (calls : ℕ) (disks : List Disk) (flags : List Bool) (slot : ℕ) (event : Event) → IsReplayed start log calls disks flags → slot < length flags → IsFaultOf slot event
+pub replayed_failure : (start : List (Option Disk)) (log : List Entry) (calls : ℕ) (disks : List Disk) (flags : List Bool) (slot : ℕ) (event : Event) → IsReplayed start log calls disks flags → slot < length flags → IsFaultOf slot event
     → IsReplayed start (log ++ record { call = calls; event = event } ∷ []) (calls + 1) disks (set flags slot true)
-replayed_fall start log calls disks flags slot event was within fault =
+replayed_failure start log calls disks flags slot event was within fault =
     let h = run_in start log calls in
     let next = run-entry (slots_of start) log calls event was.early in record {
       seen = λ d. was.seen d ∙ sym (fault_seen h slot event fault d) ∙ ap (λ (h : History). seen h d) (sym next);

@@ -8,7 +8,7 @@ use Rattle.std.proofs.lemmas.List.{take_more, take-append-drop, append-nil, get_
 use Rattle.sector_model.specs.declared.choice.Choice.{Choice}
 use Rattle.sector_model.specs.declared.memory.Entry.{Entry}
 use Rattle.sector_model.specs.declared.event.Event.{Event}
-use Rattle.sector_model.specs.declared.event.Event.TheVariants.{Quiet, Wrote, Lost, Flushed, Fell}
+use Rattle.sector_model.specs.declared.event.Event.TheVariants.{Quiet, Wrote, Lost, Flushed, DeviceFailed}
 use Rattle.sector_model.specs.History.{History, Began, After, Bytes, Slots, seen, disk_of, sector_of}
 use Rattle.sector_model.specs.Candidates.{logged, candidates, number_taken, taken}
 use Rattle.sector_model.specs.Memory.{run_on, put_by, put_by_all, room_after, is_answered, written, all_written, flushes}
@@ -29,7 +29,7 @@ seen_event Quiet h d = refl
 seen_event (Wrote device at value) h d = refl
 seen_event (Lost device at value) h d = refl
 seen_event (Flushed device) h d = refl
-seen_event (Fell device) h d = refl
+seen_event (DeviceFailed device) h d = refl
 
 pub seen_on : (h : History) (log : List Entry) (d : ℕ) → seen (run_on h log) d ≡ all_written log d (seen h d)
 seen_on h [] d = refl
@@ -42,7 +42,7 @@ logged_event Quiet h = refl
 logged_event (Wrote device at value) h = refl
 logged_event (Lost device at value) h = refl
 logged_event (Flushed device) h = refl
-logged_event (Fell device) h = refl
+logged_event (DeviceFailed device) h = refl
 
 -- how many entries took a place
 places : List Entry → ℕ
@@ -81,7 +81,7 @@ put_if : (b : Bool) (l : List Bytes) (v : Bytes) → (if b then l ++ v ∷ [] el
 put_if true l v = refl
 put_if false l v = sym (append-nil l)
 
--- an event that is no flush of the device puts candidates behind the others
+-- an event that is no flush of the device puts candidates after the others
 candidates_event : (room : ℕ) (e : Event) (h : History) (d a : ℕ) → flushes e d ≡ false → candidates room (After e h) d a ≡ candidates room h d a ++ put_by e (room - logged h) d a
 candidates_event room Quiet h d a kept = sym (append-nil (candidates room h d a))
 candidates_event room (Wrote device at value) h d a kept = put_if (d == device && a == at) (candidates room h d a) value
@@ -89,7 +89,7 @@ candidates_event room (Lost device at value) h d a kept =
     ap (λ (b : Bool). if d == device && a == at && b then candidates room h d a ++ value ∷ [] else candidates room h d a) (has_room (logged h) room)
     ∙ put_if (d == device && a == at && nat_lt 0 (room - logged h)) (candidates room h d a) value
 candidates_event room (Flushed device) h d a kept = ap (λ (b : Bool). if b then sector_of (seen h d) a ∷ [] else candidates room h d a) kept ∙ sym (append-nil (candidates room h d a))
-candidates_event room (Fell device) h d a kept = sym (append-nil (candidates room h d a))
+candidates_event room (DeviceFailed device) h d a kept = sym (append-nil (candidates room h d a))
 
 -- none of the entries is a flush of the device
 pub candidates_on : (room : ℕ) (h : History) (log : List Entry) (d a : ℕ) → All (λ (entry : Entry). flushes entry.event d ≡ false) log
@@ -108,7 +108,7 @@ candidates_flush room Quiet h d a is = absurd (cc)
 candidates_flush room (Wrote device at value) h d a is = absurd (cc)
 candidates_flush room (Lost device at value) h d a is = absurd (cc)
 candidates_flush room (Flushed device) h d a is = ap (λ (b : Bool). if b then sector_of (seen h d) a ∷ [] else candidates room h d a) is
-candidates_flush room (Fell device) h d a is = absurd (cc)
+candidates_flush room (DeviceFailed device) h d a is = absurd (cc)
 
 -- at its last flush, or at the start of the run
 pub candidates_safe : (room : ℕ) (start : Slots) (log : List Entry) (d a n : ℕ) → n ≤ length log → IsAfterLastMatch (λ (entry : Entry). flushes entry.event d) log n

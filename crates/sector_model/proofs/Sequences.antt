@@ -4,7 +4,7 @@ use Rattle.std.specs.Prelude.{slice_set, Ok, Err}
 use Rattle.std.proofs.lemmas.Bool.{cases_eq, eq-eqb, eqb-true}
 use Rattle.std.proofs.lemmas.List.{get_or-set_same, get_or-set_other}
 use Rattle.sector_model.specs.declared.event.Event.{Event}
-use Rattle.sector_model.specs.declared.event.Event.TheVariants.{Quiet, Wrote, Lost, Flushed, Fell}
+use Rattle.sector_model.specs.declared.event.Event.TheVariants.{Quiet, Wrote, Lost, Flushed, DeviceFailed}
 use Rattle.sector_model.specs.declared.sector.Stop.{Stop}
 use Rattle.sector_model.specs.declared.sector.Stop.TheVariants.{Down, Worn}
 use Rattle.sector_model.specs.Bank.{Panel, IsTrueTo, fault_at, after_try}
@@ -130,11 +130,11 @@ within_fault Q device fault h left put = by_case (is_down h device)
 
 within_call : (Q : Contents) (call : Call) → PutsOnly Q call → (answered : Bool) (h : History) → LeavesWithin Q h → LeavesWithin Q (after_call call answered h)
 within_call Q (Read device at) only true h left = within_event Q Quiet h left (λ d a v put. absurd put)
-within_call Q (Read device at) only false h left = within_fault Q device (Fell device) h left (λ d a v put. absurd put)
+within_call Q (Read device at) only false h left = within_fault Q device (DeviceFailed device) h left (λ d a v put. absurd put)
 within_call Q (Write device at value) only true h left = within_event Q (Wrote device at value) h left (put_alone Q device at value only)
 within_call Q (Write device at value) only false h left = within_fault Q device (Lost device at value) h left (put_alone Q device at value only)
 within_call Q (Flush device) only true h left = within_event Q (Flushed device) h left (λ d a v put. absurd put)
-within_call Q (Flush device) only false h left = within_fault Q device (Fell device) h left (λ d a v put. absurd put)
+within_call Q (Flush device) only false h left = within_fault Q device (DeviceFailed device) h left (λ d a v put. absurd put)
 
 pub kept_within : (Q : Contents) (call : Call) → PutsOnly Q call → IsKeptBy (LeavesWithin Q) call
 kept_within Q call only = record { keeps = λ answered h left. within_call Q call only answered h left }
@@ -149,9 +149,9 @@ up_fault device fault h d is other up = by_case (is_down h device)
 
 up_call : (call : Call) (d : ℕ) → d ≢ device_of call → (answered : Bool) (h : History) → is_down h d ≡ false → is_down (after_call call answered h) d ≡ false
 up_call call d other true h up = same_down call h d ∙ up
-up_call (Read device at) d other false h up = up_fault device (Fell device) h d refl other up
+up_call (Read device at) d other false h up = up_fault device (DeviceFailed device) h d refl other up
 up_call (Write device at value) d other false h up = up_fault device (Lost device at value) h d refl other up
-up_call (Flush device) d other false h up = up_fault device (Fell device) h d refl other up
+up_call (Flush device) d other false h up = up_fault device (DeviceFailed device) h d refl other up
 
 pub kept_up : (d : ℕ) (call : Call) → d ≢ device_of call → IsKeptBy (λ h. is_down h d ≡ false) call
 kept_up d call other = record { keeps = λ answered h up. up_call call d other answered h up }
@@ -305,9 +305,9 @@ performs_up (call ∷ calls) old new (inr (up, rest)) = (up, all_up_same calls (
 pub made_up : {calls : List Call} {old new : History} → Made calls true old new → AllUp calls old
 made_up {calls = calls} {old = old} {new = new} made = performs_up calls old new made.performed
 
-pub up_behind : (first second : List Call) (h : History) → AllUp (first ++ second) h → AllUp second h
-up_behind [] second h up = up
-up_behind (call ∷ first) second h (up, others) = up_behind first second h others
+pub up_after : (first second : List Call) (h : History) → AllUp (first ++ second) h → AllUp second h
+up_after [] second h up = up
+up_after (call ∷ first) second h (up, others) = up_after first second h others
 
 pub flushed_up : (dev count : ℕ) (h : History) → AllUp (flushes dev count) h → (d : ℕ) → dev ≤ d → d < dev + count → is_down h d ≡ false
 flushed_up dev zero h up d least most = absurd (omega arith)

@@ -1,10 +1,10 @@
--- What one event changes in what a stop may leave, and how moments go on.
+-- What one event changes in what a crash may leave, and how moments go on.
 use Rattle.std.proofs.Common.{◌≡◌, ◌≢◌, ◌⊎◌, inl, inr, ⊎_elim, ℕ, ◌+◌, ◌≤◌, Bool, true, false, zero, suc, List, [], ◌∷◌, Option, Some, None, refl, sym, ◌∙◌, ap, subst, arith, ◌==◌, ◌||◌, cond}
 use Rattle.std.specs.Prelude.{nat_lt, slice_set, is_none}
 use Rattle.std.proofs.lemmas.Bool.{eqb-true}
 use Rattle.std.proofs.lemmas.Bool.Decides.{nat_tests}
 use Rattle.sector_model.specs.declared.event.Event.{Event}
-use Rattle.sector_model.specs.declared.event.Event.TheVariants.{Quiet, Wrote, Lost, Flushed, Fell}
+use Rattle.sector_model.specs.declared.event.Event.TheVariants.{Quiet, Wrote, Lost, Flushed, DeviceFailed}
 use Rattle.sector_model.specs.History.{History, Began, After, Bytes, Slots, calls_of, cut_at, seen, is_down, start_of, disk_of, sector_of, IsAt, MayHold, SlotMayHold, MayLeave}
 use Rattle.sector_model.specs.Moments.{Throughout, here, then_also, Contents, LeavesWithin, IsWithin}
 
@@ -14,15 +14,15 @@ Puts Quiet d a v = ⊥
 Puts (Wrote device at value) d a v = (d ≡ device) × (a ≡ at) × (v ≡ value)
 Puts (Lost device at value) d a v = (d ≡ device) × (a ≡ at) × (v ≡ value)
 Puts (Flushed device) d a v = ⊥
-Puts (Fell device) d a v = ⊥
+Puts (DeviceFailed device) d a v = ⊥
 
--- after an event a stop may leave what it put there, or what a stop might have left before
+-- after an event a crash may leave what it put there, or what a crash might have left before
 pub may_hold_before : (e : Event) (h : History) (d a : ℕ) (v : Bytes) → MayHold (After e h) d a v → Puts e d a v ⊎ MayHold h d a v
 may_hold_before Quiet h d a v may = inr may
 may_hold_before (Wrote device at value) h d a v may = may
 may_hold_before (Lost device at value) h d a v may = may
 may_hold_before (Flushed device) h d a v may = inr may.0
-may_hold_before (Fell device) h d a v may = inr may
+may_hold_before (DeviceFailed device) h d a v may = inr may
 
 -- an event that puts only what may stand there
 pub within_event : (Q : Contents) (e : Event) (h : History) → LeavesWithin Q h → ((d a : ℕ) (v : Bytes) → Puts e d a v → Q d a v) → LeavesWithin Q (After e h)
@@ -38,7 +38,7 @@ within_flush Q dev h before = record {
 pub within_more : (P Q : Contents) (h : History) → ((d a : ℕ) (v : Bytes) → P d a v → Q d a v) → LeavesWithin P h → LeavesWithin Q h
 within_more P Q h more left = record { each = λ d a v may. more d a v (left.each d a v may) }
 
--- the same facts of each image that a stop may leave
+-- the same facts of each image that a crash may leave
 slot_within : (h : History) (d a : ℕ) (slot : Option (List Bytes)) (disk : List Bytes) → SlotMayHold h d slot → slot ≡ Some disk → MayHold h d a (sector_of disk a)
 slot_within h d a slot disk may is = let at_disk = subst (SlotMayHold h d) is may in at_disk.2 a
 
@@ -94,7 +94,7 @@ may_hold_seen (After (Wrote device at value) h) d a there = by_device (d == devi
     by_device false is before = inr before
 may_hold_seen (After (Lost device at value) h) d a there = inr (may_hold_seen h d a there)
 may_hold_seen (After (Flushed device) h) d a there = (may_hold_seen h d a there, λ same. refl)
-may_hold_seen (After (Fell device) h) d a there = may_hold_seen h d a there
+may_hold_seen (After (DeviceFailed device) h) d a there = may_hold_seen h d a there
 
 or_true : (a b : Bool) → b ≡ true → (a || b) ≡ true
 or_true true b is = refl
@@ -106,9 +106,9 @@ absent_down (After Quiet h) d is = absent_down h d is
 absent_down (After (Wrote device at value) h) d is = absent_down h d is
 absent_down (After (Lost device at value) h) d is = or_true (d == device) (is_down h d) (absent_down h d is)
 absent_down (After (Flushed device) h) d is = absent_down h d is
-absent_down (After (Fell device) h) d is = or_true (d == device) (is_down h d) (absent_down h d is)
+absent_down (After (DeviceFailed device) h) d is = or_true (d == device) (is_down h d) (absent_down h d is)
 
--- what reads give is what a stop may leave of a device that is up
+-- what reads give is what a crash may leave of a device that is up
 pub up_seen : (h : History) (d a : ℕ) → is_down h d ≡ false → MayHold h d a (sector_of (seen h d) a)
 up_seen h d a up = may_hold_seen h d a (λ none. differ (sym (absent_down h d none) ∙ up))
   where

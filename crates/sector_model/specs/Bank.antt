@@ -3,7 +3,7 @@ use Rattle.std.specs.Prelude.{◌≡◌, ◌≢◌, ℕ, ◌+◌, ◌-◌, ◌<�
 use Rattle.sector_model.specs.declared.sector.Stop.{Stop}
 use Rattle.sector_model.specs.declared.sector.Stop.TheVariants.{Down, Worn}
 use Rattle.sector_model.specs.declared.event.Event.{Event}
-use Rattle.sector_model.specs.declared.event.Event.TheVariants.{Quiet, Wrote, Lost, Flushed, Fell}
+use Rattle.sector_model.specs.declared.event.Event.TheVariants.{Quiet, Wrote, Lost, Flushed, DeviceFailed}
 use Rattle.sector_model.specs.declared.calls.TheConstants.{GREATEST_COUNT}
 use Rattle.sector_model.specs.History.{History, After, Bytes, IsSector, MayHold, start_of, disk_of, is_down, calls_of}
 
@@ -43,13 +43,13 @@ fault_at dev fault h = if is_down h dev then Quiet else fault
 
 -- the run after a call, by whether it was answered
 abbrev pub after_read : ℕ → Bool → History → History
-after_read dev answered h = After (if answered then Quiet else fault_at dev (Fell dev) h) h
+after_read dev answered h = After (if answered then Quiet else fault_at dev (DeviceFailed dev) h) h
 
 abbrev pub after_write : ℕ → ℕ → Bytes → Bool → History → History
 after_write dev at value answered h = After (if answered then Wrote dev at value else fault_at dev (Lost dev at value) h) h
 
 abbrev pub after_flush : ℕ → Bool → History → History
-after_flush dev answered h = After (if answered then Flushed dev else fault_at dev (Fell dev) h) h
+after_flush dev answered h = After (if answered then Flushed dev else fault_at dev (DeviceFailed dev) h) h
 
 -- the same devices after some calls: none is more, less, longer or shorter, and none that was down is up
 pub record IsLater (old new : Panel) : Type 0 where

@@ -1,8 +1,8 @@
--- Which image a stop is taken to leave, where there is a choice.
+-- Which image a crash is taken to leave, where there is a choice.
 use Rattle.std.specs.Prelude.{◌≡◌, ℕ, ◌+◌, ◌-◌, ◌*◌, ◌%◌, ◌<◌, ◌==◌, ◌&&◌, nat_lt, if◌then◌else◌, List, [], ◌∷◌, ◌++◌, length, Option, Some, None, slice_index_or}
 use Rattle.sector_model.specs.declared.choice.Choice.{Choice}
 use Rattle.sector_model.specs.declared.choice.Choice.TheVariants.{Oldest, Newest, Mixed}
-use Rattle.sector_model.specs.declared.event.Event.TheVariants.{Quiet, Wrote, Lost, Flushed, Fell}
+use Rattle.sector_model.specs.declared.event.Event.TheVariants.{Quiet, Wrote, Lost, Flushed, DeviceFailed}
 use Rattle.sector_model.specs.History.{History, Began, After, Bytes, Slots, disk_of, sector_of, seen, start_of}
 
 -- how many writes and flushes were answered: each takes a place of the log
@@ -12,7 +12,7 @@ logged (After Quiet before) = logged before
 logged (After (Wrote device at value) before) = logged before + 1
 logged (After (Lost device at value) before) = logged before
 logged (After (Flushed device) before) = logged before + 1
-logged (After (Fell device) before) = logged before
+logged (After (DeviceFailed device) before) = logged before
 
 -- The candidates of a sector, in order: its safe value, and the values written to it since. The value of a write at which the device
 -- went down is one where the log, which began with so much room, had room for it.
@@ -25,7 +25,7 @@ candidates room (After (Lost device at value) before) d a =
     if d == device && a == at && nat_lt (logged before) room then candidates room before d a ++ value ∷ [] else candidates room before d a
 candidates room (After (Flushed device) before) d a =
     if d == device then sector_of (seen before d) a ∷ [] else candidates room before d a
-candidates room (After (Fell device) before) d a = candidates room before d a
+candidates room (After (DeviceFailed device) before) d a = candidates room before d a
 
 -- which of so many candidates is taken
 abbrev pub number_taken : Choice → (d a count : ℕ) → ℕ

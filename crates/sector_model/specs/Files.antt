@@ -11,7 +11,7 @@ use Rattle.sector_model.specs.Safe.{safe_in}
 abbrev pub is_down : {F : Type 0} → Slot F → Bool
 is_down slot = is_none slot.file
 
--- the slot of this number; those behind the last have no device
+-- the slot of this number; those after the last have no device
 abbrev pub slot_at : {F : Type 0} → List (Slot F) → ℕ → Slot F
 slot_at slots d = slice_index_or slots d record { file = None; sectors = 0; is_synced = true }
 

@@ -1,7 +1,7 @@
--- What devices did in a run, call by call; what a read gives; what a stop may leave.
+-- What devices did in a run, call by call; what a read gives; what a crash may leave.
 use Rattle.std.specs.Prelude.{◌≡◌, ◌≢◌, ◌⊎◌, ℕ, ◌+◌, Bool, true, List, [], length, Option, Some, None, is_none, slice_index_or, slice_set, ◌==◌, nat_lt, ◌||◌, if◌then◌else◌}
 use Rattle.sector_model.specs.declared.event.Event.{Event}
-use Rattle.sector_model.specs.declared.event.Event.TheVariants.{Quiet, Wrote, Lost, Flushed, Fell}
+use Rattle.sector_model.specs.declared.event.Event.TheVariants.{Quiet, Wrote, Lost, Flushed, DeviceFailed}
 
 -- the bytes of a sector
 abbrev pub Bytes : Type 0
@@ -45,7 +45,7 @@ seen (After Quiet before) d = seen before d
 seen (After (Wrote device at value) before) d = if d == device then slice_set (seen before d) at value else seen before d
 seen (After (Lost device at value) before) d = seen before d
 seen (After (Flushed device) before) d = seen before d
-seen (After (Fell device) before) d = seen before d
+seen (After (DeviceFailed device) before) d = seen before d
 
 -- the device answers no more, or there is none in the slot
 abbrev pub is_down : History → ℕ → Bool
@@ -54,29 +54,29 @@ is_down (After Quiet before) d = is_down before d
 is_down (After (Wrote device at value) before) d = is_down before d
 is_down (After (Lost device at value) before) d = d == device || is_down before d
 is_down (After (Flushed device) before) d = is_down before d
-is_down (After (Fell device) before) d = d == device || is_down before d
+is_down (After (DeviceFailed device) before) d = d == device || is_down before d
 
 -- the slot has a device with these bytes in a sector
 abbrev pub IsAt : Option (List Bytes) → ℕ → Bytes → Type 0
 IsAt None a v = ⊥
 IsAt (Some disk) a v = v ≡ sector_of disk a
 
--- A stop now may leave these bytes in a sector of a device: those that were safe at its last good flush, or any written since.
+-- A crash now may leave these bytes in a sector of a device: those that were safe at its last good flush, or any written since.
 abbrev pub MayHold : History → ℕ → ℕ → Bytes → Type 0
 MayHold (Began start) d a v = IsAt (start d) a v
 MayHold (After Quiet before) d a v = MayHold before d a v
 MayHold (After (Wrote device at value) before) d a v = ((d ≡ device) × (a ≡ at) × (v ≡ value)) ⊎ MayHold before d a v
 MayHold (After (Lost device at value) before) d a v = ((d ≡ device) × (a ≡ at) × (v ≡ value)) ⊎ MayHold before d a v
 MayHold (After (Flushed device) before) d a v = MayHold before d a v × (d ≡ device → v ≡ sector_of (seen before d) a)
-MayHold (After (Fell device) before) d a v = MayHold before d a v
+MayHold (After (DeviceFailed device) before) d a v = MayHold before d a v
 
--- A stop now may leave this in a slot: of a device that is up its sectors, each for itself; of one that is down also absence.
+-- A crash now may leave this in a slot: of a device that is up its sectors, each for itself; of one that is down also absence.
 abbrev pub SlotMayHold : History → ℕ → Option (List Bytes) → Type 0
 SlotMayHold h d None = is_down h d ≡ true
 SlotMayHold h d (Some disk) =
     (start_of h d ≢ None) × (length disk ≡ length (disk_of (start_of h d))) × ((a : ℕ) → MayHold h d a (sector_of disk a))
 
--- a stop now may leave this in the slots, each for itself
+-- a crash now may leave this in the slots, each for itself
 abbrev pub MayLeave : History → Slots → Type 0
 MayLeave h slots = (d : ℕ) → SlotMayHold h d (slots d)
 

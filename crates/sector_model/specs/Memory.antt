@@ -4,7 +4,7 @@ use Rattle.std.specs.List.{AllPairs}
 use Rattle.std.specs.declared.alloc.Global.{Global}
 use Rattle.sector_model.specs.declared.memory.Entry.{Entry}
 use Rattle.sector_model.specs.declared.event.Event.{Event}
-use Rattle.sector_model.specs.declared.event.Event.TheVariants.{Quiet, Wrote, Lost, Flushed, Fell}
+use Rattle.sector_model.specs.declared.event.Event.TheVariants.{Quiet, Wrote, Lost, Flushed, DeviceFailed}
 use Rattle.sector_model.specs.History.{History, Began, After, Bytes, Slots, IsSector, MayHold, disk_of, seen, is_down}
 
 abbrev pub Disk : Type 0
@@ -18,7 +18,7 @@ abbrev pub slot_in : Option (Option Disk) → Option (List Bytes)
 slot_in None = None
 slot_in (Some slot) = sectors_in slot
 
--- a list of slots, as what stands in each slot; the slots behind the list have no device
+-- a list of slots, as what stands in each slot; the slots after the list have no device
 abbrev pub slots_of : List (Option Disk) → Slots
 slots_of slots d = slot_in (slice_get slots d)
 
@@ -56,7 +56,7 @@ ups (false ∷ flags) = ups flags + 1
 
 -- the event takes this device down, and puts nothing into another
 abbrev pub IsFaultOf : ℕ → Event → Type 0
-IsFaultOf d (Fell device) = device ≡ d
+IsFaultOf d (DeviceFailed device) = device ≡ d
 IsFaultOf d (Lost device at value) = (device ≡ d) × IsSector value
 IsFaultOf d Quiet = ⊥
 IsFaultOf d (Wrote device at value) = ⊥
@@ -95,7 +95,7 @@ is_answered Quiet = false
 is_answered (Wrote device at value) = true
 is_answered (Lost device at value) = false
 is_answered (Flushed device) = true
-is_answered (Fell device) = false
+is_answered (DeviceFailed device) = false
 
 -- the room of the log after an event
 abbrev pub room_after : Event → ℕ → ℕ
@@ -107,7 +107,7 @@ put_by Quiet room d a = []
 put_by (Wrote device at value) room d a = if d == device && a == at then value ∷ [] else []
 put_by (Lost device at value) room d a = if d == device && a == at && nat_lt 0 room then value ∷ [] else []
 put_by (Flushed device) room d a = []
-put_by (Fell device) room d a = []
+put_by (DeviceFailed device) room d a = []
 
 -- what the entries put there, in order
 abbrev pub put_by_all : List Entry → (room d a : ℕ) → List Bytes
@@ -120,7 +120,7 @@ written Quiet d disk = disk
 written (Wrote device at value) d disk = if d == device then slice_set disk at value else disk
 written (Lost device at value) d disk = disk
 written (Flushed device) d disk = disk
-written (Fell device) d disk = disk
+written (DeviceFailed device) d disk = disk
 
 -- the same after all of them
 abbrev pub all_written : List Entry → ℕ → List Bytes → List Bytes
@@ -133,4 +133,4 @@ flushes Quiet d = false
 flushes (Wrote device at value) d = false
 flushes (Lost device at value) d = false
 flushes (Flushed device) d = d == device
-flushes (Fell device) d = false
+flushes (DeviceFailed device) d = false

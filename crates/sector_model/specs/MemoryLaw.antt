@@ -3,7 +3,7 @@ use Rattle.std.specs.Prelude.{◌≡◌, ℕ, zero, suc, ◌+◌, ◌-◌, ◌^�
 use Rattle.std.proofs.Common.{sym, ◌∙◌, ap, subst, add-one}
 use Rattle.std.proofs.lemmas.List.{length-set}
 use Rattle.sector_model.specs.declared.memory.Entry.{Entry}
-use Rattle.sector_model.specs.declared.event.Event.TheVariants.{Quiet, Wrote, Lost, Flushed, Fell}
+use Rattle.sector_model.specs.declared.event.Event.TheVariants.{Quiet, Wrote, Lost, Flushed, DeviceFailed}
 use Rattle.sector_model.specs.History.{History, Began, After, Bytes, Slots, seen, start_of, disk_of, calls_of}
 use Rattle.sector_model.specs.Bank.{IsTrueTo}
 use Rattle.sector_model.specs.Memory.{Disk, contents_of, down_at, run_of, slots_of, IsReplayed}
@@ -19,7 +19,7 @@ length-seen (After Quiet h) d = length-seen h d
 length-seen (After (Wrote device at value) h) d = length-cond (d == device) (seen h d) at value ∙ length-seen h d
 length-seen (After (Lost device at value) h) d = length-seen h d
 length-seen (After (Flushed device) h) d = length-seen h d
-length-seen (After (Fell device) h) d = length-seen h d
+length-seen (After (DeviceFailed device) h) d = length-seen h d
 
 pub start-run : (start : Slots) (log : List Entry) (n : ℕ) → start_of (run_of start log n) ≡ start
 start-run start log zero = refl

@@ -8,7 +8,7 @@ pub data Throughout (P : History → Type 0) (old : History) : History → Type 
   here : P old → Throughout P old old
   then_also : (event : Event) (h : History) → Throughout P old h → P (After event h) → Throughout P old (After event h)
 
--- each image that a stop now may leave has Q
+-- each image that a crash now may leave has Q
 pub record Leaves (Q : Slots → Type 0) (h : History) : Type 0 where
   pub each : (image : Slots) → MayLeave h image → Q image
 
@@ -16,7 +16,7 @@ pub record Leaves (Q : Slots → Type 0) (h : History) : Type 0 where
 abbrev pub Contents : Type 1
 Contents = (device at : ℕ) → Bytes → Type 0
 
--- a stop now may leave in each sector only what may stand there
+-- a crash now may leave in each sector only what may stand there
 pub record LeavesWithin (Q : Contents) (h : History) : Type 0 where
   pub each : (device at : ℕ) (value : Bytes) → MayHold h device at value → Q device at value
 

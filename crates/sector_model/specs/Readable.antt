@@ -6,6 +6,6 @@ use Rattle.sector_model.specs.History.{Bytes, History, MayHold, Slots, is_down, 
 abbrev pub readable : History → Slots
 readable h = λ d. if is_down h d then None else Some (seen h d)
 
--- each sector of a device that is up has one value in all images that a stop now may leave
+-- each sector of a device that is up has one value in all images that a crash now may leave
 abbrev pub NothingPending : History → Type 0
 NothingPending h = (device at : ℕ) (first second : Bytes) → is_down h device ≡ false → MayHold h device at first → MayHold h device at second → first ≡ second

@@ -9,7 +9,7 @@ use crate::{Down, Sector};
 ///
 /// Each device call (a read, a write or a flush) adds one to `now`, also one that fails. A device that
 /// answers a fault is down: it answers only faults as long as the bank lives. A slot without a device
-/// is down from the start. The atomic step is one device call; a stop may come before or within any of
+/// is down from the start. The atomic step is one device call; a crash may come before or within any of
 /// them, and what it may leave is `MayLeave` of specs/History.antt. Of a bank that is not honest only
 /// the counts are known: its bytes may be any.
 pub trait Bank {

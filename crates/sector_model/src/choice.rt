@@ -1,6 +1,6 @@
-//! Which image a stop is taken to leave.
+//! Which image a crash is taken to leave.
 
-/// Which of the values that a stop may leave in a sector is taken. The candidates of a sector are its safe
+/// Which of the values that a crash may leave in a sector is taken. The candidates of a sector are its safe
 /// value, which is that of the device's last good flush, and the values written to it since, in order. The
 /// value of a write at which the device went down is among them, unless the write found the log full.
 #[derive(Clone, Copy)]

@@ -14,5 +14,5 @@ pub enum Event {
     /// A flush that was answered: what was written to the device before is safe.
     Flushed { device: u8 },
     /// A read or a flush at which the device went down.
-    Fell { device: u8 },
+    DeviceFailed { device: u8 },
 }

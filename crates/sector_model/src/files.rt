@@ -297,7 +297,7 @@ impl<F: DeviceFile + Drop, R: RunRecord + Drop> Bank for FileBank<F, R> {
             return Err(Down);
         }
         if slot.read(at, to).is_err() {
-            self.notes.note_fall(dev);
+            self.notes.note_failure(dev);
             return Err(Down);
         }
         self.notes.note_quiet();
@@ -349,14 +349,14 @@ impl<F: DeviceFile + Drop, R: RunRecord + Drop> Bank for FileBank<F, R> {
             return Err(Down);
         }
         if slot.flush().is_err() {
-            self.notes.note_fall(dev);
+            self.notes.note_failure(dev);
             return Err(Down);
         }
         if self.notes.note_flush(dev) {
             return Ok(());
         }
         slot.close();
-        self.notes.note_fall(dev);
+        self.notes.note_failure(dev);
         Err(Down)
     }
 }

@@ -1,4 +1,4 @@
-//! A model of sector devices that may fall silent and may stop at any moment.
+//! A model of sector devices that may fail, and of crashes at any moment.
 #![tactic(auto)]
 
 mod bank;

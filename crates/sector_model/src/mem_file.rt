@@ -19,7 +19,7 @@ pub struct MemFile {
 impl MemFile {
     ghost use Rattle.sector_model.specs.MemFiles.{contents_in};
 
-    /// A file with these sectors, one behind the other, all of them synced. The only error is that an
+    /// A file with these sectors, one after the other, all of them synced. The only error is that an
     /// allocation was refused.
     pub fn new(alloc: Global, disk: &[Sector]) -> Result<MemFile, AllocError>
         ensures size { IfOk result (λ file. (contents_in file).size ≡ 512 * length disk.now) }

@@ -8,7 +8,7 @@ ghost use Rattle.sector_model.specs.Plans.{fails_at};
 ghost use Rattle.std.proofs.Common.{sym};
 ghost use Rattle.sector_model.specs.declared.calls.TheConstants.{GREATEST_COUNT};
 
-mod after_stop;
+mod after_crash;
 mod as_record;
 
 use crate::{Bank, Down, Event, Plan, Refusal, Sector};
@@ -137,7 +137,7 @@ impl MemBank {
     }
 
     // A device goes down.
-    fn fall(&mut self, slot: usize, event: Event)
+    fn fail_device(&mut self, slot: usize, event: Event)
         requires calls { self.old.calls < GREATEST_COUNT }
         requires slot { slot < vec_len self.old.down }
         requires up { down_at self.old.down.items slot ≡ false }
@@ -245,7 +245,7 @@ impl Bank for MemBank {
             return Err(Down);
         }
         if self.plan.fails(dev, self.calls) {
-            self.fall(slot, Event::Fell { device: dev });
+            self.fail_device(slot, Event::DeviceFailed { device: dev });
             return Err(Down);
         }
         *to = self.disks[slot][at as usize];
@@ -270,7 +270,7 @@ impl Bank for MemBank {
         }
         if self.room == 0 || self.plan.fails(dev, self.calls) {
             let value = *from;
-            self.fall(
+            self.fail_device(
                 slot,
                 Event::Lost {
                     device: dev,
@@ -299,7 +299,7 @@ impl Bank for MemBank {
             return Err(Down);
         }
         if self.room == 0 || self.plan.fails(dev, self.calls) {
-            self.fall(slot, Event::Fell { device: dev });
+            self.fail_device(slot, Event::DeviceFailed { device: dev });
             return Err(Down);
         }
         self.settle(dev);

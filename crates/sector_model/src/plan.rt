@@ -17,7 +17,7 @@ impl Plan {
         stop: None,
     };
 
-    /// `NONE`, with the contract that no device goes down at any call by it, and that it is never stopped.
+    /// `NONE`, with the contract that no device goes down at any call by it, and that it has no crash.
     pub fn none() -> Plan
         ensures same { result ≡ Self.NONE }
         ensures stop { result.stop ≡ None }

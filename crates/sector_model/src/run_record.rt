@@ -1,6 +1,6 @@
 //! What is kept of the run of a bank over files.
 ghost use Rattle.std.specs.Prelude.{◌≡◌, ◌<◌, None, Bool, IsTrue, false, not, length, if◌then◌else◌};
-ghost use Rattle.sector_model.specs.declared.event.Event.TheVariants.{Quiet, Wrote, Lost, Flushed, Fell};
+ghost use Rattle.sector_model.specs.declared.event.Event.TheVariants.{Quiet, Wrote, Lost, Flushed, DeviceFailed};
 ghost use Rattle.sector_model.specs.History.{History, Began, After, calls_of, seen, is_down};
 ghost use Rattle.sector_model.specs.declared.calls.TheConstants.{GREATEST_COUNT};
 
@@ -39,10 +39,10 @@ pub trait RunRecord {
         ensures noted { IsTrue tells → run self.new ≡ (if result then After (Flushed dev) (run self.old) else run self.old) };
 
     /// Notes a read or a flush at which the device went down.
-    fn note_fall(&mut self, dev: u8)
+    fn note_failure(&mut self, dev: u8)
         requires calls { IsTrue tells → calls_of (run self.old) < GREATEST_COUNT }
         requires up { IsTrue tells → is_down (run self.old) dev ≡ false }
-        ensures { IsTrue tells → run self.new ≡ After (Fell dev) (run self.old) };
+        ensures { IsTrue tells → run self.new ≡ After (DeviceFailed dev) (run self.old) };
 
     /// Notes a write at which the device went down.
     fn note_loss(&mut self, dev: u8, at: u32, value: &Sector)
@@ -72,7 +72,7 @@ impl RunRecord for NoRecord {
         true
     }
 
-    fn note_fall(&mut self, _dev: u8) {}
+    fn note_failure(&mut self, _dev: u8) {}
 
     fn note_loss(&mut self, _dev: u8, _at: u32, _value: &Sector) {}
 }

@@ -19,7 +19,7 @@ use Rattle.superblock.proofs.Spelled.{length-superblock_sector}
 use Rattle.array_io.specs.Believed.Fresh.{zeros_of}
 use Rattle.array_io.specs.Believed.Views.{ArrayView, EndsIt, RestsOn}
 use Rattle.recovery.specs.Making as recovery
-use Rattle.recovery.specs.Making.{BankView, IsNoMake, IsQuietBehind, Makes, bank_view}
+use Rattle.recovery.specs.Making.{BankView, IsNoMake, IsQuietBeyond, Makes, bank_view}
 use Rattle.volume_table.specs.Opening.{IsNoOpening, Opened, Opens, Returned}
 use Rattle.volume_table.specs.Shows.{Shows}
 use Rattle.volume_table.specs.Volumes.{no_volumes}
@@ -35,7 +35,7 @@ use Rattle.set_commands.proofs.ScriptLaws.{script_keeps_volumes}
 abbrev zeros : ℕ → List Bytes
 zeros count = replicate count (replicate 512 0)
 
--- ---- a bank in memory has nothing behind its slots
+-- ---- a bank in memory has nothing after its slots
 
 -- no superblock counts where there is no device
 counts_nowhere : (id : List ℕ) (devices slot : ℕ) (content : Content) → content ≡ None → HasNone id devices slot content
@@ -51,12 +51,12 @@ stays_empty : (start : Slots) (slot : ℕ) (content : Content) → start slot �
 stays_empty start slot None none may = refl
 stays_empty start slot (Some disk) none may = absurd (may.0 none)
 
-pub quiet_behind : (id : List ℕ) (panel : Panel) (history : History) (slots : List (Option Disk)) → history ≡ Began (slots_of slots) → length slots ≤ 5
-    → IsQuietBehind id 5 (bank_view panel history)
-quiet_behind id panel history slots began five = subst (λ (h : History). IsQuietBehind id 5 (bank_view panel h)) (sym began) record {
-  one_value = λ device at first second behind up. absurd (true≢false (sym (ap is_none (slots_past slots device (omega (arith, five, behind)))) ∙ up));
-  nothing = λ image slot may behind. counts_nowhere id panel.devices slot (image slot)
-      (stays_empty (slots_of slots) slot (image slot) (slots_past slots slot (omega (arith, five, behind))) (may slot));
+pub quiet_beyond : (id : List ℕ) (panel : Panel) (history : History) (slots : List (Option Disk)) → history ≡ Began (slots_of slots) → length slots ≤ 5
+    → IsQuietBeyond id 5 (bank_view panel history)
+quiet_beyond id panel history slots began five = subst (λ (h : History). IsQuietBeyond id 5 (bank_view panel h)) (sym began) record {
+  one_value = λ device at first second beyond up. absurd (true≢false (sym (ap is_none (slots_past slots device (omega (arith, five, beyond)))) ∙ up));
+  nothing = λ image slot may beyond. counts_nowhere id panel.devices slot (image slot)
+      (stays_empty (slots_of slots) slot (image slot) (slots_past slots slot (omega (arith, five, beyond))) (may slot));
 }
 
 -- what stands in five slots, by their devices
@@ -73,14 +73,14 @@ fresh_slots a b c d e slots is first second third fourth fifth =
 -- ---- the set is made
 
 pub made_fresh : (id : List ℕ) (geometry : Geometry) (bank : BankView) (array : ArrayView) → id ≡ fresh_id → geometry.members ≡ 3 → geometry.chunk ≡ 8 → geometry.stripes ≡ 32
-    → IsQuietBehind id 5 bank → Makes (Unit {0}) id geometry bank (recovery.Opened array) → IsMadeFresh array
+    → IsQuietBeyond id 5 bank → Makes (Unit {0}) id geometry bank (recovery.Opened array) → IsMadeFresh array
 made_fresh id geometry bank array is_id members chunk stripes quiet makes = record {
   of_id = (makes.first array refl).of_id ∙ is_id;
   members = ap (λ (g : Geometry). g.members) same ∙ members;
   chunk = ap (λ (g : Geometry). g.chunk) same ∙ chunk;
   stripes = ap (λ (g : Geometry). g.stripes) same ∙ stripes;
   rests = subst (λ (g : Geometry). RestsOn array None (zeros_of g)) (sym same)
-      (makes.rests tt (subst (λ (slots : ℕ). IsQuietBehind id slots bank) (five geometry.members members) quiet) array refl);
+      (makes.rests tt (subst (λ (slots : ℕ). IsQuietBeyond id slots bank) (five geometry.members members) quiet) array refl);
 }
   where
     same : array.table.geometry ≡ geometry

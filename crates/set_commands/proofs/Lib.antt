@@ -1,7 +1,7 @@
 pub mod Applied
 pub mod FreshLemmas
 pub mod LineAnswers
-pub mod Looked
+pub mod Inspected
 pub mod MadeSteps
 pub mod ScriptLaws
 pub mod Scripts

@@ -26,14 +26,14 @@ small_or_many : (count : ℕ) → (count ≤ MOST_BLOCKS_AT_ONCE) ⊎ (MOST_BLOC
 small_or_many count = grind arith
 
 -- a read of so many blocks as are kept, which are no more than may be read at once, is the read that was asked for; its blocks are the first of the buffer
-pub read_done : (honest : Type 0) (name : List ℕ) (at count kept places : ℕ) (to behind : List Block) (old new : StoreView) → kept ≡ min count KEPT_BLOCKS
+pub read_done : (honest : Type 0) (name : List ℕ) (at count kept places : ℕ) (to beyond : List Block) (old new : StoreView) → kept ≡ min count KEPT_BLOCKS
     → places ≡ kept → places ≤ MOST_BLOCKS_AT_ONCE → length to ≡ places → Applies honest (OnVolumes (Read name at places)) old new (Blocks to)
-    → Applies honest (OnVolumes (Read name at count)) old new (Blocks (take kept (to ++ behind)))
-read_done honest name at count kept places to behind old new is as_many few long applies =
+    → Applies honest (OnVolumes (Read name at count)) old new (Blocks (take kept (to ++ beyond)))
+read_done honest name at count kept places to beyond old new is as_many few long applies =
     let all : places ≡ count = omega (arith, is, as_many, few) in
     let k : kept ≡ length to = omega (arith, as_many, long) in
-    let first : to ≡ take kept (to ++ behind) = sym (ap (λ (n : ℕ). take n (to ++ behind)) k ∙ take-append_seam to behind) in
-    subst (λ (n : ℕ). Applies honest (OnVolumes (Read name at n)) old new (Blocks (take kept (to ++ behind)))) all
+    let first : to ≡ take kept (to ++ beyond) = sym (ap (λ (n : ℕ). take n (to ++ beyond)) k ∙ take-append_seam to beyond) in
+    subst (λ (n : ℕ). Applies honest (OnVolumes (Read name at n)) old new (Blocks (take kept (to ++ beyond)))) all
     (subst (λ (blocks : List Block). Applies honest (OnVolumes (Read name at places)) old new (Blocks blocks)) first applies)
 
 -- one that is refused is refused so however many blocks were asked for

@@ -144,11 +144,11 @@ fewer_than_rows honest before position old mid new those rebuilds =
     let step = one_on honest position mid new rebuilds in
     omega (arith, those.far, those.rows, step.further, step.within)
 
--- a store that was open is open behind them
-open_behind : (honest : Type 0) (made : ℕ) (old new : StoreView) → old.ended ≡ None → Steps honest made old new → new.ended ≡ None
-open_behind honest made old new going (none_made none same) = ap (λ (store : StoreView). store.ended) same ∙ going
-open_behind honest made old new going (then_made before position mid more steps rebuilds) =
-    (rebuilds.going (open_behind honest before old mid going steps)).goes (λ ends. ends)
+-- a store that was open is open after them
+open_after : (honest : Type 0) (made : ℕ) (old new : StoreView) → old.ended ≡ None → Steps honest made old new → new.ended ≡ None
+open_after honest made old new going (none_made none same) = ap (λ (store : StoreView). store.ended) same ∙ going
+open_after honest made old new going (then_made before position mid more steps rebuilds) =
+    (rebuilds.going (open_after honest before old mid going steps)).goes (λ ends. ends)
 
 -- what a step can be refused with
 step_refused : (rebuilding last : Bool) (refusal : Refusal) (there : ℕ)
@@ -170,7 +170,7 @@ one_refused honest refusal old new going rebuilds = inr (through_refused honest 
 pub rebuild_refused : (honest : Type 0) (steps : Option ℕ) (refusal : Refusal) (old new : StoreView) → old.ended ≡ None → Rebuilds honest steps old new (Err refusal)
     → EndsIt refusal ⊎ (refusal ≡ NothingToRebuild)
 rebuild_refused honest steps refusal old new going rebuilds =
-    one_refused honest refusal rebuilds.mid new (open_behind honest rebuilds.before old rebuilds.mid going rebuilds.steps_before) rebuilds.last
+    one_refused honest refusal rebuilds.mid new (open_after honest rebuilds.before old rebuilds.mid going rebuilds.steps_before) rebuilds.last
 
 -- ---- how a rebuild ends
 

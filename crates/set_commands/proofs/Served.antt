@@ -4,7 +4,7 @@ use Rattle.std.specs.Prelude.{IfErr, OnErr, OnOk}
 use Rattle.std.specs.Io.KnownBytes.{Appends}
 use Rattle.sector_model.specs.declared.refusal.Refusal.{Refusal}
 use Rattle.sector_model.specs.declared.refusal.Refusal.TheVariants.{BadTable, Memory, NoSet, ReadFault, TwoLost, Worn, WriteFault}
-use Rattle.array_io.specs.Believed.Views.{ArrayView, EndsIt, StaysButForFalls}
+use Rattle.array_io.specs.Believed.Views.{ArrayView, EndsIt, StaysButForFailures}
 use Rattle.recovery.specs.Making.{BankView}
 use Rattle.recovery.specs.Assembling.{IsOfAssembly}
 use Rattle.volume_table.specs.Opening.{IsNoOpening, Opens, Outcome, WasGivenUp}
@@ -24,8 +24,8 @@ use Rattle.report.specs.Written.{AppendsPart}
 
 -- ---- a bank that is honest before a call is so in it
 
-stays_for : (honest other : Type 0) (old new : ArrayView) (ended : Type 0) → (other → honest) → StaysButForFalls honest old new ended → StaysButForFalls other old new ended
-stays_for honest other old new ended so stays = record { table = stays.table; fallen = λ fair. stays.fallen (so fair) }
+stays_for : (honest other : Type 0) (old new : ArrayView) (ended : Type 0) → (other → honest) → StaysButForFailures honest old new ended → StaysButForFailures other old new ended
+stays_for honest other old new ended so stays = record { table = stays.table; failure = λ fair. stays.failure (so fair) }
 
 given_up_for : (honest other : Type 0) (old : ArrayView) (back : BankView) (refusal : Refusal) → (other → honest) → WasGivenUp honest old back refusal → WasGivenUp other old back refusal
 given_up_for honest other old back refusal so given = record {
@@ -264,9 +264,9 @@ slots_no_float status (suc slot) = items_no_float (slots_json status slot) (slot
 no_float : (status : Status) → has_float (status_json status) ≡ false
 no_float status = ap (λ (b : Bool). b || false) (slots_no_float status (status.members + 2))
 
--- the text of the value, and the newline behind it
+-- the text of the value, and the newline after it
 pub json_told : (status : Status) (json : Bool) (value : Data) (text pushed : List ℕ) → json ≡ true → value ≡ status_json status → (has_float value ≡ false → text ≡ compact_text value)
     → pushed ≡ text ++ 10 ∷ [] → pushed ≡ told_text json status
-json_told status json value text pushed is same written behind =
+json_told status json value text pushed is same written beyond =
     let whole : text ≡ compact_text (status_json status) = written (ap has_float same ∙ no_float status) ∙ ap compact_text same in
-    behind ∙ ap (λ (t : List ℕ). t ++ 10 ∷ []) whole ∙ ap (λ (b : Bool). told_text b status) (sym is)
+    beyond ∙ ap (λ (t : List ℕ). t ++ 10 ∷ []) whole ∙ ap (λ (b : Bool). told_text b status) (sym is)

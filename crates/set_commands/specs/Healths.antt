@@ -48,13 +48,13 @@ abbrev pub worse_with : Health → Option Examined → Health
 worse_with was None = was
 worse_with was (Some examined) = worse_of was (health_by examined.outlook)
 
--- the set of this id was looked at, and this is the worse of what was and of what was found
+-- the set of this id was inspected, and this is the worse of what was and of what was found
 pub record HealthAt (honest : Type 0) (id : List ℕ) (old new : BankView) (was is : Health) : Type 0 where
   pub found : Option Examined
   pub examines : Examines honest id old new (Ok found)
   pub worse : is ≡ worse_with was found
 
--- the set of the least id above this one was looked at, and then others
+-- the set of the least id above this one was inspected, and then others
 pub record HealthFurther (honest : Type 0) (above : Option (List ℕ)) (old new : BankView) (was is : Health)
     (Rest : Option (List ℕ) → BankView → BankView → Health → Health → Type 0) : Type 0 where
   pub id : List ℕ
@@ -62,17 +62,17 @@ pub record HealthFurther (honest : Type 0) (above : Option (List ℕ)) (old new 
   pub seen : BankView
   pub mid : Health
   pub finds : FindsIdAbove honest above old found (Ok (Some id))
-  pub looks : HealthAt honest id found seen was mid
+  pub inspections : HealthAt honest id found seen was mid
   pub goes_on : Rest (Some id) seen new mid is
 
--- the sets with ids above this one were looked at in the order of their ids, so many at most
+-- the sets with ids above this one were inspected in the order of their ids, so many at most
 abbrev pub HealthAbove : (honest : Type 0) (most : ℕ) (above : Option (List ℕ)) → (old new : BankView) (was is : Health) → Type 0
 HealthAbove honest zero above old new was is = (new ≡ old) × (is ≡ was)
 HealthAbove honest (suc most) above old new was is =
     (FindsIdAbove honest above old new (Ok None) × (is ≡ was))
     ⊎ HealthFurther honest above old new was is (HealthAbove honest most)
 
--- the set of an id was looked at on a bank, or each set where there is no id, and this is the worst of what was and of what was found
-abbrev pub LooksHealth : (honest : Type 0) → Option (List ℕ) → BankView → (was is : Health) → Type 0
-LooksHealth honest None bank was is = (after : BankView) × HealthAbove honest 20 None bank after was is
-LooksHealth honest (Some id) bank was is = (after : BankView) × HealthAt honest id bank after was is
+-- the set of an id was inspected on a bank, or each set where there is no id, and this is the worst of what was and of what was found
+abbrev pub InspectsHealth : (honest : Type 0) → Option (List ℕ) → BankView → (was is : Health) → Type 0
+InspectsHealth honest None bank was is = (after : BankView) × HealthAbove honest 20 None bank after was is
+InspectsHealth honest (Some id) bank was is = (after : BankView) × HealthAt honest id bank after was is

@@ -28,7 +28,7 @@ Runs extents (line ∷ lines) old (reply ∷ replies) new = (mid : VolumeMap) ×
 Runs extents [] old (reply ∷ replies) new = ⊥
 Runs extents (line ∷ lines) old [] new = ⊥
 
--- While a line is done, each case that a stop may leave stands for the volumes before it or for those after it.
+-- While a line is done, each case that a crash may leave stands for the volumes before it or for those after it.
 pub record StandsInLine (line : List ℕ) (old new : StoreView) (lost : Option Lost) (before after : VolumeMap) : Type 0 where
   pub leaves : Leaves (extents_for_store old) line before after
   pub stands : StandsThroughout old.array.table old.array.panel.devices lost (before ∷ after ∷ []) old.array.history new.array.history
@@ -55,14 +55,14 @@ pub record EndsSettled (lines : List (List ℕ)) (replies : List Reply) (old new
   pub runs : Runs (extents_for_store old) lines before replies after
   pub settled : IsSettledOn new lost after
 
--- On an honest bank, from a store that is settled on some volumes, lines are answered by the volume machine: at each moment a stop leaves the volumes after
--- the first so many lines, and behind them the store is settled on those after all.
+-- On an honest bank, from a store that is settled on some volumes, lines are answered by the volume machine: at each moment a crash leaves the volumes after
+-- the first so many lines, and after them the store is settled on those after all.
 abbrev pub ScriptKeepsVolumes : Type 0
 ScriptKeepsVolumes = (lines : List (List ℕ)) (replies : List Reply) (old new : StoreView) → (serves : Serves (Unit {0}) lines replies old new)
     → (lost : Option Lost) (volumes : VolumeMap) → IsSettledOn old lost volumes
     → KeepsVolumes serves lost volumes × EndsSettled lines replies old new volumes
 
--- and in a line that ended the script, behind those
+-- and in a line that ended the script, after those
 abbrev pub LastLineStands : Type 0
 LastLineStands = (line : List ℕ) (old new : StoreView) (reply : Reply) → Answers (Unit {0}) line old new reply
     → (lost : Option Lost) (volumes : VolumeMap) → IsSettledOn old lost volumes

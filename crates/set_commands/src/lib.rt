@@ -7,7 +7,7 @@ mod script;
 mod serving;
 
 pub use law::law_of_scripts;
-pub use progress::{Left, Meter, Watched, in_words, percent, time_left};
+pub use progress::{Left, Meter, ProgressBank, in_words, percent, time_left};
 pub use script::run_script;
 pub use serving::fresh::serve_fresh;
 pub use serving::{

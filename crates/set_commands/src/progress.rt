@@ -1,11 +1,11 @@
-//! How far a long command is, for whoever looks on.
+//! How far a long command is, for whoever watches.
 ghost use Rattle.std.specs.Prelude.{◌≡◌, ◌↔◌, ◌≤◌, IfSome, IsNone};
 ghost use Rattle.set_commands.specs.Progress.{left_of, percent_of, time_left_of};
 
+mod progress_bank;
 mod terminal;
-mod watched;
 
-pub use watched::Watched;
+pub use progress_bank::ProgressBank;
 
 const SECOND: u64 = 1_000;
 
@@ -26,7 +26,7 @@ pub enum Left {
 
 /// A runtime that can show how far a command is.
 pub trait Meter {
-    /// The milliseconds since an arbitrary start, which stays the same. `None` where nobody looks on, or no clock tells the time: nothing is shown then.
+    /// The milliseconds since an arbitrary start, which stays the same. `None` where nobody watches, or no clock tells the time: nothing is shown then.
     fn millis(&self) -> Option<u64>;
 
     /// Shows that so many percent are done, 0 to 100, and about how much time is left, where that can be told, in place of what was shown before.

@@ -11,13 +11,13 @@ use volume_table::Store;
 
 mod calls;
 mod commands;
+mod crashes;
 mod faults;
 mod lines;
 mod many;
+mod progress_banks;
 mod renames;
 mod rows;
-mod stops;
-mod watching;
 mod whole_again;
 
 /// The stripes of set A: 3 members, chunk 8, 256 rows, 512 data sectors and 7 extents.
@@ -141,7 +141,7 @@ fn plays(rt: &(impl Abort + AllocGlobal), store: &mut Store<MemBank>, rows: &[Ro
 }
 
 /// From the call of this number on the devices in these slots go down.
-fn fall_at(rt: &impl Abort, store: &mut Store<MemBank>, slots: &[usize], call: u64) {
+fn fail_at(rt: &impl Abort, store: &mut Store<MemBank>, slots: &[usize], call: u64) {
     let mut plan = Plan::NONE;
     for slot in slots {
         assert!(rt; *slot < 10);
@@ -150,8 +150,8 @@ fn fall_at(rt: &impl Abort, store: &mut Store<MemBank>, slots: &[usize], call: u
     store.array.bank.plan = plan;
 }
 
-/// The devices of a stop so many calls ago.
-fn stopped(
+/// The devices of a crash so many calls ago.
+fn crashed(
     rt: &(impl Abort + AllocGlobal),
     store: &Store<MemBank>,
     ago: u64,
@@ -159,13 +159,13 @@ fn stopped(
 ) -> Image {
     let call = store.bank().now().saturating_sub(ago);
     assert!(rt; call <= store.bank().now());
-    let stop = store.bank().image_after(rt.alloc(), call, choice);
-    stop.expect(rt, "memory")
+    let crash = store.bank().image_after(rt.alloc(), call, choice);
+    crash.expect(rt, "memory")
 }
 
-/// The devices of a stop now, where all that was written has landed.
+/// The devices of a crash now, where all that was written has landed.
 fn image_now(rt: &(impl Abort + AllocGlobal), store: &Store<MemBank>) -> Image {
-    stopped(rt, store, 0, Choice::Newest)
+    crashed(rt, store, 0, Choice::Newest)
 }
 
 /// These devices without that of a slot.

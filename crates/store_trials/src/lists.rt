@@ -84,7 +84,7 @@ fn lists_without_table(rt: HostRuntime) {
     same(&rt, is_shown, [true, false, false, false, false, false]);
 }
 
-// The record of the volume `a` of 65 blocks in version 2: 63 bytes for the name, and the number of blocks behind them.
+// The record of the volume `a` of 65 blocks in version 2: 63 bytes for the name, and the number of blocks after them.
 const LONG_RECORD: &[u8] = &[
     0x01, 0x61, 0, 0, 0, 0, 0, 0, 0, 0, 0, 0, 0, 0, 0, 0, 0, 0, 0, 0, 0, 0, 0, 0, 0, 0, 0, 0, 0, 0,
     0, 0, 0, 0, 0, 0, 0, 0, 0, 0, 0, 0, 0, 0, 0, 0, 0, 0, 0, 0, 0, 0, 0, 0, 0, 0, 0, 0, 0, 0, 0, 0,
@@ -107,7 +107,7 @@ fn list_of_version_2(rt: HostRuntime) {
     same(&rt, blocks_in_volume(&logical, 2, b"b"), None);
 }
 
-// Twenty-four sectors are too few, and the set has one extent alone; the records and extents are those of version 1 behind the sector 0 of version 2, or
+// Twenty-four sectors are too few, and the set has one extent alone; the records and extents are those of version 1 after the sector 0 of version 2, or
 // the other way round; and there is no version 3.
 #[test]
 fn lists_without_table_of_version_2(rt: HostRuntime) {
@@ -135,7 +135,7 @@ fn shows_table(logical: &[Sector], sectors: usize, extents: u32) -> bool {
     table_shown(&logical[..sectors], extents).is_some()
 }
 
-// The volume in a table of version 1, with other bytes in the reserved sectors behind that.
+// The volume in a table of version 1, with other bytes in the reserved sectors after that.
 fn one_volume_before_other_bytes() -> Logical {
     let mut logical = one_volume();
     for number in 11..64usize {
@@ -144,9 +144,9 @@ fn one_volume_before_other_bytes() -> Logical {
     logical
 }
 
-// In version 1 the sectors behind the eleventh are not looked at.
+// In version 1 the sectors after the eleventh are not looked at.
 #[test]
-fn list_with_other_bytes_behind_the_table(rt: HostRuntime) {
+fn list_with_other_bytes_after_the_table(rt: HostRuntime) {
     let logical = one_volume_before_other_bytes();
     check_list(&rt, &logical, Some(65), BLOCKS);
 }

@@ -1,4 +1,4 @@
-//! Stores over sets in memory, for tests: sets that are made, stopped and assembled again, and the steps that tests take on their stores.
+//! Stores over sets in memory, for tests: sets that are made, crashed and assembled again, and the steps that tests take on their stores.
 
 use crate::testing::{all, front, same};
 use array_io::Array;
@@ -20,23 +20,23 @@ use volume_table::{Listed, Store};
 
 mod calling;
 mod calls;
+mod crashes;
 mod device_calls;
 mod events;
 mod every_call;
-mod falls;
+mod failures;
 mod memory;
 mod mixed;
-mod rebuild_falls;
+mod rebuild_failures;
 mod rebuilds;
 mod renames;
 mod scrubs;
-mod stops;
 mod tables;
 mod upgrades;
 mod worn_out;
 
 use calling::{check_call, check_event};
-use falls::check_ended;
+use failures::check_ended;
 
 /// The id of each set.
 const ID: [u8; 16] = [0, 1, 2, 3, 4, 5, 6, 7, 8, 9, 10, 11, 12, 13, 14, 15];
@@ -121,7 +121,7 @@ pub(crate) enum Step<'a> {
     /// The table of volumes has this version, as the status tells.
     Version(u8),
     /// These slots go down at their first call after so many from now on, and no other.
-    Fall(&'a [u8], u64),
+    Failure(&'a [u8], u64),
     /// Every call is refused so, without a device call.
     Ended(Refusal),
 }
@@ -140,7 +140,7 @@ pub(crate) fn check_from(
             Step::Apply(call, answer) => check_event(rt, store, number, call, answer),
             Step::Makes(call, answer, made) => check_made(rt, store, number, call, answer, made),
             Step::Holds(volumes) => same(rt, (number, unlike(rt, store, volumes)), (number, None)),
-            Step::Fall(slots, after) => fall(rt, store, slots, after),
+            Step::Failure(slots, after) => fail_devices(rt, store, slots, after),
             Step::Ended(refusal) => check_ended(rt, store, number, refusal),
             step => check_state(rt, store, number, step),
         }
@@ -252,8 +252,8 @@ pub(crate) fn assembled(rt: &(impl Abort + AllocGlobal), image: Image) -> Array<
     array.ok().expect(rt, "the set is assembled")
 }
 
-/// The devices at a stop after so many calls.
-pub(crate) fn stopped(
+/// The devices at a crash after so many calls.
+pub(crate) fn crashed(
     rt: &(impl Abort + AllocGlobal),
     bank: &MemBank,
     call: u64,
@@ -264,12 +264,12 @@ pub(crate) fn stopped(
     image.expect(rt, "memory")
 }
 
-/// The devices at a stop now, where all that was written has landed.
+/// The devices at a crash now, where all that was written has landed.
 pub(crate) fn image_now(rt: &(impl Abort + AllocGlobal), bank: &MemBank) -> Image {
-    stopped(rt, bank, bank.now(), Choice::Newest)
+    crashed(rt, bank, bank.now(), Choice::Newest)
 }
 
-/// A store over the set that is assembled after a stop, with a slot absent if it is one of the set's.
+/// A store over the set that is assembled after a crash, with a slot absent if it is one of the set's.
 pub(crate) fn again(
     rt: &(impl Abort + AllocGlobal),
     bank: &MemBank,
@@ -277,7 +277,7 @@ pub(crate) fn again(
     choice: Choice,
     absent: usize,
 ) -> TestStore {
-    let mut image = stopped(rt, bank, call, choice);
+    let mut image = crashed(rt, bank, call, choice);
     if absent < image.slots.len() {
         let _ = mem::replace(&mut image.slots[absent], None);
     }
@@ -301,7 +301,7 @@ pub(crate) fn opened_after(
 }
 
 /// From now on these slots go down at their first call after so many, and no other.
-pub(crate) fn fall(rt: &impl Abort, store: &mut TestStore, slots: &[u8], after: u64) {
+pub(crate) fn fail_devices(rt: &impl Abort, store: &mut TestStore, slots: &[u8], after: u64) {
     let call = store.array.bank.now().saturating_add(after);
     let mut plan = Plan::NONE;
     for slot in slots {
@@ -344,7 +344,7 @@ pub(crate) fn unlike_block(
     None
 }
 
-/// Where a store shows other volumes than these: the place of a volume, and the number of a block of it; behind the last volume where it lists
+/// Where a store shows other volumes than these: the place of a volume, and the number of a block of it; after the last volume where it lists
 /// others.
 pub(crate) fn unlike(
     rt: &(impl Abort + AllocGlobal),

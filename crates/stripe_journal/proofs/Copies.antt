@@ -16,7 +16,7 @@ use Rattle.stripe_journal.specs.Copying.{CopiesEntry, body_in, copied_from, copy
 use Rattle.stripe_journal.specs.Entries.{body_start}
 use Rattle.stripe_journal.specs.Spelling.{seal_sector}
 
--- the sectors of a journal that lie i to n places behind a first one
+-- the sectors of a journal that lie i to n places after a first one
 abbrev pub sectors_from : (journal : List Bytes) (first i n : ℕ) → List Bytes
 sectors_from journal first i n = map (λ k. sector_of journal (first + k)) (range_with_len i (n - i))
 
@@ -74,10 +74,10 @@ pub short_in_copy : (from to : ℕ) (seal : Seal) (body : List Bytes) {old new :
     → Made (copied_from from to (body_start seal.number) body) false old new → Made (copy_calls from to seal body) false old new
 short_in_copy from to seal body copied = made_short (Flush to ∷ Write to (seal_place seal.number) (seal_sector seal) ∷ Flush to ∷ []) copied
 
--- the flush behind it is not answered
-pub short_behind_copy : (from to : ℕ) (seal : Seal) (body : List Bytes) {old mid new : History} (stop : Stop)
+-- the flush after it is not answered
+pub short_after_copy : (from to : ℕ) (seal : Seal) (body : List Bytes) {old mid new : History} (stop : Stop)
     → Made (copied_from from to (body_start seal.number) body) true old mid → new ≡ after_try (after_flush to) (Err stop) mid → Made (copy_calls from to seal body) false old new
-short_behind_copy from to seal body stop copied is = made_both copied (made_stop (Flush to) stop is)
+short_after_copy from to seal body stop copied is = made_both copied (made_stop (Flush to) stop is)
 
 -- the body is safe
 pub copy_then_seal : (from to : ℕ) (seal : Seal) (body : List Bytes) {answered : Bool} {old mid safe new : History} (done : Unit {0}) (after : Panel)

@@ -44,9 +44,9 @@ pub none_counted_there : (id : List ℕ) (geometry : Geometry) (place : ℕ) (co
     → ((seal : Seal) → sector ≡ seal_sector seal → ¬ Belongs id geometry place seal) → CountsNone id geometry content place
 none_counted_there id geometry place content sector is none seal counts = none seal (is ∙ counts.stands) counts.belongs
 
--- no seal counts behind the last sector
-pub none_behind_last : (id : List ℕ) (geometry : Geometry) (place : ℕ) (disk : List Bytes) → length disk ≤ FIRST_SEAL + place → CountsNone id geometry (Some disk) place
-none_behind_last id geometry place disk past seal counts = nothing_spells seal (sym (get_or_past disk (FIRST_SEAL + place) [] past) ∙ counts.stands)
+-- no seal counts after the last sector
+pub none_beyond_last : (id : List ℕ) (geometry : Geometry) (place : ℕ) (disk : List Bytes) → length disk ≤ FIRST_SEAL + place → CountsNone id geometry (Some disk) place
+none_beyond_last id geometry place disk past seal counts = nothing_spells seal (sym (get_or_past disk (FIRST_SEAL + place) [] past) ∙ counts.stands)
 
 -- nor where there is no device
 pub none_in_nothing : (id : List ℕ) (geometry : Geometry) (place : ℕ) → CountsNone id geometry None place

@@ -14,7 +14,7 @@ use Rattle.sector_model.proofs.Sequences.{made_both, made_short, made_stop, made
 use Rattle.stripe_journal.specs.declared.entry.Entry.{Entry}
 use Rattle.stripe_journal.specs.Entries.{body_of, body_start, form_of, held_of, numbers_of, row_mask, row_of, sector_at, with_sector}
 use Rattle.stripe_journal.specs.Forms.{count_held, has_bit, held_before, held_members, holds, rank}
-use Rattle.stripe_journal.proofs.Masks.{before_few, count_behind, rank_before}
+use Rattle.stripe_journal.proofs.Masks.{before_few, count_beyond, rank_before}
 
 -- writes of one list of values after another
 pub writes_both : (device at : ℕ) (first second : List Bytes) → writes_from device at (first ++ second) ≡ writes_from device at first ++ writes_from device (at + length first) second
@@ -66,7 +66,7 @@ length-held held value zero = refl
 length-held held value (suc n) =
     ap length (values_next held value n) ∙ length_more (map value (held_members n held)) (value n) (held n) ∙ ap (λ (k : ℕ). k + cond (held n) 1 0) (length-held held value n)
 
--- and that of a member stands behind those of the members below it
+-- and that of a member stands after those of the members below it
 pub value_at : (held : ℕ → Bool) (value : ℕ → Bytes) (n member : ℕ) → held member ≡ true → member < n → get_or (map value (held_members n held)) (count_held held member) [] ≡ value member
 value_at held value zero member is within = absurd (omega (arith, within))
 value_at held value (suc n) member is within =
@@ -81,7 +81,7 @@ value_at held value (suc n) member is within =
           ∙ get_or_at before (value n) [] [] (count_held held member) last ∙ ap value (sym same)
       | inr other ↦
           let below : member < n = omega (arith, within, other) in
-          get_or_append_left before (cond (held n) (value n ∷ []) []) [] (count_held held member) (omega (arith, long, count_behind held member n is below))
+          get_or_append_left before (cond (held n) (value n ∷ []) []) [] (count_held held member) (omega (arith, long, count_beyond held member n is below))
           ∙ value_at held value n member is below
     ]
 
@@ -145,16 +145,16 @@ body_next members entry i n within =
     let more : n - i ≡ suc (n - (i + 1)) = omega arith in
     ap (λ (k : ℕ). flat_map (λ i. row_held members entry i) (range_with_len i k)) more
 
--- the writes of the body from one row on: the row's, and those of the rows behind it
+-- the writes of the body from one row on: the row's, and those of the rows after it
 row_writes : (device at next members : ℕ) (entry : Entry) (i n : ℕ) → i < n → next ≡ at + count_held (holds members (form_of entry) i) members
     → writes_from device at (body_from members entry i n) ≡ writes_from device at (row_held members entry i) ++ writes_from device next (body_from members entry (i + 1) n)
 row_writes device at next members entry i n within next_is =
     let row = row_held members entry i in
     let rest = body_from members entry (i + 1) n in
-    let behind : at + length row ≡ next = omega (arith, length-row members entry i, next_is) in
+    let beyond : at + length row ≡ next = omega (arith, length-row members entry i, next_is) in
     ap (writes_from device at) (body_next members entry i n within)
     ∙ writes_both device at row rest
-    ∙ ap (λ (m : ℕ). writes_from device at row ++ writes_from device m rest) behind
+    ∙ ap (λ (m : ℕ). writes_from device at row ++ writes_from device m rest) beyond
 
 pub row_then : (device at next members : ℕ) (entry : Entry) (i n : ℕ) {answered : Bool} {old mid new : History} → i < n → next ≡ at + count_held (holds members (form_of entry) i) members
     → Made (writes_from device at (row_held members entry i)) true old mid → Made (writes_from device next (body_from members entry (i + 1) n)) answered mid new

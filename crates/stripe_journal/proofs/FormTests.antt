@@ -13,9 +13,9 @@ HoldTwo masks = (i : ℕ) → i < length masks → 2 ≤ count_ones (mask_at mas
 abbrev pub AreZero : List ℕ → Type 0
 AreZero masks = (i : ℕ) → i < length masks → mask_at masks i ≡ 0
 
--- the masks behind those of the rows
-abbrev pub behind : List ℕ → (count : ℕ) → List ℕ
-behind masks count = take (ENTRY_ROWS - count) (drop count masks)
+-- the masks after those of the rows
+abbrev pub beyond : List ℕ → (count : ℕ) → List ℕ
+beyond masks count = take (ENTRY_ROWS - count) (drop count masks)
 
 front : (masks : List ℕ) (count : ℕ) → count ≤ ENTRY_ROWS → AreMasks masks count → HoldTwo (take count masks)
 front masks count few are i within =
@@ -23,12 +23,12 @@ front masks count few are i within =
     let below : i < count = omega (arith, length-take-le count masks (omega arith)) in
     subst (λ (mask : ℕ). 2 ≤ count_ones mask) (sym (get_or-take count masks i 0 below)) (are.two_bits i below)
 
-back : (masks : List ℕ) (count : ℕ) → AreMasks masks count → AreZero (behind masks count)
+back : (masks : List ℕ) (count : ℕ) → AreMasks masks count → AreZero (beyond masks count)
 back masks count are i within =
     let below : i < ENTRY_ROWS - count = omega (arith, length-take (ENTRY_ROWS - count) (drop count masks)) in
     get_or-take (ENTRY_ROWS - count) (drop count masks) i 0 below ∙ get_or-drop count masks i 0 ∙ are.rest (count + i) (omega arith)
 
-both : (masks : List ℕ) (count : ℕ) → length masks ≡ ENTRY_ROWS → ((i : ℕ) → mask_at masks i < 256) → count ≤ ENTRY_ROWS → HoldTwo (take count masks) → AreZero (behind masks count) → AreMasks masks count
+both : (masks : List ℕ) (count : ℕ) → length masks ≡ ENTRY_ROWS → ((i : ℕ) → mask_at masks i < 256) → count ≤ ENTRY_ROWS → HoldTwo (take count masks) → AreZero (beyond masks count) → AreMasks masks count
 both masks count long bytes few two zero = record {
   long = long;
   bytes = bytes;
@@ -38,7 +38,7 @@ both masks count long bytes few two zero = record {
     | inl within ↦
         let at : count + (i - count) ≡ i = omega (arith, past_rows) in
         let there : i - count < ENTRY_ROWS - count = omega (arith, past_rows, within) in
-        let full : length (behind masks count) ≡ ENTRY_ROWS - count = length-take-le (ENTRY_ROWS - count) (drop count masks) (omega (arith, length-drop count masks, long)) in
+        let full : length (beyond masks count) ≡ ENTRY_ROWS - count = length-take-le (ENTRY_ROWS - count) (drop count masks) (omega (arith, length-drop count masks, long)) in
         ap (λ (k : ℕ). get_or masks k 0) (sym at) ∙ sym (get_or-drop count masks (i - count) 0) ∙ sym (get_or-take (ENTRY_ROWS - count) (drop count masks) (i - count) 0 there)
         ∙ zero (i - count) (omega (arith, full, there))
     | inr past ↦ get_or_past masks i 0 (omega (arith, long, past))
@@ -47,7 +47,7 @@ both masks count long bytes few two zero = record {
 
 -- the masks of the rows have two bits each, and the others are tested
 pub masks_by : (masks : List ℕ) (count : ℕ) (two zero : Bool) → length masks ≡ ENTRY_ROWS → ((i : ℕ) → mask_at masks i < 256) → count ≤ ENTRY_ROWS
-    → IsTrue two ↔ HoldTwo (take count masks) → two ≡ true → IsTrue zero ↔ AreZero (behind masks count) → IsTrue zero ↔ AreMasks masks count
+    → IsTrue two ↔ HoldTwo (take count masks) → two ≡ true → IsTrue zero ↔ AreZero (beyond masks count) → IsTrue zero ↔ AreMasks masks count
 masks_by masks count two zero long bytes few is_two holds is_zero = (
   λ rest. both masks count long bytes few (is_two.0 holds) (is_zero.0 rest),
   λ are. is_zero.1 (back masks count are),

@@ -42,7 +42,7 @@ without_parity geometry row member held parity lacking fits = false≢true (sym 
 
 -- nor does one with a member that the set lacks
 with_other_member : (geometry : Geometry) (row member : ℕ) (held : ℕ → Bool) → geometry.members ≤ member → held member ≡ true → ¬ HoldsRow geometry row held
-with_other_member geometry row member held behind is fits = omega (arith, behind, fits.of_set member is)
+with_other_member geometry row member held beyond is fits = omega (arith, beyond, fits.of_set member is)
 
 -- of an entry with whole rows and one that holds less, on two journals, the later is the one with the greater number
 later_of_two : (whole held : Seal) → held.number ≡ whole.number + 1 → later_of (Some whole) (Some held) ≡ Some held

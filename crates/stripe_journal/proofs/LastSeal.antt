@@ -114,8 +114,8 @@ masks_or_not masks count = elim (cases_eq (length masks) ENTRY_ROWS) [
             | inr past ↦ omega (arith, none_past i (omega (arith, long, past)))
           ];
           two_bits = λ i within. omega (arith, two i within);
-          rest = λ i behind. elim (cases_lt i ENTRY_ROWS) [
-            | inl within ↦ rest i within behind
+          rest = λ i beyond. elim (cases_lt i ENTRY_ROWS) [
+            | inl within ↦ rest i within beyond
             | inr past ↦ none_past i (omega (arith, long, past))
           ];
         })
@@ -129,10 +129,10 @@ masks_or_not masks count = elim (cases_eq (length masks) ENTRY_ROWS) [
 
     rest_or_not : (i : ℕ) → (count ≤ i → mask_at masks i ≡ 0) ⊎ ¬ (count ≤ i → mask_at masks i ≡ 0)
     rest_or_not i = elim (cases_lt i count) [
-      | inl below ↦ inl (λ behind. absurd (omega (arith, below, behind)))
-      | inr behind ↦ elim (cases_eq (mask_at masks i) 0) [
+      | inl below ↦ inl (λ beyond. absurd (omega (arith, below, beyond)))
+      | inr beyond ↦ elim (cases_eq (mask_at masks i) 0) [
         | inl none ↦ inl (λ _. none)
-        | inr some ↦ inr (λ all. some (all behind))
+        | inr some ↦ inr (λ all. some (all beyond))
       ]
     ]
 

@@ -35,8 +35,8 @@ none_in_zeros n i = elim (cases_lt i n) [
 
 -- a number below a power of two has no bit from there on
 no_bit : (mask n member : ℕ) → mask < 2 ^ n → n ≤ member → has_bit mask member ≡ false
-no_bit mask n member below behind =
-    let size : 2 ^ n ≤ 2 ^ member = pow-le-pow_right {n = 2} (omega arith) {i = n} {j = member} behind in
+no_bit mask n member below beyond =
+    let size : 2 ^ n ≤ 2 ^ member = pow-le-pow_right {n = 2} (omega arith) {i = n} {j = member} beyond in
     let none : mask / 2 ^ member ≡ 0 = div-eq_of_lt {n = mask} {m = 2 ^ member} (omega (arith, size, below)) in
     ap (λ (q : ℕ). q % 2 == 1) none
 
@@ -44,7 +44,7 @@ no_bit mask n member below behind =
 pub bit_below : (mask member : ℕ) → mask < 256 → has_bit mask member ≡ true → member < MOST_MEMBERS
 bit_below mask member byte is = elim (cases_lt member MOST_MEMBERS) [
   | inl below ↦ below
-  | inr behind ↦ absurd (false≢true (sym (no_bit mask 8 member byte behind) ∙ is))
+  | inr beyond ↦ absurd (false≢true (sym (no_bit mask 8 member byte beyond) ∙ is))
 ]
 
 -- a mask has bits below a number only, or one of its bits is there or above
@@ -52,10 +52,10 @@ bit_below mask member byte is = elim (cases_lt member MOST_MEMBERS) [
 pub bits_low : (mask n member : ℕ) → mask / 2 ^ n ≡ 0 → has_bit mask member ≡ true → member < n
 bits_low mask n member none is = elim (cases_lt member n) [
   | inl below ↦ below
-  | inr behind ↦
+  | inr beyond ↦
       let one : mask < 1 * 2 ^ n = (div-lt_iff_lt-mul {k = 2 ^ n} {x = mask} {y = 1} (pow_pos n)).0 (omega (arith, none)) in
       let low : mask < 2 ^ n = omega (arith, one) in
-      absurd (false≢true (sym (no_bit mask n member low behind) ∙ is))
+      absurd (false≢true (sym (no_bit mask n member low beyond) ∙ is))
 ]
 
 top_bit : (mask : ℕ) → 0 < mask → mask < 256 → (j : ℕ) × (has_bit mask j ≡ true) × (mask < 2 ^ suc j)
@@ -126,9 +126,9 @@ count_grows held m (suc n) within = elim (cases_eq m (suc n)) [
   | inr other ↦ omega (arith, count_grows held m n (omega (arith, within, other)))
 ]
 
--- a member that is held is counted behind it
-pub count_behind : (held : ℕ → Bool) (m n : ℕ) → held m ≡ true → m < n → count_held held m < count_held held n
-count_behind held m n is below = omega (arith, count_next held m is, count_grows held (suc m) n (omega (arith, below)))
+-- a member that is held is counted after it
+pub count_beyond : (held : ℕ → Bool) (m n : ℕ) → held m ≡ true → m < n → count_held held m < count_held held n
+count_beyond held m n is below = omega (arith, count_next held m is, count_grows held (suc m) n (omega (arith, below)))
 
 -- how many sectors the rows before hold
 pub before_most : (members : ℕ) (form : Form) (i : ℕ) → held_before members form i ≤ i * members
@@ -148,10 +148,10 @@ before_grows members form i (suc j) within = elim (cases_eq i (suc j)) [
   | inr other ↦ omega (arith, before_grows members form i j (omega (arith, within, other)))
 ]
 
--- a sector that is held stands before the rows behind it
+-- a sector that is held stands before the rows after it
 pub rank_before : (members : ℕ) (form : Form) (i member j : ℕ) → holds members form i member ≡ true → member < members → i < j → rank members form i member < held_before members form j
 rank_before members form i member j is within below =
-    omega (arith, count_behind (holds members form i) member members is within, before_grows members form (suc i) j (omega (arith, below)))
+    omega (arith, count_beyond (holds members form i) member members is within, before_grows members form (suc i) j (omega (arith, below)))
 
 -- two places in a body are those of one member in one row
 
@@ -159,14 +159,14 @@ rank_apart : (members : ℕ) (form : Form) (i member i' member' : ℕ) → holds
 rank_apart members form i member i' member' is within below same = omega (arith, same, rank_before members form i member i' is within below)
 
 count_apart : (held : ℕ → Bool) (m n : ℕ) → held m ≡ true → m < n → count_held held m ≢ count_held held n
-count_apart held m n is below same = omega (arith, same, count_behind held m n is below)
+count_apart held m n is below same = omega (arith, same, count_beyond held m n is below)
 
 same_member : (held : ℕ → Bool) (m n : ℕ) → held m ≡ true → held n ≡ true → count_held held m ≡ count_held held n → m ≡ n
 same_member held m n is is' same = elim (cases_lt m n) [
   | inl below ↦ absurd (count_apart held m n is below same)
-  | inr behind ↦ elim (cases_lt n m) [
+  | inr beyond ↦ elim (cases_lt n m) [
     | inl below ↦ absurd (count_apart held n m is' below (sym same))
-    | inr both ↦ omega (arith, behind, both)
+    | inr both ↦ omega (arith, beyond, both)
   ]
 ]
 
@@ -174,10 +174,10 @@ pub one_rank : (members : ℕ) (form : Form) (i member i' member' : ℕ) → hol
     → rank members form i member ≡ rank members form i' member' → (i ≡ i') × (member ≡ member')
 one_rank members form i member i' member' is is' within within' same = elim (cases_lt i i') [
   | inl below ↦ absurd (rank_apart members form i member i' member' is within below same)
-  | inr behind ↦ elim (cases_lt i' i) [
+  | inr beyond ↦ elim (cases_lt i' i) [
     | inl below ↦ absurd (rank_apart members form i' member' i member is' within' below (sym same))
     | inr both ↦
-        let one : i ≡ i' = omega (arith, behind, both) in
+        let one : i ≡ i' = omega (arith, beyond, both) in
         let there : rank members form i' member ≡ rank members form i' member' = ap (λ (k : ℕ). rank members form k member) (sym one) ∙ same in
         let here : holds members form i' member ≡ true = ap (λ (k : ℕ). holds members form k member) (sym one) ∙ is in
         (one, same_member (holds members form i') member member' here is' (omega (arith, there)))

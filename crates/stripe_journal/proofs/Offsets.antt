@@ -27,7 +27,7 @@ number_first n bytes long =
     ap (little_number n) (sym (take-append-drop n bytes))
     ∙ little_from-append n (take n bytes) (drop n bytes) (omega (arith, length-take-le n bytes long))
 
--- the row numbers, and what stands behind them
+-- the row numbers, and what stands after them
 rows_split : (numbers gap bytes : List ℕ) → take 128 bytes ≡ numbers ++ gap → bytes ≡ numbers ++ (gap ++ drop 128 bytes)
 rows_split numbers gap bytes is =
     sym (take-append-drop 128 bytes) ∙ ap (λ (xs : List ℕ). xs ++ drop 128 bytes) is ∙ append_assoc numbers gap (drop 128 bytes)

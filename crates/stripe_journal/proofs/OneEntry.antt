@@ -1,4 +1,4 @@
--- What a stop leaves on one journal while an entry is put on it.
+-- What a crash leaves on one journal while an entry is put on it.
 use Rattle.std.proofs.Common.{◌≡◌, ◌≢◌, inl, inr, ℕ, ◌+◌, ◌%◌, ◌<◌, ◌≤◌, List, Option, Some, None, refl, sym, ◌∙◌, ap, subst, arith}
 use Rattle.std.proofs.lemmas.Bool.{cases_eq}
 use Rattle.layout_map.specs.declared.sizes.TheConstants.{FIRST_SEAL, HALVES, MOST_MEMBERS}
@@ -8,7 +8,7 @@ use Rattle.stripe_journal.specs.declared.seal.Seal.{Seal}
 use Rattle.stripe_journal.specs.Body.{place_by_seal, seal_place}
 use Rattle.stripe_journal.specs.Entries.{body_start}
 use Rattle.stripe_journal.specs.LastEntry.{Counts, IsGreatest, IsLastSealed, number_of, sector_in}
-use Rattle.stripe_journal.specs.OneEntry.{AStopLeavesEither, EntryStage, HasEntryBefore, HasThisEntry, IsInHalf, IsNextOn, MayStandOn, StopLeavesEither, Writing, Staged, Sealing, Sealed}
+use Rattle.stripe_journal.specs.OneEntry.{ACrashLeavesEither, EntryStage, HasEntryBefore, HasThisEntry, IsInHalf, IsNextOn, MayStandOn, CrashLeavesEither, Writing, Staged, Sealing, Sealed}
 use Rattle.stripe_journal.specs.Spelling.{seal_sector}
 use Rattle.stripe_journal.proofs.Bodies.{in_own_half}
 use Rattle.stripe_journal.proofs.CountedSeals.{one_counted}
@@ -96,9 +96,9 @@ module _ (id : List ℕ) (geometry : Geometry) (old disk : List Bytes) (seal : S
       counted : Counts id geometry (Some disk) (seal.number % HALVES) seal
       counted = record { stands = stands; belongs = next.belongs }
 
--- a stop leaves the entry before, or this one
-pub a_stop_leaves_either : AStopLeavesEither
-a_stop_leaves_either id geometry old disk seal body stage next stand = by_stage stage stand
+-- a crash leaves the entry before, or this one
+pub a_crash_leaves_either : ACrashLeavesEither
+a_crash_leaves_either id geometry old disk seal body stage next stand = by_stage stage stand
   where
     before : (reached : EntryStage) → ((at : ℕ) → MayStandOn old seal body reached at (sector_of disk at)) → sector_of disk (seal_place seal.number) ≡ sector_of old (seal_place seal.number) → HasEntryBefore id geometry old disk seal
     before reached stand = has_before id geometry old disk seal next (λ at. (stand at).elsewhere)
@@ -109,7 +109,7 @@ a_stop_leaves_either id geometry old disk seal body stage next stand = by_stage 
       has_body = λ k within. (stand (body_start seal.number + k)).in_half staged k within refl;
     }
 
-    by_stage : (stage : EntryStage) → ((at : ℕ) → MayStandOn old seal body stage at (sector_of disk at)) → StopLeavesEither id geometry old disk seal body stage
+    by_stage : (stage : EntryStage) → ((at : ℕ) → MayStandOn old seal body stage at (sector_of disk at)) → CrashLeavesEither id geometry old disk seal body stage
     by_stage Writing stand =
         let is = before Writing stand ((stand (seal_place seal.number)).in_place refl) in
         record { either = inl is; before = λ early. is; this = λ late. absurd (cc) }

@@ -3,13 +3,13 @@ use Rattle.std.proofs.Common.{◌≡◌, ◌≢◌, ◌⊎◌, inl, inr, ℕ, �
 use Rattle.std.specs.Prelude.{slice_index_or, slice_set}
 use Rattle.layout_map.specs.declared.sizes.TheConstants.{BODY_SECTORS, JOURNAL_SECTORS}
 use Rattle.sector_model.specs.declared.event.Event.{Event}
-use Rattle.sector_model.specs.declared.event.Event.TheVariants.{Quiet, Wrote, Lost, Flushed, Fell}
+use Rattle.sector_model.specs.declared.event.Event.TheVariants.{Quiet, Wrote, Lost, Flushed, DeviceFailed}
 use Rattle.sector_model.specs.Bank.{fault_at}
 use Rattle.sector_model.specs.Calls.{Call, Read, Write, Flush, Made, after_all, after_call, device_of, writes_from}
 use Rattle.sector_model.specs.History.{Bytes, History, After, MayHold, is_down, sector_of, seen, start_of}
 use Rattle.sector_model.specs.Moments.{Contents, LeavesWithin, Throughout}
 use Rattle.sector_model.proofs.Replay.{eqb_other}
-use Rattle.sector_model.proofs.Sequences.{AllKeep, IsKeptBy, IsSafe, PutsOnly, after_both, down_after, keep_both, kept_after, kept_both, kept_within, made_all, made_up, safe_kept_as, safe_phase, seen_writes, seen_written, sizes_after, throughout_kept, throughout_made, up_behind}
+use Rattle.sector_model.proofs.Sequences.{AllKeep, IsKeptBy, IsSafe, PutsOnly, after_both, down_after, keep_both, kept_after, kept_both, kept_within, made_all, made_up, safe_kept_as, safe_phase, seen_writes, seen_written, sizes_after, throughout_kept, throughout_made, up_after}
 use Rattle.sector_model.proofs.Steps.{Puts, may_hold_before}
 use Rattle.stripe_journal.specs.declared.seal.Seal.{Seal}
 use Rattle.stripe_journal.specs.Body.{seal_place}
@@ -54,7 +54,7 @@ IsOf dev Quiet = Unit {0}
 IsOf dev (Wrote device at value) = device ≡ dev
 IsOf dev (Lost device at value) = device ≡ dev
 IsOf dev (Flushed device) = device ≡ dev
-IsOf dev (Fell device) = device ≡ dev
+IsOf dev (DeviceFailed device) = device ≡ dev
 
 or_down : (a b : Bool) → b ≡ true → (a || b) ≡ true
 or_down true b is = refl
@@ -65,7 +65,7 @@ event_down Quiet h d down = down
 event_down (Wrote device at value) h d down = down
 event_down (Lost device at value) h d down = or_down (d == device) (is_down h d) down
 event_down (Flushed device) h d down = down
-event_down (Fell device) h d down = or_down (d == device) (is_down h d) down
+event_down (DeviceFailed device) h d down = or_down (d == device) (is_down h d) down
 
 down_other : (device d : ℕ) (b : Bool) → d ≢ device → (d == device || b) ≡ b
 down_other device d b other = ap (λ (c : Bool). c || b) (eqb_other d device other)
@@ -75,21 +75,21 @@ event_down_other dev Quiet h d is other = refl
 event_down_other dev (Wrote device at value) h d is other = refl
 event_down_other dev (Lost device at value) h d is other = down_other device d (is_down h d) (λ same. other (same ∙ is))
 event_down_other dev (Flushed device) h d is other = refl
-event_down_other dev (Fell device) h d is other = down_other device d (is_down h d) (λ same. other (same ∙ is))
+event_down_other dev (DeviceFailed device) h d is other = down_other device d (is_down h d) (λ same. other (same ∙ is))
 
 event_seen_other : (dev : ℕ) (e : Event) (h : History) (d : ℕ) → IsOf dev e → d ≢ dev → seen (After e h) d ≡ seen h d
 event_seen_other dev Quiet h d is other = refl
 event_seen_other dev (Wrote device at value) h d is other = ap (λ (b : Bool). cond b (slice_set (seen h d) at value) (seen h d)) (eqb_other d device (λ same. other (same ∙ is)))
 event_seen_other dev (Lost device at value) h d is other = refl
 event_seen_other dev (Flushed device) h d is other = refl
-event_seen_other dev (Fell device) h d is other = refl
+event_seen_other dev (DeviceFailed device) h d is other = refl
 
 puts_of : (dev : ℕ) (e : Event) (d at : ℕ) (value : Bytes) → IsOf dev e → Puts e d at value → d ≡ dev
 puts_of dev Quiet d at value is put = absurd put
 puts_of dev (Wrote device place bytes) d at value is put = put.0 ∙ is
 puts_of dev (Lost device place bytes) d at value is put = put.0 ∙ is
 puts_of dev (Flushed device) d at value is put = absurd put
-puts_of dev (Fell device) d at value is put = absurd put
+puts_of dev (DeviceFailed device) d at value is put = absurd put
 
 start_event : (e : Event) (h : History) (d : ℕ) → start_of (After e h) d ≡ start_of h d
 start_event e h d = refl
@@ -118,11 +118,11 @@ stays_off_fault devices dev fault h one is = by_state (is_down h dev)
 
 pub stays_off_call : (devices : ℕ → Type 0) (call : Call) (answered : Bool) (h : History) → devices (device_of call) → StaysOff devices h (after_call call answered h)
 stays_off_call devices (Read device at) true h one = stays_off_event devices device Quiet h one tt
-stays_off_call devices (Read device at) false h one = stays_off_fault devices device (Fell device) h one refl
+stays_off_call devices (Read device at) false h one = stays_off_fault devices device (DeviceFailed device) h one refl
 stays_off_call devices (Write device at value) true h one = stays_off_event devices device (Wrote device at value) h one refl
 stays_off_call devices (Write device at value) false h one = stays_off_fault devices device (Lost device at value) h one refl
 stays_off_call devices (Flush device) true h one = stays_off_event devices device (Flushed device) h one refl
-stays_off_call devices (Flush device) false h one = stays_off_fault devices device (Fell device) h one refl
+stays_off_call devices (Flush device) false h one = stays_off_fault devices device (DeviceFailed device) h one refl
 
 -- a call of one of the devices
 pub kept_off : (devices : ℕ → Type 0) (old : History) (call : Call) → devices (device_of call) → IsKeptBy (λ h. StaysOff devices old h) call
@@ -146,13 +146,13 @@ stays_off_calls devices {calls = calls} {old = old} all made = throughout_kept (
 flushed_last : (dev : ℕ) (calls : List Call) (h : History) → after_all (calls ++ Flush dev ∷ []) h ≡ After (Flushed dev) (after_all calls h)
 flushed_last dev calls h = after_both calls (Flush dev ∷ []) h
 
--- behind a flush a stop leaves on the device what reads give
-flushed_behind : (dev : ℕ) (h new : History) → new ≡ After (Flushed dev) h → (at : ℕ) (value : Bytes) → MayHold new dev at value → value ≡ sector_of (seen new dev) at
-flushed_behind dev h new is at value = subst (λ (g : History). MayHold g dev at value → value ≡ sector_of (seen g dev) at) (sym is) (λ may. may.1 refl)
+-- after a flush a crash leaves on the device what reads give
+flushed_after : (dev : ℕ) (h new : History) → new ≡ After (Flushed dev) h → (at : ℕ) (value : Bytes) → MayHold new dev at value → value ≡ sector_of (seen new dev) at
+flushed_after dev h new is at value = subst (λ (g : History). MayHold g dev at value → value ≡ sector_of (seen g dev) at) (sym is) (λ may. may.1 refl)
 
 -- so too after calls that end in one
 pub all_flushed : (dev : ℕ) (calls : List Call) {old new : History} → Made (calls ++ Flush dev ∷ []) true old new → (at : ℕ) (value : Bytes) → MayHold new dev at value → value ≡ sector_of (seen new dev) at
-all_flushed dev calls {old = old} {new = new} made = flushed_behind dev (after_all calls old) new (made_all made ∙ flushed_last dev calls old)
+all_flushed dev calls {old = old} {new = new} made = flushed_after dev (after_all calls old) new (made_all made ∙ flushed_last dev calls old)
 
 -- calls that are all answered take no device down
 pub made_down : {calls : List Call} {old new : History} → Made calls true old new → (d : ℕ) → is_down new d ≡ is_down old d
@@ -161,7 +161,7 @@ made_down {calls = calls} {old = old} made d = ap (λ (h : History). is_down h d
 -- and the device of the flush is up
 pub flushed_is_up : (dev : ℕ) (calls : List Call) {old new : History} → Made (calls ++ Flush dev ∷ []) true old new → is_down new dev ≡ false
 flushed_is_up dev calls {old = old} {new = new} made =
-    made_down made dev ∙ (up_behind calls (Flush dev ∷ []) old (made_up made)).0
+    made_down made dev ∙ (up_after calls (Flush dev ∷ []) old (made_up made)).0
 
 -- What calls that put a part of an entry on a journal leave, where all of them were answered: the journal is at this stage, all of it is
 -- flushed, and it is up.
@@ -194,7 +194,7 @@ only_read_read device old at = record {
   keeps = λ answered h before. read answered h before;
 }
   where
-    fault : (b : Bool) (h : History) → IsOnlyRead device old h → IsOnlyRead device old (After (cond b Quiet (Fell device)) h)
+    fault : (b : Bool) (h : History) → IsOnlyRead device old h → IsOnlyRead device old (After (cond b Quiet (DeviceFailed device)) h)
     fault true h before = record { may = before.may; same = before.same }
     fault false h before = record { may = before.may; same = before.same }
 
@@ -343,7 +343,7 @@ module _ (dev : ℕ) (disk : List Bytes) (seal : Seal) (body : List Bytes) where
       → Made (writes_from dev (body_start seal.number) body ++ Flush dev ∷ []) true old new → IsOn dev disk seal body Staged new
   body_staged old new few room is made =
       let calls = writes_from dev (body_start seal.number) body in
-      let up = (up_behind calls (Flush dev ∷ []) old (made_up made)).0 in
+      let up = (up_after calls (Flush dev ∷ []) old (made_up made)).0 in
       let kept = kept_after (OnAlone Writing old) calls old (writes_kept old body (body_start seal.number) (omega arith) (omega (arith, few))) (is, stays_off_none OfDevice old) in
       subst (λ (h : History). IsOn dev disk seal body Staged h) (sym (made_all made ∙ flushed_last dev calls old))
       (staged_after (after_all calls old) (λ k within. seen_writes dev (body_start seal.number) body old k within (omega (arith, few, room up))) kept.0)
@@ -451,11 +451,11 @@ module _ (dev : ℕ) (disk : List Bytes) (seal : Seal) (body : List Bytes) where
           in_writing old g in_body,
           in_writing old (after_call (Flush dev) false g) (flush.keeps false g in_body),
           λ up.
-              let behind = flush.keeps true g in_body in
+              let beyond = flush.keeps true g in_body in
               let staged = copied_staged old few (room (sym (down_after copied old dev) ∙ up)) is in
               safe_kept_as (Copies old) (InCopy Sealing old) (write_seal ∷ Flush dev ∷ []) (After (Flushed dev) g) (in_sealing old)
               (write_kept Sealing old (seal_place seal.number) (seal_sector seal) place_put, (flush_kept Sealing old, tt))
-              ((is_staged_sealing (After (Flushed dev) g) staged, behind.0.1), behind.1),
+              ((is_staged_sealing (After (Flushed dev) g) staged, beyond.0.1), beyond.1),
         )
 
     -- and its end
@@ -463,12 +463,12 @@ module _ (dev : ℕ) (disk : List Bytes) (seal : Seal) (body : List Bytes) where
         → Made (copy_calls from dev seal body) true old new → IsPutOn dev disk seal body Sealed new
     copy_done old new few room is made =
         let rest : List Call = Flush dev ∷ write_seal ∷ Flush dev ∷ [] in
-        let up = (up_behind copied rest old (made_up made)).0 in
+        let up = (up_after copied rest old (made_up made)).0 in
         let g = After (Flushed dev) (after_all copied old) in
         let ends = made_all made ∙ after_both copied rest old in
         record {
           on = subst (λ (h : History). IsOn dev disk seal body Sealed h) (sym ends) (seal_sealed g (omega (arith, room up, sizes_after copied old dev)) (copied_staged old few (room up) is));
-          flushed = flushed_behind dev (After (Wrote dev (seal_place seal.number) (seal_sector seal)) g) new ends;
+          flushed = flushed_after dev (After (Wrote dev (seal_place seal.number) (seal_sector seal)) g) new ends;
           up = made_down made dev ∙ up;
         }
 

@@ -7,7 +7,7 @@ use Rattle.sector_model.proofs.Replay.{eqb_other}
 use Rattle.stripe_journal.specs.Body.{place_in}
 use Rattle.stripe_journal.specs.Seals.{row_at}
 
--- the rows behind the first rise too
+-- the rows after the first rise too
 pub rising_tail : (first : ℕ) (rows : List ℕ) → IsStrictlyIncreasing (first ∷ rows) → IsStrictlyIncreasing rows
 rising_tail first rows rising = λ k within.
     let next : suc k + 1 ≡ suc (k + 1) = omega arith in
@@ -43,10 +43,10 @@ place_of_row (first ∷ rows) (suc i) rising within =
 
 -- the place that is found is the row's
 
-found_behind : (first row i : ℕ) (rows : List ℕ) (place : Option ℕ) → ((k : ℕ) → place ≡ Some k → (k < length rows) × (row_at rows k ≡ row))
+found_after : (first row i : ℕ) (rows : List ℕ) (place : Option ℕ) → ((k : ℕ) → place ≡ Some k → (k < length rows) × (row_at rows k ≡ row))
     → option_map (λ i. i + 1) place ≡ Some i → (i < length (first ∷ rows)) × (row_at (first ∷ rows) i ≡ row)
-found_behind first row i rows None there found = absurd (cc)
-found_behind first row i rows (Some k) there found =
+found_after first row i rows None there found = absurd (cc)
+found_after first row i rows (Some k) there found =
     let is : k + 1 ≡ i = cc in
     let next : i ≡ suc k = omega arith in
     (omega (arith, (there k refl).0), ap (row_at (first ∷ rows)) next ∙ (there k refl).1)
@@ -56,7 +56,7 @@ found_by : (first row i : ℕ) (rows : List ℕ) (b : Bool) → (first == row) �
 found_by first row i rows true same there found =
     let is : 0 ≡ i = cc in
     (omega arith, subst (λ (n : ℕ). row_at (first ∷ rows) n ≡ row) is (eqb-true first row same))
-found_by first row i rows false other there found = found_behind first row i rows (place_in rows row) there found
+found_by first row i rows false other there found = found_after first row i rows (place_in rows row) there found
 
 pub row_of_place : (rows : List ℕ) (row i : ℕ) → place_in rows row ≡ Some i → (i < length rows) × (row_at rows i ≡ row)
 row_of_place [] row i found = absurd (cc)
@@ -64,9 +64,9 @@ row_of_place (first ∷ rows) row i found = found_by first row i rows (first == 
 
 -- where no place is found, no row is this one
 
-none_behind : (place : Option ℕ) → option_map (λ i. i + 1) place ≡ None → place ≡ None
-none_behind None none = refl
-none_behind (Some k) none = absurd (cc)
+none_beyond_end : (place : Option ℕ) → option_map (λ i. i + 1) place ≡ None → place ≡ None
+none_beyond_end None none = refl
+none_beyond_end (Some k) none = absurd (cc)
 
 not_first : (first row : ℕ) (place : Option ℕ) (b : Bool) → (first == row) ≡ b → cond b (Some 0) place ≡ None → (first ≢ row) × (place ≡ None)
 not_first first row place true same none = absurd (cc)
@@ -76,7 +76,7 @@ pub no_row_without_place : (rows : List ℕ) (row i : ℕ) → place_in rows row
 no_row_without_place [] row i none within = absurd (omega arith)
 no_row_without_place (first ∷ rows) row zero none within = (not_first first row _ (first == row) refl none).0
 no_row_without_place (first ∷ rows) row (suc i) none within =
-    no_row_without_place rows row i (none_behind (place_in rows row) (not_first first row _ (first == row) refl none).1) (omega arith)
+    no_row_without_place rows row i (none_beyond_end (place_in rows row) (not_first first row _ (first == row) refl none).1) (omega arith)
 
 -- where a search for the first place of a row ends
 

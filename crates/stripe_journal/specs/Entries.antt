@@ -35,7 +35,7 @@ row_of entry i = take MOST_MEMBERS (drop (MOST_MEMBERS * i) entry.sectors.items)
 abbrev pub with_sector : Entry → (i member : ℕ) → Bytes → Entry
 with_sector entry i member value = record entry { sectors = with_item entry.sectors (MOST_MEMBERS * i + member) value }
 
--- the entry ends with the last value behind r in that sector
+-- the entry ends with the last value after r in that sector
 abbrev pub LendsSector : MutBor Entry → (i member : ℕ) → MutBor Bytes → Fml
 LendsSector entry i member r = Lends the_row (Array u8 512) entry r (with_sector entry.now i member)
 

@@ -21,7 +21,7 @@ abbrev pub holds : (members : ℕ) → Form → (i member : ℕ) → Bool
 holds members Whole i member = nat_lt member members
 holds members (Held masks) i member = has_bit (mask_at masks i) member
 
--- masks of an entry with so many rows: one byte each, with two bits at least for a row, and zero behind the last row
+-- masks of an entry with so many rows: one byte each, with two bits at least for a row, and zero after the last row
 pub record AreMasks (masks : List ℕ) (count : ℕ) : Type 0 where
   pub long : length masks ≡ ENTRY_ROWS
   pub bytes : (i : ℕ) → mask_at masks i < 256

@@ -1,4 +1,4 @@
--- One journal while an entry is put on it: a stop leaves the entry before, or this one.
+-- One journal while an entry is put on it: a crash leaves the entry before, or this one.
 use Rattle.std.specs.Prelude.{◌≡◌, ◌≢◌, ◌⊎◌, ℕ, ◌+◌, ◌%◌, ◌<◌, ◌≤◌, true, List, [], length, Option, Some, slice_index_or}
 use Rattle.layout_map.specs.declared.sizes.TheConstants.{BODY_SECTORS, HALVES}
 use Rattle.layout_map.specs.declared.geometry.Geometry.{Geometry}
@@ -52,18 +52,18 @@ pub record HasThisEntry (id : List ℕ) (geometry : Geometry) (disk : List Bytes
   pub last : IsGreatest id geometry (Some disk) seal
   pub has_body : (k : ℕ) → k < length body → sector_of disk (body_start seal.number + k) ≡ slice_index_or body k []
 
--- At each stage a stop leaves the entry before, or this one: before the seal may stand the one, when it is safe the other.
-pub record StopLeavesEither (id : List ℕ) (geometry : Geometry) (old disk : List Bytes) (seal : Seal) (body : List Bytes) (stage : EntryStage) : Type 0 where
+-- At each stage a crash leaves the entry before, or this one: before the seal may stand the one, when it is safe the other.
+pub record CrashLeavesEither (id : List ℕ) (geometry : Geometry) (old disk : List Bytes) (seal : Seal) (body : List Bytes) (stage : EntryStage) : Type 0 where
   pub either : HasEntryBefore id geometry old disk seal ⊎ HasThisEntry id geometry disk seal body
   pub before : (stage ≡ Writing) ⊎ (stage ≡ Staged) → HasEntryBefore id geometry old disk seal
   pub this : stage ≡ Sealed → HasThisEntry id geometry disk seal body
 
 -- the law of one entry
-abbrev pub AStopLeavesEither : Type 0
-AStopLeavesEither = (id : List ℕ) (geometry : Geometry) (old disk : List Bytes) (seal : Seal) (body : List Bytes) (stage : EntryStage) → IsNextOn id geometry old seal
-    → ((at : ℕ) → MayStandOn old seal body stage at (sector_of disk at)) → StopLeavesEither id geometry old disk seal body stage
+abbrev pub ACrashLeavesEither : Type 0
+ACrashLeavesEither = (id : List ℕ) (geometry : Geometry) (old disk : List Bytes) (seal : Seal) (body : List Bytes) (stage : EntryStage) → IsNextOn id geometry old seal
+    → ((at : ℕ) → MayStandOn old seal body stage at (sector_of disk at)) → CrashLeavesEither id geometry old disk seal body stage
 
--- a stop now leaves in each sector of this journal only what may stand there at this stage
+-- a crash now leaves in each sector of this journal only what may stand there at this stage
 pub record IsOn (dev : ℕ) (old : List Bytes) (seal : Seal) (body : List Bytes) (stage : EntryStage) (h : History) : Type 0 where
   pub each : (at : ℕ) (value : Bytes) → MayHold h dev at value → MayStandOn old seal body stage at value
 

@@ -75,7 +75,7 @@ impl Entry {
         self.rows.is_empty()
     }
 
-    /// Adds a row of zero sectors behind the others, of which there are fewer than 32 (condition). Bit m of the mask says that
+    /// Adds a row of zero sectors after the others, of which there are fewer than 32 (condition). Bit m of the mask says that
     /// the entry holds member m's sector of the row.
     pub fn push(&mut self, row: u32, mask: u8)
         requires { length (numbers_of self.old) < ENTRY_ROWS }
@@ -106,7 +106,7 @@ impl Entry {
         &mut self.sectors[ROW_SECTORS * i + member as usize]
     }
 
-    /// Which sectors of its rows it holds, by the masks of its rows, and zeros behind them: where each mask has at least two
+    /// Which sectors of its rows it holds, by the masks of its rows, and zeros after them: where each mask has at least two
     /// bits, a form that a seal with these rows may have.
     pub fn form(&self) -> Form
         ensures form { result ≡ form_of self.now }

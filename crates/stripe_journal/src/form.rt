@@ -12,7 +12,7 @@ pub enum Form {
     /// Of each row the sectors of all members.
     Whole,
     /// Of each row the sectors of some members, at least two: bit m of mask i says that the body holds member m of the
-    /// i-th row. The masks behind the last row are 0.
+    /// i-th row. The masks after the last row are 0.
     Held([u8; ENTRY_ROWS]),
 }
 

@@ -1,6 +1,6 @@
-//! What seals and the places of bodies keep, and what a stop leaves of an entry.
+//! What seals and the places of bodies keep, and what a crash leaves of an entry.
 ghost use Rattle.stripe_journal.specs.Law.{FillsASector, FieldsAreInPlace, FieldsSpellTheSeal, SpellsOneSeal, BodiesAreInPlace, BodiesAreWithin, BodiesLieApart, HalvesLieApart, WholeRowsFollow};
-ghost use Rattle.stripe_journal.specs.OneEntry.{AStopLeavesEither};
+ghost use Rattle.stripe_journal.specs.OneEntry.{ACrashLeavesEither};
 
 /// The law of seals and of the bodies beside them, for every entry. It computes nothing: its promises are what it is for.
 ///
@@ -26,5 +26,5 @@ pub fn seal_law()
 /// its body: until its seal is written the entry before, and once its seal is safe this one. With the entry before, each sector
 /// outside of this entry's half and seal place is as it was.
 pub fn entry_law()
-    ensures either { AStopLeavesEither }
+    ensures either { ACrashLeavesEither }
 {}

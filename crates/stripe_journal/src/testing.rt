@@ -83,7 +83,7 @@ pub(crate) type LastRow = (Place, Place, u64, &'static [u32]);
 const GOOD: Place = Some((&ID, 3, 255, 0));
 
 /// Beside the good seal, and alone: zeros, the seal of another set, of an entry that belongs in the other place, of a row
-/// behind the last, 255, and with masks that lack the parity's member, 1, that have a member that the set lacks, or that
+/// after the last, 255, and with masks that lack the parity's member, 1, that have a member that the set lacks, or that
 /// have one bit.
 pub(crate) const THAT_DO_NOT_COUNT: &[LastRow] = &[
     (None, GOOD, 3, &[255]),
@@ -190,7 +190,7 @@ pub(crate) fn check_sector(rt: &impl Abort, bank: &mut MemBank, dev: u8, at: u32
     same(rt, (dev, at, answer, sector), (dev, at, Ok(()), *want));
 }
 
-/// What stands on a journal from the sector before a body of `two_rows` on, to a sector behind it, by the byte that each sector
+/// What stands on a journal from the sector before a body of `two_rows` on, to a sector after it, by the byte that each sector
 /// is full of.
 pub(crate) type Body = &'static [u8];
 

@@ -37,7 +37,7 @@ pub fn write_body<B: Bank>(
 }
 
 // Writes the sectors that a row's mask has, of so many members, to a journal, from a sector on, up to sector 519 at most. It
-// answers the sector behind them.
+// answers the sector after them.
 fn write_row<B: Bank>(
     bank: &mut B,
     dev: u8,
@@ -51,7 +51,7 @@ fn write_row<B: Bank>(
     requires end { first + count_held (has_bit row.now.mask) members ≤ JOURNAL_SECTORS }
     ensures panel { IsLater (B.panel bank.old) (B.panel bank.new) }
     ensures honest { B.honest bank.old ↔ B.honest bank.new }
-    ensures behind { IfOk result (λ at. at ≡ first + count_held (has_bit row.now.mask) members) }
+    ensures beyond { IfOk result (λ at. at ≡ first + count_held (has_bit row.now.mask) members) }
     ensures made { B.honest bank.old → Made (writes_from dev first (held_of members row.now.mask row.now.sectors.now)) (is_ok result) (B.history bank.old) (B.history bank.new) }
     ensures err { IfErr result (λ stop. IsCauseOf (B.panel bank.new) stop × ((stop ≡ Stop.Worn) ⊎ (stop ≡ Stop.Down dev))) }
 {

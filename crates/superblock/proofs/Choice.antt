@@ -10,7 +10,7 @@ pub first_is_one : (found : List (Option Superblock)) (first second : Superblock
 first_is_one found first second is_first is_second =
     elim (cases_lt is_first.place is_second.place) [
       | inl before ↦ absurd (omega (arith, is_second.first is_first.place first before is_first.there, is_first.greatest is_second.place second is_second.there))
-      | inr behind ↦ elim (cases_lt is_second.place is_first.place) [
+      | inr beyond ↦ elim (cases_lt is_second.place is_first.place) [
         | inl before ↦ absurd (omega (arith, is_first.first is_second.place second before is_second.there, is_second.greatest is_first.place first is_first.there))
         | inr ahead ↦
             let same_place : is_first.place ≡ is_second.place = omega arith in

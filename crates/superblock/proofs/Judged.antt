@@ -14,7 +14,7 @@ use Rattle.superblock.specs.Reading.{fields_of}
 use Rattle.superblock.specs.contracts.state.State.{the_type}
 use Rattle.superblock.specs.declared.state.State.{State}
 use Rattle.superblock.specs.declared.state.State.TheVariants.{Missing, InSync, Rebuilding}
-use Rattle.superblock.specs.Rules.{AreMissingBehind, AreNumbered, AreOutOnce, IsPositionOf}
+use Rattle.superblock.specs.Rules.{AreMissingBeyond, AreNumbered, AreOutOnce, IsPositionOf}
 use Rattle.superblock.specs.Tables.{IsTable, state_at}
 use Rattle.superblock.proofs.Same.{same_geometry, same_superblock}
 use Rattle.superblock.proofs.Spelled.{fields_same}
@@ -39,7 +39,7 @@ ten_slots most = omega arith
 
 -- the rules of a table, one after another
 pub table_iff : (Position : Type 0) (generation : ℕ) (geometry : Geometry) (states : List State) (incarnations : List ℕ) (position : ℕ) → length states ≡ 10 → length incarnations ≡ 10
-    → 1 ≤ generation → generation ≤ GREATEST_COUNT → AreNumbered (geometry.members + 2) incarnations → AreMissingBehind (geometry.members + 2) states
+    → 1 ≤ generation → generation ≤ GREATEST_COUNT → AreNumbered (geometry.members + 2) incarnations → AreMissingBeyond (geometry.members + 2) states
     → AreOutOnce (geometry.members + 2) states → Position ↔ IsPositionOf geometry states position → Position ↔ IsTable generation geometry states incarnations position
 table_iff Position generation geometry states incarnations position ten_states ten_incarnations least most numbered missing out is_position = (
   (λ is. let found = is_position.0 is in record {
@@ -49,8 +49,8 @@ table_iff Position generation geometry states incarnations position ten_states t
     generation_most = most;
     incarnation_least = numbered.least;
     incarnation_most = numbered.most;
-    behind_missing = missing.behind;
-    behind_zero = numbered.behind;
+    missing_beyond = missing.beyond;
+    zero_beyond = numbered.beyond;
     one_out = out.once;
     rebuilds_member = found.of_member;
     position_below = found.below;
@@ -61,11 +61,11 @@ table_iff Position generation geometry states incarnations position ten_states t
 
 pub table_numbered : {generation : ℕ} {geometry : Geometry} {states : List State} {incarnations : List ℕ} {position : ℕ} → IsTable generation geometry states incarnations position
     → AreNumbered (geometry.members + 2) incarnations
-table_numbered table = record { least = table.incarnation_least; most = table.incarnation_most; behind = table.behind_zero }
+table_numbered table = record { least = table.incarnation_least; most = table.incarnation_most; beyond = table.zero_beyond }
 
 pub table_missing : {generation : ℕ} {geometry : Geometry} {states : List State} {incarnations : List ℕ} {position : ℕ} → IsTable generation geometry states incarnations position
-    → AreMissingBehind (geometry.members + 2) states
-table_missing table = record { behind = table.behind_missing }
+    → AreMissingBeyond (geometry.members + 2) states
+table_missing table = record { beyond = table.missing_beyond }
 
 pub table_out : {generation : ℕ} {geometry : Geometry} {states : List State} {incarnations : List ℕ} {position : ℕ} → IsTable generation geometry states incarnations position
     → AreOutOnce (geometry.members + 2) states

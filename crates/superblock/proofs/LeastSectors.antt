@@ -27,11 +27,11 @@ member_least geometry slot below = by_test (nat_lt slot geometry.members) refl
         not_below off = grind (arith, nat_tests, off, below)
 
 pub journal_least : (geometry : Geometry) (slot : ℕ) → geometry.members ≤ slot → least_sectors geometry slot ≡ JOURNAL_SECTORS
-journal_least geometry slot behind = by_test (nat_lt slot geometry.members) refl
+journal_least geometry slot beyond = by_test (nat_lt slot geometry.members) refl
   where
     by_test : (b : Bool) → nat_lt slot geometry.members ≡ b → (if b then FIRST_ROW + rows_of geometry.chunk geometry.stripes else JOURNAL_SECTORS) ≡ JOURNAL_SECTORS
-    by_test true is = absurd (not_behind is)
+    by_test true is = absurd (not_beyond is)
       where
-        not_behind : ¬ (nat_lt slot geometry.members ≡ true)
-        not_behind on = grind (arith, nat_tests, on, behind)
+        not_beyond : ¬ (nat_lt slot geometry.members ≡ true)
+        not_beyond on = grind (arith, nat_tests, on, beyond)
     by_test false is = refl

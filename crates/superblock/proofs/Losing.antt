@@ -4,7 +4,7 @@ use Rattle.std.proofs.lemmas.Bool.{cases_eq}
 use Rattle.sector_model.specs.History.{History, is_down}
 use Rattle.superblock.specs.declared.table.Table.{Table}
 use Rattle.superblock.specs.Cases.{IsLostAfter, Lost}
-use Rattle.superblock.specs.Losses.{IsOneLoss, OthersAreUp}
+use Rattle.superblock.specs.Losses.{IsSingleFailure, OthersAreUp}
 use Rattle.superblock.specs.NextTables.{IsComplete, IsOut}
 
 not_both : (table : Table) (slot : ℕ) → IsComplete table → IsOut table slot → ⊥
@@ -43,13 +43,13 @@ is_lost slots h lost other up below (inl down) = is_one slots h lost.slot other 
 is_lost slots h lost other up below (inr is) = is
 
 -- no two slots are down or lost where one is lost at most
-pub not_two_lost : (slots : ℕ) (during : Option Lost) (h : History) → IsOneLoss slots during h → (first second : ℕ) → first < slots → second < slots → first ≢ second
+pub not_two_lost : (slots : ℕ) (during : Option Lost) (h : History) → IsSingleFailure slots during h → (first second : ℕ) → first < slots → second < slots → first ≢ second
     → (is_down h first ≡ true) ⊎ IsOfLost during first → (is_down h second ≡ true) ⊎ IsOfLost during second → ⊥
 not_two_lost slots None h (after, inl (none, up)) first second below below' apart (inl down) out = differ (sym down ∙ up first below)
 not_two_lost slots None h (after, inl (none, up)) first second below below' apart (inr never) out = absurd never
-not_two_lost slots None h (after, inr fallen) first second below below' apart (inr never) out = absurd never
-not_two_lost slots None h (after, inr fallen) first second below below' apart (inl down) (inr never) = absurd never
-not_two_lost slots None h (after, inr fallen) first second below below' apart (inl down) (inl down') =
-    apart (is_one slots h fallen.slot first fallen.others below down ∙ sym (is_one slots h fallen.slot second fallen.others below' down'))
+not_two_lost slots None h (after, inr failure) first second below below' apart (inr never) out = absurd never
+not_two_lost slots None h (after, inr failure) first second below below' apart (inl down) (inr never) = absurd never
+not_two_lost slots None h (after, inr failure) first second below below' apart (inl down) (inl down') =
+    apart (is_one slots h failure.slot first failure.others below down ∙ sym (is_one slots h failure.slot second failure.others below' down'))
 not_two_lost slots (Some lost) h (after, (of_set, is, up)) first second below below' apart out out' =
     apart (is_lost slots h lost first up below out ∙ sym (is_lost slots h lost second up below' out'))

@@ -273,7 +273,7 @@ chosen_at_end id devices n image found best all below is_best =
       greatest = λ other at s counts. let within = counted_within id devices other (image other) at s counts in is.greatest other at s (omega arith) counts;
       first = λ other at s counts same. elim (cases_lt other is.slot) [
         | inl before ↦ let less = is.first other at s before counts in absurd (omega arith)
-        | inr behind ↦ behind
+        | inr beyond ↦ beyond
       ];
     }
 

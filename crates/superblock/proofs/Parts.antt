@@ -1,4 +1,4 @@
--- Fields that stand one behind the other in a list of bytes.
+-- Fields that stand one after the other in a list of bytes.
 use Rattle.std.proofs.Common.{◌≡◌, ℕ, suc, ◌+◌, ◌-◌, ◌<◌, ◌≤◌, ◌^◌, List, [], ◌∷◌, ◌++◌, length, get_or, set, take, drop, refl, sym, ap, ◌∙◌, append_assoc, arith}
 use Rattle.std.proofs.lemmas.List.{length-append, length-take, length-drop, length-set, take_all, take_at, drop_at, get_or_at, set_split, append-nil}
 use Rattle.byteorder.specs.Endian.{little_bytes, little_number}
@@ -12,7 +12,7 @@ pub record Begins (n : ℕ) (bytes front : List ℕ) : Type 0 where
   pub long : length bytes ≡ 512
   pub front_is : take n bytes ≡ front
 
--- a field is written behind them, at the beginning of a part of the sector
+-- a field is written after them, at the beginning of a part of the sector
 pub begins_part : (n k m : ℕ) (bytes part field rest front : List ℕ) → Begins n bytes front → n + k ≤ 512 → length part ≡ k
     → part ≡ field ++ rest → n + length field ≡ m → Begins m (put_mid n k bytes part) (front ++ field)
 begins_part n k m bytes part field rest front begins within part_long part_is ends =
@@ -28,7 +28,7 @@ begins_part n k m bytes part field rest front begins within part_long part_is en
           ∙ ap (λ (p : List ℕ). p ++ field) begins.front_is;
     }
 
--- one byte is written behind them
+-- one byte is written after them
 pub begins_byte : (n m value : ℕ) (bytes front : List ℕ) → Begins n bytes front → n < 512 → n + 1 ≡ m → Begins m (set bytes n value) (front ++ value ∷ [])
 begins_byte n m value bytes front begins within ends =
     let front_long : length (take n bytes) ≡ n = omega (arith, length-take n bytes, begins.long) in
@@ -76,7 +76,7 @@ begins_all bytes front begins = sym (take_all 512 bytes (omega (arith, begins.lo
 
 -- ---- reading
 
--- a field stands behind n bytes of a list
+-- a field stands after n bytes of a list
 pub record HasAt (n : ℕ) (bytes field : List ℕ) : Type 0 where
   pub front : List ℕ
   pub rest : List ℕ
@@ -89,7 +89,7 @@ has_last n front field long = record { front = front; rest = []; front_long = lo
 pub has_first : (field rest : List ℕ) → HasAt 0 (field ++ rest) field
 has_first field rest = record { front = []; rest = rest; front_long = refl; parts = refl }
 
--- more bytes behind do not matter
+-- further bytes do not matter
 pub has_left : (n : ℕ) (bytes field more : List ℕ) → HasAt n bytes field → HasAt n (bytes ++ more) field
 has_left n bytes field more has = record {
   front = has.front;

@@ -4,7 +4,7 @@ use Rattle.std.specs.Prelude.{Contains, Option, map}
 use Rattle.std.proofs.lemmas.Bool.{or_right}
 use Rattle.std.proofs.lemmas.List.Elements.{Contains-append_left, Contains-append_right}
 use Rattle.sector_model.specs.declared.event.Event.{Event}
-use Rattle.sector_model.specs.declared.event.Event.TheVariants.{Quiet, Wrote, Lost, Flushed, Fell}
+use Rattle.sector_model.specs.declared.event.Event.TheVariants.{Quiet, Wrote, Lost, Flushed, DeviceFailed}
 use Rattle.sector_model.specs.Bank.{fault_at}
 use Rattle.sector_model.specs.Calls.{Flush, Made, Write, after_call}
 use Rattle.sector_model.specs.History.{After, Bytes, History, MayHold, is_down, start_of}
@@ -25,7 +25,7 @@ pub record IsNewThere (table : Table) (last : Option ℕ) (sectors : ℕ → Byt
   pub in_place : at ≡ place_of table
   pub is : value ≡ sectors device
 
--- A moment of a publish that began at `old`: a stop leaves in each sector what it might have left before, or the new superblock in its place;
+-- A moment of a publish that began at `old`: a crash leaves in each sector what it might have left before, or the new superblock in its place;
 -- the devices are the same; what was down is down, and only a device that gets the superblock may have gone down.
 pub record IsInPublish (table : Table) (last : Option ℕ) (sectors : ℕ → Bytes) (old h : History) : Type 0 where
   pub holds : (device at : ℕ) (value : Bytes) → MayHold h device at value → MayHold old device at value ⊎ IsNewThere table last sectors device at value
@@ -86,8 +86,8 @@ module _ (table : Table) (last : Option ℕ) (sectors : ℕ → Bytes) (old : Hi
   by_flush : (device : ℕ) → GetsIt table last device → (answered : Bool) (h : History) → Is h → Is (after_call (Flush device) answered h)
   by_flush device gets true h is = by_event (Flushed device) h is (λ d a v put. absurd put) (λ d down. down) (λ d not_got. refl)
   by_flush device gets false h is =
-      by_fault device (Fell device) h is
-      (by_event (Fell device) h is (λ d a v put. absurd put) (λ d down. or_right (d == device) (is_down h d) down) (stay_up device gets h))
+      by_fault device (DeviceFailed device) h is
+      (by_event (DeviceFailed device) h is (λ d a v put. absurd put) (λ d down. or_right (d == device) (is_down h d) down) (stay_up device gets h))
 
   writes_keep : (slots : List ℕ) → ((slot : ℕ) → Contains slots slot → GetsIt table last slot)
       → AllKeep Is (map (λ slot. Write slot (place_of table) (sectors slot)) slots)
@@ -117,7 +117,7 @@ publish_keeps table last sectors old =
     keep_both (IsInPublish table last sectors old) (written_and_flushed table sectors first) (written_and_flushed table sectors lasts)
     (phase_keeps table last sectors old first (λ slot has. Contains-append_left first lasts slot has)) (phase_keeps table last sectors old lasts (λ slot has. Contains-append_right first lasts slot has))
 
--- at each moment of a publish a stop leaves what it might have left before, and the new superblocks
+-- at each moment of a publish a crash leaves what it might have left before, and the new superblocks
 pub in_publish : (table : Table) (last : Option ℕ) (sectors : ℕ → Bytes) (answered : Bool) (old new : History)
     → Made (publish_calls table last sectors) answered old new
     → Throughout (IsInPublish table last sectors old) old new

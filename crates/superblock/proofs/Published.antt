@@ -7,7 +7,7 @@ use Rattle.sector_model.specs.Calls.{Call, Flush, Made, after_all, after_call, d
 use Rattle.sector_model.specs.History.{Bytes, History, MayHold, disk_of, is_down, seen, start_of}
 use Rattle.sector_model.specs.MemoryLaw.{length-seen}
 use Rattle.sector_model.specs.Moments.{Contents, LeavesWithin, Throughout}
-use Rattle.sector_model.proofs.Sequences.{AllKeep, AllUp, IsSafe, after_both, down_after, kept_after, made_all, made_up, safe_kept_as, sizes_after, throughout_kept, throughout_made, up_behind}
+use Rattle.sector_model.proofs.Sequences.{AllKeep, AllUp, IsSafe, after_both, down_after, kept_after, made_all, made_up, safe_kept_as, sizes_after, throughout_kept, throughout_made, up_after}
 use Rattle.sector_model.proofs.Steps.{throughout_last, throughout_more}
 use Rattle.layout_map.specs.declared.geometry.Geometry.{Geometry}
 use Rattle.layout_map.specs.declared.sizes.TheConstants.{SUPERBLOCK_PLACES}
@@ -134,7 +134,7 @@ module _ (table : Table) (last : Option ℕ) (sectors : ℕ → Bytes) (old : Hi
       → IsSafeAt new slot (place_of table) (sectors slot)
   last_end new made slot has value may =
       let mid = after_all first_calls old in
-      let up = phase_up table sectors lasts (flushes_of lasts) old (up_behind first_calls last_calls old (made_up made)) slot has in
+      let up = phase_up table sectors lasts (flushes_of lasts) old (up_after first_calls last_calls old (made_up made)) slot has in
       let is : new ≡ after_all last_calls mid = made_all made ∙ after_both first_calls last_calls old in
       let within = room slot (Contains-append_right first lasts slot has) up in
       phase_safe table sectors lasts mid slot has (omega (arith, within, sizes_after first_calls old slot)) value (subst (λ (h : History). MayHold h slot (place_of table) value) is may)

@@ -104,7 +104,7 @@ choose_new devices table image each k new = elim (find_first Old New (k + 1) (λ
     ];
     first = λ other at s counts same. elim (cases_lt other found.at) [
       | inl lower ↦ absurd (omega (arith, same, (found.before other lower).older at s counts))
-      | inr behind ↦ behind
+      | inr beyond ↦ beyond
     ];
   }
 ]

@@ -76,7 +76,7 @@ module _ (devices : ℕ) (before table : Table) (last : Option ℕ) (lost : Lost
   as_old_id : (d : ℕ) (content : Content) (at : ℕ) (s : Superblock) → Counts table.id devices d content at s → Counts before.id devices d content at s
   as_old_id d content at s counts = subst (λ (id : List ℕ). Counts id devices d content at s) m.may.not_older.same_id counts
 
-  -- what a stop might have left in one sector before, in a whole image
+  -- what a crash might have left in one sector before, in a whole image
   put_there : (d at : ℕ) (value : Bytes) → start_of old d ≢ None → at < length (seen old d) → MayHold old d at value
       → SlotMayHold old d (Some (slice_set (seen old d) at value))
   put_there d at value there within may = (
@@ -90,7 +90,7 @@ module _ (devices : ℕ) (before table : Table) (last : Option ℕ) (lost : Lost
     ],
   )
 
-  -- a superblock that a stop might have left before is not newer than the old table
+  -- a superblock that a crash might have left before is not newer than the old table
   old_bound : (d at : ℕ) (s : Superblock) (disk : List Bytes) → SlotMayHold h d (Some disk) → MayHold old d at (sector_of disk at)
       → Counts table.id devices d (Some disk) at s → s.table.generation ≤ before.generation
   old_bound d at s disk held may counts =
@@ -131,7 +131,7 @@ module _ (devices : ℕ) (before table : Table) (last : Option ℕ) (lost : Lost
   generation_of : (s : Superblock) → s.table ≡ table → s.table.generation ≡ before.generation + 1
   generation_of s carries = ap (λ (t : Table). t.generation) carries ∙ m.may.generation
 
-  -- and a stop could not have left it before
+  -- and a crash could not have left it before
   not_before : (d : ℕ) (content : Content) → SlotMayHold h d content → HasNew d content
       → MayHold old d (place_of table) (sector_of (disk_of content) (place_of table)) → ⊥
   not_before d None held new may = absurd (omega (arith, counts_within table.id devices d None place (m.stands d new.gets).superblock (new_counts d None new)))
@@ -171,7 +171,7 @@ module _ (devices : ℕ) (before table : Table) (last : Option ℕ) (lost : Lost
     | inr is ↦ is
   ]
 
-  -- what is left in a slot: nothing, what a stop might have left before, or the new superblock
+  -- what is left in a slot: nothing, what a crash might have left before, or the new superblock
   slot_either : (d : ℕ) (content : Content) → SlotMayHold h d content → (content ≡ None) ⊎ (SlotMayHold old d content ⊎ HasNew d content)
   slot_either d None held = inl refl
   slot_either d (Some disk) held = elim (m.publish.holds d place (sector_of disk place) (held.2 place)) [
@@ -207,7 +207,7 @@ module _ (devices : ℕ) (before table : Table) (last : Option ℕ) (lost : Lost
   seen_new None held new = absurd (omega (arith, counts_within table.id devices lost.slot None place (m.stands lost.slot new.gets).superblock (new_counts lost.slot None new)))
   seen_new (Some disk) held new = subst (MayHold h lost.slot (place_of table)) new.is (held.2 (place_of table))
 
-  -- if a stop leaves the new superblock in the lost slot, the slot is the last one, and didn't have it before
+  -- if a crash leaves the new superblock in the lost slot, the slot is the last one, and didn't have it before
   lost_lacks : (content : Content) → SlotMayHold h lost.slot content → HasNew lost.slot content → (last ≡ Some lost.slot) × LacksIt table last sectors old
   lost_lacks content held new =
       let is_last = lost_gets table last lost.slot m.may.lost_last new.gets in (

@@ -147,7 +147,7 @@ entries_entry (suc n) slot states incarnations within =
           (has_last (16 * n) (entries_bytes n states incarnations) (entry_bytes (state_at states n) (incarnation_at incarnations n)) (length-entries_bytes n states incarnations))
     ]
 
--- ---- the fields behind the entries
+-- ---- the fields after the entries
 
 abbrev up_to_position : Superblock → List ℕ
 up_to_position s = little_bytes 8 s.table.position
@@ -248,7 +248,7 @@ incarnation_fits : (s : Superblock) (slot : ℕ) → incarnation_at s.table.inca
 incarnation_fits s slot =
     elim (cases_lt slot (s.table.geometry.members + 2)) [
       | inl within ↦ omega (arith, s.table.allowed.incarnation_most slot within)
-      | inr behind ↦ omega (arith, s.table.allowed.behind_zero slot behind)
+      | inr beyond ↦ omega (arith, s.table.allowed.zero_beyond slot beyond)
     ]
 
 -- ---- what is read

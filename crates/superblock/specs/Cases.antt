@@ -1,4 +1,4 @@
--- What a stop leaves of a set, and what may be lost of it besides.
+-- What a crash leaves of a set, and what may be lost of it besides.
 use Rattle.std.specs.Prelude.{◌≡◌, ◌⊎◌, ℕ, ◌<◌, ◌==◌, if◌then◌else◌, List, [], Option, Some, None, Contains, length}
 use Rattle.sector_model.specs.History.{Bytes, IsSector, Slots, disk_of, sector_of}
 use Rattle.superblock.specs.declared.table.Table.{Table}

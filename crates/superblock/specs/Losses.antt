@@ -9,25 +9,25 @@ use Rattle.superblock.specs.Counted.{Content, IsChosen}
 abbrev pub OthersAreUp : (slots : ℕ) → History → ℕ → Type 0
 OthersAreUp slots h slot = (other : ℕ) → other < slots → other ≢ slot → is_down h other ≡ false
 
--- one device of the set's slots fell since, and no other
-pub record HasFallen (slots : ℕ) (h : History) (after : Option Lost) : Type 0 where
+-- one device of the set's slots failed since, and no other
+pub record HasOneFailed (slots : ℕ) (h : History) (after : Option Lost) : Type 0 where
   pub slot : ℕ
   pub of_set : slot < slots
-  pub fell : is_down h slot ≡ true
+  pub failed : is_down h slot ≡ true
   pub others : OthersAreUp slots h slot
   pub lost : after ≡ Some record { slot = slot; away = [] }
 
 -- Which slot is lost at a moment, by what was lost before: the same one, where no other device of the set is down; where none was
 -- lost, none or the one whose device is down. A moment with two devices lost has no such answer.
 abbrev pub IsLostAt : (slots : ℕ) → (before : Option Lost) → History → (after : Option Lost) → Type 0
-IsLostAt slots None h after = ((after ≡ None) × ((other : ℕ) → other < slots → is_down h other ≡ false)) ⊎ HasFallen slots h after
+IsLostAt slots None h after = ((after ≡ None) × ((other : ℕ) → other < slots → is_down h other ≡ false)) ⊎ HasOneFailed slots h after
 IsLostAt slots (Some lost) h after = (lost.slot < slots) × (after ≡ Some lost) × OthersAreUp slots h lost.slot
 
 -- one slot is lost at most
-abbrev pub IsOneLoss : (slots : ℕ) → (before : Option Lost) → History → Type 0
-IsOneLoss slots before h = (after : Option Lost) × IsLostAt slots before h after
+abbrev pub IsSingleFailure : (slots : ℕ) → (before : Option Lost) → History → Type 0
+IsSingleFailure slots before h = (after : Option Lost) × IsLostAt slots before h after
 
--- what each image that a stop now may leave is, and each weakened image of it
+-- what each image that a crash now may leave is, and each weakened image of it
 pub record InEachImage (devices : ℕ) (table : Table) (h : History) (lost : Option Lost) (P : Slots → Type 0) : Type 0 where
   pub whole : (image : Slots) → MayLeave h image → P image
   pub weakened : (image : Slots) (slot : ℕ) (content : Content) → MayLeave h image → MayBeOut lost slot

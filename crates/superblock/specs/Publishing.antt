@@ -51,7 +51,7 @@ written_and_flushed table sectors slots = map (λ slot. Write slot (place_of tab
 abbrev pub publish_calls : Table → Option ℕ → (ℕ → Bytes) → List Call
 publish_calls table last sectors = written_and_flushed table sectors (first_slots table last) ++ written_and_flushed table sectors (last_slots last)
 
--- a sector of a device is safe: a stop now leaves this in it
+-- a sector of a device is safe: a crash now leaves this in it
 abbrev pub IsSafeAt : History → (device at : ℕ) → Bytes → Type 0
 IsSafeAt h device at bytes = (value : Bytes) → MayHold h device at value → value ≡ bytes
 
@@ -73,7 +73,7 @@ pub record MayPublish (devices : ℕ) (before table : Table) (last : Option ℕ)
 abbrev pub LacksIt : Table → Option ℕ → (ℕ → Bytes) → History → Type 0
 LacksIt table last sectors h = (slot : ℕ) → last ≡ Some slot → ¬ MayHold h slot (place_of table) (sectors slot)
 
--- where a stop may leave the table's superblock on the last device, it is safe on all others
+-- where a crash may leave the table's superblock on the last device, it is safe on all others
 abbrev pub IsLastToSee : Table → Option ℕ → (ℕ → Bytes) → History → Type 0
 IsLastToSee table last sectors h = (slot other : ℕ) → last ≡ Some slot → MayHold h slot (place_of table) (sectors slot)
     → Contains (first_slots table last) other → IsSafeAt h other (place_of table) (sectors other)

@@ -7,15 +7,15 @@ use Rattle.superblock.specs.declared.state.State.{State}
 use Rattle.superblock.specs.declared.state.State.TheVariants.{Missing, InSync, Rebuilding}
 use Rattle.superblock.specs.Tables.{state_at, incarnation_at}
 
--- the first slots, as many as the number says, have incarnations 1 to 2^62, and the places behind them 0
+-- the first slots, as many as the number says, have incarnations 1 to 2^62, and the places after them 0
 pub record AreNumbered (slots : ℕ) (incarnations : List ℕ) : Type 0 where
   pub least : (slot : ℕ) → slot < slots → 1 ≤ incarnation_at incarnations slot
   pub most : (slot : ℕ) → slot < slots → incarnation_at incarnations slot ≤ GREATEST_COUNT
-  pub behind : (slot : ℕ) → slots ≤ slot → incarnation_at incarnations slot ≡ 0
+  pub beyond : (slot : ℕ) → slots ≤ slot → incarnation_at incarnations slot ≡ 0
 
--- the places behind the slots are empty
-pub record AreMissingBehind (slots : ℕ) (states : List State) : Type 0 where
-  pub behind : (slot : ℕ) → slots ≤ slot → state_at states slot ≡ Missing
+-- the places after the slots are empty
+pub record AreMissingBeyond (slots : ℕ) (states : List State) : Type 0 where
+  pub beyond : (slot : ℕ) → slots ≤ slot → state_at states slot ≡ Missing
 
 -- at most one slot is not in sync
 pub record AreOutOnce (slots : ℕ) (states : List State) : Type 0 where

@@ -40,7 +40,7 @@ head_bytes superblock =
     ++ (superblock.table.geometry.members ∷ []) ++ (superblock.role ∷ [])
     ++ little_bytes 2 superblock.table.geometry.chunk ++ little_bytes 4 superblock.table.geometry.stripes
 
--- behind the entries, 312 bytes: the position, the incarnation of the role's own slot, zeros and the mark
+-- after the entries, 312 bytes: the position, the incarnation of the role's own slot, zeros and the mark
 unfoldable pub tail_bytes : Superblock → List ℕ
 tail_bytes superblock =
     little_bytes 8 superblock.table.position

@@ -64,7 +64,7 @@ fn write_head(superblock: &Superblock, to: &mut Sector)
     LittleEndian::write_u32(&mut to[36..], table.geometry.stripes);
 }
 
-// Writes the ten entries behind the head.
+// Writes the ten entries after the head.
 fn write_entries(states: &[State; 10], incarnations: &[u64; 10], to: &mut Sector)
     ensures { take 200 to.new ≡ take 40 to.old ++ entries_bytes 10 states.now incarnations.now }
 {
@@ -76,7 +76,7 @@ fn write_entries(states: &[State; 10], incarnations: &[u64; 10], to: &mut Sector
     }
 }
 
-// Writes the 312 bytes behind the entries.
+// Writes the 312 bytes after the entries.
 fn write_tail(superblock: &Superblock, to: &mut Sector)
     ensures { to.new ≡ take 200 to.old ++ tail_bytes superblock.now }
 {

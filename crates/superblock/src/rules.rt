@@ -2,7 +2,7 @@
 ghost use Rattle.std.specs.Prelude.{◌≡◌, ◌≤◌, ◌↔◌, IsTrue};
 ghost use Rattle.superblock.specs.declared.table.Superblock.{Superblock};
 ghost use Rattle.superblock.specs.Reading.{fields_of};
-ghost use Rattle.superblock.specs.Rules.{AreMissingBehind, AreNumbered, AreOutOnce, IsPositionOf};
+ghost use Rattle.superblock.specs.Rules.{AreMissingBeyond, AreNumbered, AreOutOnce, IsPositionOf};
 ghost use Rattle.superblock.specs.Tables.{IsTable};
 
 use crate::fields::Fields;
@@ -41,7 +41,7 @@ fn is_table(fields: &Fields, geometry: &Geometry) -> bool
     let slots = geometry.members + 2;
     if !matches!(fields.generation, 1..=GREATEST_COUNT)
         || !are_numbered(&fields.incarnations, slots)
-        || !are_missing_behind(&fields.states, slots)
+        || !are_missing_beyond(&fields.states, slots)
         || !are_out_once(&fields.states, slots)
     {
         return false;
@@ -49,7 +49,7 @@ fn is_table(fields: &Fields, geometry: &Geometry) -> bool
     is_position(&fields.states, fields.position, geometry)
 }
 
-// Whether the slots have incarnations 1 to 2^62, and the places behind them 0.
+// Whether the slots have incarnations 1 to 2^62, and the places after them 0.
 fn are_numbered(incarnations: &[u64; 10], slots: u8) -> bool
     requires { slots ≤ 10 }
     ensures { IsTrue result ↔ AreNumbered slots incarnations.now }
@@ -68,10 +68,10 @@ fn are_numbered(incarnations: &[u64; 10], slots: u8) -> bool
     true
 }
 
-// Whether the places behind the slots have no state of their own.
-fn are_missing_behind(states: &[State; 10], slots: u8) -> bool
+// Whether the places after the slots have no state of their own.
+fn are_missing_beyond(states: &[State; 10], slots: u8) -> bool
     requires { slots ≤ 10 }
-    ensures { IsTrue result ↔ AreMissingBehind slots states.now }
+    ensures { IsTrue result ↔ AreMissingBeyond slots states.now }
 {
     for slot in slots..10 {
         if states[slot as usize] != State::Missing {

@@ -16,10 +16,10 @@ pub struct Table {
     pub generation: u64,
     /// The members, chunk and stripes.
     pub geometry: Geometry,
-    /// The state of each slot; `Missing` behind the second journal. At most one slot is not in sync, and only a member
+    /// The state of each slot; `Missing` after the second journal. At most one slot is not in sync, and only a member
     /// is rebuilding.
     pub states: [State; 10],
-    /// How often each slot was given a device, 1 to 2^62; 0 behind the second journal.
+    /// How often each slot was given a device, 1 to 2^62; 0 after the second journal.
     pub incarnations: [u64; 10],
     /// The rows of the rebuilding member that count, below the number of rows; 0 where no member is rebuilding.
     pub position: u64,

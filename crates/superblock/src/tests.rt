@@ -95,9 +95,9 @@ const REFUSED: &[(usize, u8)] = &[
     (35, 1),
     (36, 7),
     (36, 0),
-    // The slot behind the last.
+    // The slot after the last.
     (33, 5),
-    // A state without a meaning, incarnations 0 and 2^62 + 1, and entries behind the last slot.
+    // A state without a meaning, incarnations 0 and 2^62 + 1, and entries after the last slot.
     (40, 3),
     (56, 3),
     (56, 0xff),
@@ -168,7 +168,7 @@ fn table_of(superblock: Option<Superblock>) -> Option<Table> {
     Some(superblock?.table)
 }
 
-// Of a list of superblocks the first that is there, the first behind them, and the place in the list of one that has
+// Of a list of superblocks the first that is there, the first after them, and the place in the list of one that has
 // the table chosen among them.
 const CHOICES: &[(usize, usize, usize)] = &[
     // None at all, and two empty slots.
@@ -179,7 +179,7 @@ const CHOICES: &[(usize, usize, usize)] = &[
     // The first and the second with an empty slot, in either order.
     (1, 4, 3),
     (5, 8, 5),
-    // The second before another one of its generation, and behind it.
+    // The second before another one of its generation, and after it.
     (2, 5, 3),
     (4, 6, 4),
 ];

@@ -43,14 +43,14 @@ all_records table = ∥∥₁_elim table.is_table (hlevel props) (λ is. is.all_
 used_is_of_table : (table : VolumeTable) (number : ℕ) (entry : Record) → record_of table.records number ≡ Some entry → number < MOST_VOLUMES
 used_is_of_table table number entry used = omega (arith, some_within table.records number entry used, all_records table)
 
--- no record is used behind those of the version
-none_behind : (table : VolumeTable) (number : ℕ) → most_volumes table.version ≤ number → record_of table.records number ≡ None
-none_behind table number above = ∥∥₁_elim table.is_table (hlevel props) (λ is. is.of_version.few number above)
+-- no record is used after those of the version
+none_beyond_end : (table : VolumeTable) (number : ℕ) → most_volumes table.version ≤ number → record_of table.records number ≡ None
+none_beyond_end table number above = ∥∥₁_elim table.is_table (hlevel props) (λ is. is.of_version.few number above)
 
 -- so that a record that is used is one of the version
 used_is_of_version : (table : VolumeTable) (number : ℕ) (entry : Record) → record_of table.records number ≡ Some entry → number < most_volumes table.version
 used_is_of_version table number entry used =
-    ⊎_elim (λ below. below) (λ above. absurd (none-some entry (sym (none_behind table number above) ∙ used))) (cases_lt number (most_volumes table.version))
+    ⊎_elim (λ below. below) (λ above. absurd (none-some entry (sym (none_beyond_end table number above) ∙ used))) (cases_lt number (most_volumes table.version))
 
 -- and its name is as short as the version's names are
 used_is_short : (table : VolumeTable) (number : ℕ) (entry : Record) → record_of table.records number ≡ Some entry → length entry.name.bytes.items ≤ most_name_bytes table.version
@@ -235,7 +235,7 @@ pub volumes_are_fewer : (extents : ℕ) (table : VolumeTable) (sectors : List Bl
     → IsFirstUnused table.version table.records number → length volumes.volumes < most_volumes volumes.version
 volumes_are_fewer extents table sectors volumes number by unused =
     let same : most_volumes table.version ≡ most_volumes volumes.version = ap most_volumes (version_by extents table sectors volumes by) in
-    omega (arith, same, used_by extents table sectors volumes by, one_unused (most_volumes table.version) table.records number unused.of_table unused.unused (none_behind table))
+    omega (arith, same, used_by extents table sectors volumes by, one_unused (most_volumes table.version) table.records number unused.of_table unused.unused (none_beyond_end table))
 
 -- a new volume may have this name and so many blocks
 pub record IsGoodNew (version : ℕ) (name : List ℕ) (count : ℕ) : Type 0 where

@@ -1,9 +1,9 @@
--- Assembling a set that is safe: what a stop in it leaves, what it gives, and that it is refused for a counter alone.
+-- Assembling a set that is safe: what a crash in it leaves, what it gives, and that it is refused for a counter alone.
 use Rattle.std.proofs.Common.{◌≡◌, ◌≢◌, ◌⊎◌, inl, inr, ℕ, ◌+◌, ◌<◌, Bool, true, false, List, [], Option, Some, None, refl, sym, ◌∙◌, subst, subst₂, ◌==◌, ◌||◌, cond}
 use Rattle.std.specs.Prelude.{nat_lt}
 use Rattle.std.proofs.lemmas.Bool.{cases_eq}
 use Rattle.sector_model.specs.declared.event.Event.{Event}
-use Rattle.sector_model.specs.declared.event.Event.TheVariants.{Quiet, Wrote, Lost, Flushed, Fell}
+use Rattle.sector_model.specs.declared.event.Event.TheVariants.{Quiet, Wrote, Lost, Flushed, DeviceFailed}
 use Rattle.sector_model.specs.declared.refusal.Refusal.{Refusal}
 use Rattle.sector_model.specs.declared.refusal.Refusal.TheVariants.{NoSet, TwoLost, Worn}
 use Rattle.sector_model.specs.Bank.{Panel}
@@ -16,7 +16,7 @@ use Rattle.superblock.specs.declared.table.Table.{Table}
 use Rattle.superblock.specs.Cases as cases
 use Rattle.superblock.specs.Cases.{HasNone, MayBeOut, with_slot}
 use Rattle.superblock.specs.Counted.{Counts, IsChosen, IsInFull}
-use Rattle.superblock.specs.Losses.{IsLostAt, IsOneLoss, OthersAreUp}
+use Rattle.superblock.specs.Losses.{IsLostAt, IsSingleFailure, OthersAreUp}
 use Rattle.superblock.specs.NextTables.{slots_of}
 use Rattle.array_io.specs.Believed.Holds.{Holds}
 use Rattle.array_io.specs.Believed.Moments.{HoldsNow, HoldsThroughout}
@@ -44,7 +44,7 @@ up_before Quiet h d up = up
 up_before (Wrote device at value) h d up = up
 up_before (Lost device at value) h d up = or_false (d == device) (is_down h d) up
 up_before (Flushed device) h d up = up
-up_before (Fell device) h d up = or_false (d == device) (is_down h d) up
+up_before (DeviceFailed device) h d up = or_false (d == device) (is_down h d) up
 
 up_cut : (t : ℕ) (h : History) (d : ℕ) → is_down h d ≡ false → is_down (cut_at t h) d ≡ false
 up_cut t (Began start) d up = up
@@ -140,31 +140,31 @@ then_table base devices image lost X holds table chosen =
 
 -- Two slots are not lost, where one is lost at most at the end.
 not_two_then : (base : Table) (devices : ℕ) (lost : Option cases.Lost) (X : List (List Bytes)) (old new : History) → HoldsThroughout base devices lost X old new
-    → IsOneLoss (slots_of base) lost new → IsTwoLostThen base.id devices old new → ⊥
+    → IsSingleFailure (slots_of base) lost new → IsTwoLostThen base.id devices old new → ⊥
 not_two_then base devices None X old new moments (after, inl (none, up)) two =
     let holds = throughout_cut new moments two.t two.from None (readable (cut_at two.t new)) (inl (refl, λ other below. up_cut two.t new other (up other below))) (readable_left (cut_at two.t new)) in
     not_two_up base devices (readable (cut_at two.t new)) new None X holds up
     (two_of base.id devices old new two holds.table (then_table base devices (readable (cut_at two.t new)) None X holds two.table two.chosen))
-not_two_then base devices None X old new moments (after, inr fallen) two = by_then (is_down (cut_at two.t new) fallen.slot) refl
+not_two_then base devices None X old new moments (after, inr failure) two = by_then (is_down (cut_at two.t new) failure.slot) refl
   where
-    others : OthersAreUp (slots_of base) (cut_at two.t new) fallen.slot
-    others other below apart = up_cut two.t new other (fallen.others other below apart)
+    others : OthersAreUp (slots_of base) (cut_at two.t new) failure.slot
+    others other below apart = up_cut two.t new other (failure.others other below apart)
 
-    all_up : is_down (cut_at two.t new) fallen.slot ≡ false → (other : ℕ) → other < slots_of base → is_down (cut_at two.t new) other ≡ false
-    all_up up other below = elim (cases_eq other fallen.slot) [
+    all_up : is_down (cut_at two.t new) failure.slot ≡ false → (other : ℕ) → other < slots_of base → is_down (cut_at two.t new) other ≡ false
+    all_up up other below = elim (cases_eq other failure.slot) [
       | inl is ↦ subst (λ (d : ℕ). is_down (cut_at two.t new) d ≡ false) (sym is) up
       | inr apart ↦ others other below apart
     ]
 
-    by_lost : (lost : Option cases.Lost) → IsLostAt (slots_of base) None (cut_at two.t new) lost → MayBeOut lost fallen.slot → ⊥
+    by_lost : (lost : Option cases.Lost) → IsLostAt (slots_of base) None (cut_at two.t new) lost → MayBeOut lost failure.slot → ⊥
     by_lost lost is may =
         let holds = throughout_cut new moments two.t two.from lost (readable (cut_at two.t new)) is (readable_left (cut_at two.t new)) in
-        not_two_at base devices (readable (cut_at two.t new)) new lost X holds fallen.slot may fallen.of_set fallen.others
+        not_two_at base devices (readable (cut_at two.t new)) new lost X holds failure.slot may failure.of_set failure.others
         (two_of base.id devices old new two holds.table (then_table base devices (readable (cut_at two.t new)) lost X holds two.table two.chosen))
 
-    by_then : (b : Bool) → is_down (cut_at two.t new) fallen.slot ≡ b → ⊥
-    by_then true down = by_lost (Some record { slot = fallen.slot; away = [] })
-        (inr record { slot = fallen.slot; of_set = fallen.of_set; fell = down; others = others; lost = refl }) refl
+    by_then : (b : Bool) → is_down (cut_at two.t new) failure.slot ≡ b → ⊥
+    by_then true down = by_lost (Some record { slot = failure.slot; away = [] })
+        (inr record { slot = failure.slot; of_set = failure.of_set; failed = down; others = others; lost = refl }) refl
     by_then false up = by_lost None (inl (refl, all_up up)) tt
 not_two_then base devices (Some lost) X old new moments (after, (of_set, is, up)) two =
     let holds = throughout_cut new moments two.t two.from (Some lost) (readable (cut_at two.t new))
@@ -173,7 +173,7 @@ not_two_then base devices (Some lost) X old new moments (after, (of_set, is, up)
     (two_of base.id devices old new two holds.table (then_table base devices (readable (cut_at two.t new)) (Some lost) X holds two.table two.chosen))
 
 -- there is a superblock that counts
-not_none : (base : Table) (devices : ℕ) (lost : Option cases.Lost) (X : List (List Bytes)) (h : History) → HoldsNow base devices lost X h → IsOneLoss (slots_of base) lost h
+not_none : (base : Table) (devices : ℕ) (lost : Option cases.Lost) (X : List (List Bytes)) (h : History) → HoldsNow base devices lost X h → IsSingleFailure (slots_of base) lost h
     → ((slot : ℕ) → HasNone base.id devices slot (readable h slot)) → ⊥
 not_none base devices lost X h now (after, is) none =
     let holds = now after (readable h) is (readable_left h) in
@@ -204,12 +204,12 @@ pub assembling_stands : (made : Table) (devices : ℕ) (maps : List VolumeMap) (
 assembling_stands made devices maps world h safe moments =
     throughout_more (λ g now after image is may. record { lists = safe.stands.lists; holds = now after image is may; shown = safe.stands.shown }) h moments
 
-one_loss_by : (slots : ℕ) (base : Table) (lost : Option cases.Lost) (h : History) → slots ≡ slots_of base → IsOneLoss slots lost h → IsOneLoss (slots_of base) lost h
-one_loss_by slots base lost h same one = subst (λ (n : ℕ). IsOneLoss n lost h) same one
+single_failure_by : (slots : ℕ) (base : Table) (lost : Option cases.Lost) (h : History) → slots ≡ slots_of base → IsSingleFailure slots lost h → IsSingleFailure (slots_of base) lost h
+single_failure_by slots base lost h same one = subst (λ (n : ℕ). IsSingleFailure n lost h) same one
 
 refused_for : (made : Table) (devices : ℕ) (maps : List VolumeMap) (world : World) (panel : Panel) (bank : recovery.BankView) (refusal : Refusal) (safe : IsSafe made devices maps world)
     → bank.panel.devices ≡ devices
-    → HoldsThroughout safe.base devices world.fate.lost safe.stands.lists (Began world.image) bank.history → IsOneLoss (slots_of safe.base) world.fate.lost bank.history
+    → HoldsThroughout safe.base devices world.fate.lost safe.stands.lists (Began world.image) bank.history → IsSingleFailure (slots_of safe.base) world.fate.lost bank.history
     → IsOfAssembly refusal → IsNoAssembly made.id (begun_with panel world.image) bank refusal
     → (refusal ≡ Worn) × IsNoAssembly made.id (begun_with panel world.image) bank Worn
 refused_for made devices maps world panel bank NoSet safe of_bank moments one of why =
@@ -229,5 +229,5 @@ assembled_unless_worn made devices maps world panel (Opened array) of_bank safe 
 assembled_unless_worn made devices maps world panel (Returned bank refusal) of_bank safe assembles = λ one.
     refused_for made devices maps world panel bank refusal safe (assembles.later.devices ∙ of_bank)
     (assembling_holds made devices maps world panel (Returned bank refusal) of_bank safe assembles)
-    (one_loss_by (slots_of made) safe.base world.fate.lost bank.history (sym (same_slots made safe.base safe.not_older)) one)
+    (single_failure_by (slots_of made) safe.base world.fate.lost bank.history (sym (same_slots made safe.base safe.not_older)) one)
     (assembles.refused bank refusal refl) (assembles.cause tt bank refusal refl)

@@ -80,7 +80,7 @@ listed_from volumes (Some first ∷ records) name blocks found = by_case (listed
         let from = rec (sym (others_with_volume name (volume_of volumes first) (listed volumes records) (differ name first.name.bytes.items e)) ∙ found) in
         record { number = suc from.number; entry = from.entry; used = from.used; named = from.named; same = from.same }
 
--- the records behind the first have distinct names
+-- the records after the first have distinct names
 distinct_rest : (first : Option Record) (records : List (Option Record)) → AreDistinct (first ∷ records) → AreDistinct records
 distinct_rest first records distinct i j one two used_one used_two same =
     let next : suc i ≡ suc j = distinct (suc i) (suc j) one two used_one used_two same in

@@ -49,7 +49,7 @@ ends_by_these TwoLost ends = inl refl
 ends_by_these Worn ends = inr refl
 ends_by_these refusal ends = absurd ends
 
--- a store that is open behind an event was not ended by it
+-- a store that is open after an event was not ended by it
 pub not_ended : (honest : Type 0) (event : Event) (old new : StoreView) (reply : Reply) → Applies honest event old new reply → old.ended ≡ None → new.ended ≡ None → ¬ EndsStore reply
 not_ended honest event old new (Refused refusal) applies goes on = λ ends. none-some refusal (sym on ∙ ((applies.going goes).ends refusal refl ends).0)
 not_ended honest event old new reply applies goes on = λ no. no

@@ -101,12 +101,12 @@ found_count extents sectors volumes name number count table shows same found =
     let volume = is_found extents sectors volumes name number count table shows same found in
     rw volume.is (ap Some (sym volume.as_long))
 
--- no block behind them
+-- no block after them
 pub no_block : (extents : ℕ) (sectors : List Block) (volumes : VolumeMap) (name : List ℕ) (number count at : ℕ) (table : VolumeTable) (shows : Shows extents sectors volumes) → table ≡ shows.table
     → IsRecordFor table.records name number count → count ≤ at → block_at name at volumes ≡ None
-no_block extents sectors volumes name number count at table shows same found behind =
+no_block extents sectors volumes name number count at table shows same found beyond =
     let volume = is_found extents sectors volumes name number count table shows same found in
-    rw volume.is (slice_get_past volume.blocks at (omega (arith, behind, volume.as_long)))
+    rw volume.is (slice_get_past volume.blocks at (omega (arith, beyond, volume.as_long)))
 
 -- and an extent for each of them
 pub has_extent : (name : List ℕ) (number count at : ℕ) (table : VolumeTable) → IsRecordFor table.records name number count → at < count
@@ -121,7 +121,7 @@ has_extent name number count at table found within none = ∥∥₁_elim table.i
 found_there : (sectors blocks : List Block) (sector at : ℕ) → All IsBlock blocks → at < length blocks → get_or sectors sector [] ≡ get_or blocks at [] → slice_get sectors sector ≡ slice_get blocks at
 found_there sectors blocks sector at whole within same =
     let long : length (get_or blocks at []) ≡ 512 = whole at [] within in
-    let there : sector < length sectors = ⊎_elim (λ below. below) (λ behind. absurd (let none : get_or sectors sector [] ≡ [] = get_or_past sectors sector [] behind in omega (arith, long, ap length (sym same ∙ none)))) (cases_lt sector (length sectors)) in
+    let there : sector < length sectors = ⊎_elim (λ below. below) (λ beyond. absurd (let none : get_or sectors sector [] ≡ [] = get_or_past sectors sector [] beyond in omega (arith, long, ap length (sym same ∙ none)))) (cases_lt sector (length sectors)) in
     slice_get-get_or sectors sector [] there ∙ ap Some same ∙ sym (slice_get-get_or blocks at [] within)
 
 -- what is read of a list by its place

@@ -49,7 +49,7 @@ extended_is_shown extents old new number entry one growth_by V W volumes growth 
     let t : VolumeTable = by.shows.table in
     shows_by extents new W (done (Extend name growth_by) volumes)
     (subst (Shows extents W) (changed_if_done extents (Extend name growth_by) volumes (sym admitted))
-    (extend_is_shown extents V W volumes growth_by new number one by.shows used' (done_reply extents (Extend name growth_by) volumes admitted) grown.put.spelled (growth'.version ∙ by.shows.of_version) growth.free_behind
+    (extend_is_shown extents V W volumes growth_by new number one by.shows used' (done_reply extents (Extend name growth_by) volumes admitted) grown.put.spelled (growth'.version ∙ by.shows.of_version) growth.free_beyond
     (changes_one extents t new number one.blocks entry growth' entry.blocks V W grown)
     record {
       entry = entry;

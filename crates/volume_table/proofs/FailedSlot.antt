@@ -26,7 +26,7 @@ use Rattle.superblock.specs.Tables.{state_at}
 use Rattle.array_io.specs.Believed.ArrayCalls.{Answer, MarksMissing, MayGiveUp}
 use Rattle.array_io.specs.Steps.MarkingOn.{AreOthersInSync, IsOutBeside, MarksOn, answer_of}
 use Rattle.array_io.specs.Believed.Settled.{IsLostSlot}
-use Rattle.array_io.specs.Believed.Views.{ArrayView, EndsIt, Fell, IsEndOf, RestsOn}
+use Rattle.array_io.specs.Believed.Views.{ArrayView, EndsIt, DeviceFailed, IsEndOf, RestsOn}
 use Rattle.array_io.proofs.Laws.Beginning.{state_in_sync}
 use Rattle.array_io.proofs.Marks.MarkingCalls.{marking_up}
 use Rattle.array_io.proofs.Marks.MarkingHolds.{missing_then, state_stays}
@@ -245,16 +245,16 @@ module _ (honest : Type 0) (slot : ℕ) (old new : StoreView) (answer : Answer) 
 
 -- it was marked
 pub fail_done : (honest : Type 0) (slot : ℕ) (old new : StoreView) → MarksOwn honest slot old new (Ok tt) → new.ended ≡ None
-    → (honest → (other : ℕ) → other < slots_of old.array.table → Fell other old.array.panel new.array.panel → state_at new.array.table.states other ≡ Missing)
+    → (honest → (other : ℕ) → other < slots_of old.array.table → DeviceFailed other old.array.panel new.array.panel → state_at new.array.table.states other ≡ Missing)
     → Applies honest (OnSet (Fail slot)) old new Done
-fail_done honest slot old new is goes fallen = record {
+fail_done honest slot old new is goes failure = record {
   ended = λ other kept. absurd (none_ended other (sym kept ∙ is.going));
   going = λ going. record {
     goes_on = is.marks.goes_on;
     generation = generation honest slot old new (Ok tt) is;
     incarnations = incarnations honest slot old new (Ok tt) is;
     spared = λ other of_set in_sync kept. spared honest slot old new (Ok tt) is other in_sync kept;
-    set_left = λ unended. set_left_by honest (Fail slot) old new Done devices None (are_devices honest old.array new.array fallen) admits refl
+    set_left = λ unended. set_left_by honest (Fail slot) old new Done devices None (are_devices honest old.array new.array failure) admits refl
         (ap (λ (states : List State). settled devices (made states old.array.table.position)) (states_now honest slot old new (Ok tt) is refl)
         ∙ devices_leave old.array new.array old.array.table.position (position_then honest slot old new (Ok tt) is refl));
     ends = λ other same ends. absurd (done_differs other same);
@@ -317,11 +317,11 @@ fail_ended honest slot old new refusal is ended = record {
 pub fail_marked : (honest : Type 0) (slot : ℕ) (old new : StoreView) (answer : Answer) → old.ended ≡ None → new.keeps ≡ old.keeps → slot < slots_of old.array.table
     → is_out_beside old.array.table slot ≡ false → (answer ≡ Ok tt → new.ended ≡ old.ended) → ((refusal : Refusal) → answer ≡ Err refusal → new.ended ≡ Some refusal)
     → MarksMissing honest slot old.array new.array answer
-    → (honest → answer ≡ Ok tt → (other : ℕ) → other < slots_of old.array.table → Fell other old.array.panel new.array.panel → state_at new.array.table.states other ≡ Missing)
+    → (honest → answer ≡ Ok tt → (other : ℕ) → other < slots_of old.array.table → DeviceFailed other old.array.panel new.array.panel → state_at new.array.table.states other ≡ Missing)
     → FailsSlot honest slot old new answer
-fail_marked honest slot old new (Ok done) going same of_set none goes_on ends marks fallen =
-    fail_done honest slot old new record { going = going; same = same; of_set = of_set; none_out = none; marks = marks } (goes_on refl ∙ going) (λ fair. fallen fair refl)
-fail_marked honest slot old new (Err refusal) going same of_set none goes_on ends marks fallen =
+fail_marked honest slot old new (Ok done) going same of_set none goes_on ends marks failure =
+    fail_done honest slot old new record { going = going; same = same; of_set = of_set; none_out = none; marks = marks } (goes_on refl ∙ going) (λ fair. failure fair refl)
+fail_marked honest slot old new (Err refusal) going same of_set none goes_on ends marks failure =
     fail_ended honest slot old new refusal record { going = going; same = same; of_set = of_set; none_out = none; marks = marks } (ends refusal refl)
 
 answered_ok : (result : Result (Unit {0}) Stop) → answer_of result ≡ Ok tt → is_ok result ≡ true
@@ -337,11 +337,11 @@ module _ (honest : Type 0) (slot : ℕ) (old_panel new_panel : Panel) (old_table
     | inr is ↦ is.marked.same_geometry
   ]
 
-  -- where the slot was marked, each other device of the set is up; and where nothing was done, none fell
-  pub marks_fallen : slot < slots_of old_table → (honest → IsTrueTo new_panel new) → honest → answer ≡ Ok tt → (other : ℕ) → other < slots_of old_table → Fell other old_panel new_panel
+  -- where the slot was marked, each other device of the set is up; and where nothing was done, none failed
+  pub marks_failed : slot < slots_of old_table → (honest → IsTrueTo new_panel new) → honest → answer ≡ Ok tt → (other : ℕ) → other < slots_of old_table → DeviceFailed other old_panel new_panel
       → state_at new_table.states other ≡ Missing
-  marks_fallen of_set true_new fair ok other within fell = elim marks [
-    | inl left ↦ absurd (true≢false (sym fell.is_down ∙ ap (λ (p : Panel). p.down other) left.same_panel ∙ fell.was_up))
+  marks_failed of_set true_new fair ok other within failed = elim marks [
+    | inl left ↦ absurd (true≢false (sym failed.is_down ∙ ap (λ (p : Panel). p.down other) left.same_panel ∙ failed.was_up))
     | inr is ↦ elim (cases_eq other slot) [
       | inl same ↦ ap (state_at new_table.states) same ∙ missing_then old_table new_table slot is.marked of_set
       | inr apart ↦
@@ -349,6 +349,6 @@ module _ (honest : Type 0) (slot : ℕ) (old_panel new_panel : Panel) (old_table
           let within_new : other < slots_of new_table = omega (arith, within, ap (λ (g : Geometry). g.members + 2) is.marked.same_geometry) in
           let up = marking_up new_table is.publishes.sectors old new made other
           (gets_it new_table other within_new (state_stays old_table new_table slot is.marked other apart ∙ is.others other within apart)) in
-          absurd (true≢false (sym fell.is_down ∙ (true_new fair).down other ∙ up))
+          absurd (true≢false (sym failed.is_down ∙ (true_new fair).down other ∙ up))
     ]
   ]

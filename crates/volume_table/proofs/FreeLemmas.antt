@@ -18,7 +18,7 @@ use Rattle.volume_table.proofs.CountLemmas.{records_are_counted}
 use Rattle.extents.specs.declared.volume_table.TheConstants.{MOST_VOLUMES}
 use Rattle.layout_map.specs.declared.sizes.TheConstants.{EXTENT_SECTORS, MOST_EXTENTS}
 
--- what stands behind a list is its default
+-- what stands after a list is its default
 get_or_past : {X : Type 0} (xs : List X) (k : ℕ) (d : X) → length xs ≤ k → get_or xs k d ≡ d
 get_or_past [] k d past = refl
 get_or_past (x ∷ xs) zero d past = absurd (omega arith)
@@ -90,4 +90,4 @@ free_is_not_needed extents sectors volumes shows most =
     let records = shows.table.records in
     let owners = shows.table.extents in
     ap (λ n. free_of (take extents owners) + n) (records_are_counted extents sectors volumes shows).1
-    ∙ ∥∥₁_elim shows.table.is_table (hlevel props) (λ table. free_by_table extents shows.table.version records owners most table shows.free_behind)
+    ∙ ∥∥₁_elim shows.table.is_table (hlevel props) (λ table. free_by_table extents shows.table.version records owners most table shows.free_beyond)

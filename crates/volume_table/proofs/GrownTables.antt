@@ -46,14 +46,14 @@ kept_length extents table owners most kept =
 
 kept_is_map : (extents : ℕ) (table : VolumeTable) (owners : List (Option Owned)) → extents ≤ MOST_EXTENTS → AreKept extents table owners → IsVolumeTable table.version table.records table.extents → IsExtentMap owners
 kept_is_map extents table owners most kept is_table =
-    subst IsExtentMap (sym kept.same) (table_is_extent_map extents table.version table.records table.extents most is_table kept.free_behind)
+    subst IsExtentMap (sym kept.same) (table_is_extent_map extents table.version table.records table.extents most is_table kept.free_beyond)
 
 -- a map of so many extents is that of the table whose owners are its own
 kept_by_owners : (extents : ℕ) (table : VolumeTable) (owners : List (Option Owned)) → length owners ≡ extents → table.extents ≡ owners_padded owners → AreKept extents table owners
 kept_by_owners extents table owners long same = record {
   same = sym (take_padded owners) ∙ ap (λ n. take n (owners_padded owners)) long ∙ ap (take extents) (sym same);
-  free_behind = λ extent behind.
-      ap (λ (its : List (Option Owned)). owner_of its extent) same ∙ owner_padded owners extent ∙ get_or_past owners extent None (omega (arith, behind, long));
+  free_beyond = λ extent beyond.
+      ap (λ (its : List (Option Owned)). owner_of its extent) same ∙ owner_padded owners extent ∙ get_or_past owners extent None (omega (arith, beyond, long));
 }
 
 -- it is so where the table has got its owners from the map, and the set's table may have changed, but not its geometry
@@ -272,7 +272,7 @@ zeroed_by_owner owners other number first last before now same zeroed = record {
   zero = λ sector is. zeroed.zero sector (blocks_by_owner other owners number first last sector (λ extent. sym (same extent)) is);
 }
 
--- the blocks lie behind the table
+-- the blocks lie after the table
 partly_keeps_table : (first_table : VolumeTable) (owners : List (Option Owned)) (number first last : ℕ) (before now : List Block) → IsPartlyZero EXTENT_SECTORS owners number first last before now → Spell before first_table → Spell now first_table
 partly_keeps_table first_table owners number first last before now partly begins =
     same_first (table_length first_table.version) before now partly.as_long (λ sector below. elim (partly.each sector) [

@@ -31,7 +31,7 @@ pub record IsGrowth (extents : ℕ) (old new : VolumeTable) (number first : ℕ)
   pub from : IsGrownFrom (record_of old.records number) first entry
   pub stays : (extent other place : ℕ) → IsAt old.extents extent other place → IsAt new.extents extent other place
   pub was : (extent other place : ℕ) → other ≢ number → IsAt new.extents extent other place → IsAt old.extents extent other place
-  pub free_behind : (extent : ℕ) → extents ≤ extent → owner_of new.extents extent ≡ None
+  pub free_beyond : (extent : ℕ) → extents ≤ extent → owner_of new.extents extent ≡ None
 
 pub is_growth : (extents : ℕ) (old new : VolumeTable) (owners owners' : List (Option Owned)) (number first n : ℕ) (entry : Record) → new.version ≡ old.version → number < length old.records → AreKept extents old owners → AreKept extents new owners'
     → new.records ≡ slice_set old.records number (Some entry) → IsTaken owners owners' number n → IsGrownFrom (record_of old.records number) first entry
@@ -44,7 +44,7 @@ is_growth extents old new owners owners' number first n entry version long kept 
   stays = λ extent other place at. sym (kept_owner extents new owners' kept' extent) ∙ taken.kept extent other place (kept_owner extents old owners kept extent ∙ at);
   was = λ extent other place apart at.
       sym (kept_owner extents old owners kept extent) ∙ taken_kept owners owners' number (count_of owners number) n extent other place taken apart (kept_owner extents new owners' kept' extent ∙ at);
-  free_behind = kept'.free_behind;
+  free_beyond = kept'.free_beyond;
 }
 
 same_owned : (a b : Owned) → Some a ≡ Some b → a ≡ b
@@ -90,14 +90,14 @@ module _ (extents : ℕ) (old new : VolumeTable) (number first : ℕ) (entry : R
 
   -- with all of them zero and the new table the list differs in one record
   module _ (V W : List Block) (grown : IsGrown new number first last V W) where
-    behind : (extent j : ℕ) → get_or W (sector_of_block EXTENT_SECTORS extent j) [] ≡ get_or grown.mid (sector_of_block EXTENT_SECTORS extent j) []
-    behind extent j = grown.put.behind (sector_of_block EXTENT_SECTORS extent j) (omega (arith, table_length_most new.version))
+    beyond : (extent j : ℕ) → get_or W (sector_of_block EXTENT_SECTORS extent j) [] ≡ get_or grown.mid (sector_of_block EXTENT_SECTORS extent j) []
+    beyond extent j = grown.put.beyond (sector_of_block EXTENT_SECTORS extent j) (omega (arith, table_length_most new.version))
 
     pub changes_one : ChangesOneRecord EXTENT_SECTORS old.records new.records old.extents new.extents V W number
     changes_one = record {
       same_records = λ other apart. ap (λ (rs : List (Option Record)). record_of rs other) growth.records ∙ get_or-set_other old.records number other (Some entry) None apart;
       same_extents = λ other extent place apart at. growth.was extent other place apart at;
-      same_blocks = λ other one apart used j extent below at. behind extent j ∙ same_blocks V grown.mid grown.zeroed.partly other one used j extent below at;
+      same_blocks = λ other one apart used j extent below at. beyond extent j ∙ same_blocks V grown.mid grown.zeroed.partly other one used j extent below at;
     }
 
     pub entry_used : record_of new.records number ≡ Some entry
@@ -105,12 +105,12 @@ module _ (extents : ℕ) (old new : VolumeTable) (number first : ℕ) (entry : R
 
     -- a new block is zero
     pub new_block : (j extent : ℕ) → first ≤ j → j < last → IsAt new.extents extent number (j / EXTENT_SECTORS) → get_or W (sector_of_block EXTENT_SECTORS extent j) [] ≡ zero_block
-    new_block j extent least most at = behind extent j ∙ grown.zeroed.zero (sector_of_block EXTENT_SECTORS extent j) record { block = j; extent = extent; least = least; most = most; at = at; is = refl }
+    new_block j extent least most at = beyond extent j ∙ grown.zeroed.zero (sector_of_block EXTENT_SECTORS extent j) record { block = j; extent = extent; least = least; most = most; at = at; is = refl }
 
     -- and a block that the volume had is as before
     pub old_block : (one : Record) (j extent : ℕ) → record_of old.records number ≡ Some one → j < one.blocks → IsAt old.extents extent number (j / EXTENT_SECTORS)
         → get_or W (sector_of_block EXTENT_SECTORS extent j) [] ≡ get_or V (sector_of_block EXTENT_SECTORS extent j) []
-    old_block one j extent used below at = behind extent j ∙ same_blocks V grown.mid grown.zeroed.partly number one used j extent below at
+    old_block one j extent used below at = beyond extent j ∙ same_blocks V grown.mid grown.zeroed.partly number one used j extent below at
 
 -- the list shows these volumes by the table that its first sectors spell
 pub shows_by : (extents : ℕ) (table : VolumeTable) (W : List Block) (volumes : VolumeMap) → Shows extents W volumes → Spell W table → ShowsBy extents table W volumes
@@ -138,7 +138,7 @@ created_is_shown extents old new name number entry V W volumes growth unused nam
     let last : ℕ = entry.blocks in
     shows_by extents new W (done (Create name last) volumes)
     (subst (Shows extents W) (changed_if_done extents (Create name last) volumes (sym admitted))
-    (create_is_shown extents V W volumes name last new number by.shows (done_reply extents (Create name last) volumes admitted) grown.put.spelled (growth'.version ∙ by.shows.of_version) growth'.free_behind
+    (create_is_shown extents V W volumes name last new number by.shows (done_reply extents (Create name last) volumes admitted) grown.put.spelled (growth'.version ∙ by.shows.of_version) growth'.free_beyond
     (changes_one extents t new number 0 entry growth' last V W grown)
     record {
       entry = entry;

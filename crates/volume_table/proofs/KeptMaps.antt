@@ -22,7 +22,7 @@ use Rattle.volume_table.specs.declared.event.TheConstants.{MOST_BLOCKS_AT_ONCE}
 pub kept_owner : (extents : ℕ) (table : VolumeTable) (owners : List (Option Owned)) → AreKept extents table owners → (extent : ℕ) → owner_of owners extent ≡ owner_of table.extents extent
 kept_owner extents table owners kept extent = elim (cases_lt extent extents) [
   | inl below ↦ ap (λ (its : List (Option Owned)). owner_of its extent) kept.same ∙ get_or-take extents table.extents extent None below
-  | inr behind ↦ get_or_past owners extent None (omega (arith, behind, ap length kept.same, length-take extents table.extents)) ∙ sym (kept.free_behind extent behind)
+  | inr beyond ↦ get_or_past owners extent None (omega (arith, beyond, ap length kept.same, length-take extents table.extents)) ∙ sym (kept.free_beyond extent beyond)
 ]
 
 -- it has no more extents than the set

@@ -16,7 +16,7 @@ pub mod KeptMaps
 pub mod ListChanges
 pub mod ListedVolumes
 pub mod OnSet
-pub mod OneLoss
+pub mod SingleFailure
 pub mod OpenInstances
 pub mod Opened
 pub mod OpenedStore

@@ -3,7 +3,7 @@ use Rattle.std.proofs.Common.{◌≡◌, ◌⊎◌, inl, inr, ℕ, ◌+◌, ◌<
 use Rattle.std.proofs.lemmas.Bool.{cases_eq}
 use Rattle.std.proofs.lemmas.List.Elements.{Contains-append_cases, Contains-push_cases}
 use Rattle.sector_model.specs.declared.event.Event.{Event}
-use Rattle.sector_model.specs.declared.event.Event.TheVariants.{Fell, Flushed, Lost as Fault, Quiet, Wrote}
+use Rattle.sector_model.specs.declared.event.Event.TheVariants.{DeviceFailed, Flushed, Lost as Fault, Quiet, Wrote}
 use Rattle.sector_model.specs.declared.refusal.Refusal.{Refusal}
 use Rattle.sector_model.specs.declared.refusal.Refusal.TheVariants.{TwoLost, Worn}
 use Rattle.sector_model.specs.Bank.{IsTrueTo}
@@ -26,7 +26,7 @@ use Rattle.array_io.specs.Believed.ArrayCalls.{Answer, Commits, Reads, written}
 use Rattle.array_io.specs.Believed.Holds.{Holds}
 use Rattle.array_io.specs.Believed.Moments.{HoldsNow}
 use Rattle.array_io.specs.Believed.Settled.{IsLostSlot, rows_by}
-use Rattle.array_io.specs.Believed.Views.{ArrayView, EndsIt, Fell as HasFallen, GoesOn, HasEnded, HasLostOne, IsEndOf, IsWorn, RestsOn, StaysButForFalls}
+use Rattle.array_io.specs.Believed.Views.{ArrayView, EndsIt, DeviceFailed as HasOneFailed, GoesOn, HasEnded, HasLostOne, IsEndOf, IsWorn, RestsOn, StaysButForFailures}
 use Rattle.array_io.proofs.Laws.Beginning.{holds_at_rest, lost_at_rest, state_in_sync}
 use Rattle.array_io.proofs.Calls.CallSteps.{goes_on_both, one_more, stays_both}
 use Rattle.array_io.proofs.Images.Codecs.{spellings}
@@ -53,7 +53,7 @@ one_of only logical among = elim (Contains-push_cases [] only logical among) [
 one_of_two : (first second logical : List Bytes) → Contains (first ∷ second ∷ []) logical → (logical ≡ first) ⊎ (logical ≡ second)
 one_of_two first second logical among = elim (Contains-append_cases (first ∷ []) (second ∷ []) logical among) [
   | inl front ↦ inl (one_of first logical front)
-  | inr behind ↦ inr (one_of second logical behind)
+  | inr beyond ↦ inr (one_of second logical beyond)
 ]
 
 -- what holds for a list of lists holds for some of each kind that they have
@@ -96,63 +96,63 @@ still_lost array None V rests = inl (complete_at_rest array.table rests.lost_slo
 still_lost array (Some lost) V rests =
     inr (out_at_rest array.table lost (lost_at_rest spellings array.panel.devices array.table array.number array.history (Some lost) V rests).0 rests.lost_slot, refl)
 
--- none was lost before, and one fell, with nothing away
-record HasFallenSince (slots : ℕ) (before : Option Lost) (h : History) (after : Option Lost) : Type 0 where
+-- none was lost before, and one failed, with nothing away
+record HasFailedSince (slots : ℕ) (before : Option Lost) (h : History) (after : Option Lost) : Type 0 where
   pub slot : ℕ
   pub of_set : slot < slots
   pub none : before ≡ None
   pub down : is_down h slot ≡ true
   pub lost : after ≡ Some (alone slot)
 
--- what is lost after some calls: what was lost before, or what fell since
+-- what is lost after some calls: what was lost before, or what failed since
 abbrev IsLostSince : (slots : ℕ) (before : Option Lost) → History → (after : Option Lost) → Type 0
-IsLostSince slots before h after = (after ≡ before) ⊎ HasFallenSince slots before h after
+IsLostSince slots before h after = (after ≡ before) ⊎ HasFailedSince slots before h after
 
 missing_differs : Missing ≡ InSync → ⊥
 missing_differs is = cc
 
 -- where a slot was marked missing
-lost_by_fall : (old mid : ArrayView) → HasLostOne old mid → IsTrueTo mid.panel mid.history → (before after : Option Lost) → IsLostAfter before mid.table after
+lost_by_failure : (old mid : ArrayView) → HasLostOne old mid → IsTrueTo mid.panel mid.history → (before after : Option Lost) → IsLostAfter before mid.table after
     → IsLostSince (slots_of old.table) before mid.history after
-lost_by_fall old mid fallen true_to before after is = by_lost before after is
+lost_by_failure old mid failure true_to before after is = by_lost before after is
   where
     same_set : slots_of mid.table ≡ slots_of old.table
-    same_set = ap (λ (g : Geometry). g.members + 2) fallen.marked.same_geometry
+    same_set = ap (λ (g : Geometry). g.members + 2) failure.marked.same_geometry
 
-    of_mid : fallen.slot < slots_of mid.table
-    of_mid = subst (λ (n : ℕ). fallen.slot < n) (sym same_set) fallen.of_set
+    of_mid : failure.slot < slots_of mid.table
+    of_mid = subst (λ (n : ℕ). failure.slot < n) (sym same_set) failure.of_set
 
-    not_in_sync : state_at mid.table.states fallen.slot ≡ InSync → ⊥
-    not_in_sync in_sync = missing_differs (sym (missing_then old.table mid.table fallen.slot fallen.marked fallen.of_set) ∙ in_sync)
+    not_in_sync : state_at mid.table.states failure.slot ≡ InSync → ⊥
+    not_in_sync in_sync = missing_differs (sym (missing_then old.table mid.table failure.slot failure.marked failure.of_set) ∙ in_sync)
 
     by_lost : (before after : Option Lost) → IsLostAfter before mid.table after → IsLostSince (slots_of old.table) before mid.history after
-    by_lost before after (inl (complete, none)) = absurd (not_in_sync (complete.in_sync fallen.slot of_mid))
+    by_lost before after (inl (complete, none)) = absurd (not_in_sync (complete.in_sync failure.slot of_mid))
     by_lost (Some lost) after (inr (out, same)) = inl same
     by_lost None after (inr (slot, out, same)) = inr record {
-      slot = fallen.slot;
-      of_set = fallen.of_set;
+      slot = failure.slot;
+      of_set = failure.of_set;
       none = refl;
-      down = sym (true_to.down fallen.slot) ∙ fallen.is_down;
-      lost = same ∙ ap (λ (k : ℕ). Some (alone k)) (mid.table.allowed.one_out slot fallen.slot out.of_set of_mid out.out not_in_sync);
+      down = sym (true_to.down failure.slot) ∙ failure.is_down;
+      lost = same ∙ ap (λ (k : ℕ). Some (alone k)) (mid.table.allowed.one_out slot failure.slot out.of_set of_mid out.out not_in_sync);
     }
 
 -- what is lost after a row of calls that was answered
-lost_since : (honest : Type 0) (old mid : ArrayView) (lost after : Option Lost) (V : List Bytes) → RestsOn old lost V → StaysButForFalls honest old mid ⊥ → IsTrueTo mid.panel mid.history
+lost_since : (honest : Type 0) (old mid : ArrayView) (lost after : Option Lost) (V : List Bytes) → RestsOn old lost V → StaysButForFailures honest old mid ⊥ → IsTrueTo mid.panel mid.history
     → IsLostAfter lost mid.table after → IsLostSince (slots_of old.table) lost mid.history after
 lost_since honest old mid lost after V rests stays true_to is = elim stays.table [
   | inl same ↦ inl (lost_after_is_one lost old.table after lost (subst (λ (t : Table). IsLostAfter lost t after) same is) (still_lost old lost V rests))
-  | inr fallen ↦ lost_by_fall old mid fallen true_to lost after is
+  | inr failure ↦ lost_by_failure old mid failure true_to lost after is
 ]
 
 -- a slot whose device is down is the lost one, where none was lost
-fallen_at : (slots slot : ℕ) (h : History) (after : Option Lost) → slot < slots → is_down h slot ≡ true → IsLostAt slots None h after → IsLostAt slots (Some (alone slot)) h after
-fallen_at slots slot h after of_set down (inl (none, up)) = absurd (differ (sym down ∙ up slot of_set))
-fallen_at slots slot h after of_set down (inr fallen) = elim (cases_eq slot fallen.slot) [
-  | inr apart ↦ absurd (differ (sym down ∙ fallen.others slot of_set apart))
+failed_at : (slots slot : ℕ) (h : History) (after : Option Lost) → slot < slots → is_down h slot ≡ true → IsLostAt slots None h after → IsLostAt slots (Some (alone slot)) h after
+failed_at slots slot h after of_set down (inl (none, up)) = absurd (differ (sym down ∙ up slot of_set))
+failed_at slots slot h after of_set down (inr failure) = elim (cases_eq slot failure.slot) [
+  | inr apart ↦ absurd (differ (sym down ∙ failure.others slot of_set apart))
   | inl same ↦ (
     of_set,
-    fallen.lost ∙ ap (λ (k : ℕ). Some (alone k)) (sym same),
-    λ other within apart. fallen.others other within (λ is. apart (is ∙ sym same)),
+    failure.lost ∙ ap (λ (k : ℕ). Some (alone k)) (sym same),
+    λ other within apart. failure.others other within (λ is. apart (is ∙ sym same)),
   )
 ]
 
@@ -160,20 +160,20 @@ fallen_at slots slot h after of_set down (inr fallen) = elim (cases_eq slot fall
 lost_at_later : (slots : ℕ) (lost between after : Option Lost) (mid h : History) → IsLostSince slots lost mid between → StaysDown mid h → IsLostAt slots lost h after
     → IsLostAt slots between h after
 lost_at_later slots lost between after mid h (inl same) stays lost_at = subst (λ (l : Option Lost). IsLostAt slots l h after) (sym same) lost_at
-lost_at_later slots lost between after mid h (inr fallen) stays lost_at =
-    subst (λ (l : Option Lost). IsLostAt slots l h after) (sym fallen.lost)
-    (fallen_at slots fallen.slot h after fallen.of_set (stays fallen.slot fallen.down) (subst (λ (l : Option Lost). IsLostAt slots l h after) fallen.none lost_at))
+lost_at_later slots lost between after mid h (inr failure) stays lost_at =
+    subst (λ (l : Option Lost). IsLostAt slots l h after) (sym failure.lost)
+    (failed_at slots failure.slot h after failure.of_set (stays failure.slot failure.down) (subst (λ (l : Option Lost). IsLostAt slots l h after) failure.none lost_at))
 
 -- and what is lost after the second row of calls, by what was lost before the first
 lost_after_later : (slots : ℕ) (table : Table) (lost between after : Option Lost) (mid : History) → IsLostSince slots lost mid between → IsLostAfter between table after
     → IsLostAfter lost table after
 lost_after_later slots table lost between after mid (inl same) is = subst (λ (l : Option Lost). IsLostAfter l table after) same is
-lost_after_later slots table lost between after mid (inr fallen) is =
-    subst (λ (l : Option Lost). IsLostAfter l table after) (sym fallen.none) (by_fall (subst (λ (l : Option Lost). IsLostAfter l table after) fallen.lost is))
+lost_after_later slots table lost between after mid (inr failure) is =
+    subst (λ (l : Option Lost). IsLostAfter l table after) (sym failure.none) (by_failure (subst (λ (l : Option Lost). IsLostAfter l table after) failure.lost is))
   where
-    by_fall : IsLostAfter (Some (alone fallen.slot)) table after → IsLostAfter None table after
-    by_fall (inl complete) = inl complete
-    by_fall (inr (out, same)) = inr (fallen.slot, out, same)
+    by_failure : IsLostAfter (Some (alone failure.slot)) table after → IsLostAfter None table after
+    by_failure (inl complete) = inl complete
+    by_failure (inr (out, same)) = inr (failure.slot, out, same)
 
 -- what is down stays down
 
@@ -186,7 +186,7 @@ down_then Quiet h device is = is
 down_then (Wrote other at value) h device is = is
 down_then (Fault other at value) h device is = or_true _ (is_down h device) is
 down_then (Flushed other) h device is = is
-down_then (Fell other) h device is = or_true _ (is_down h device) is
+down_then (DeviceFailed other) h device is = or_true _ (is_down h device) is
 
 stays_down : {P : History → Type 0} {old : History} (new : History) → Throughout P old new → Throughout (StaysDown old) old new
 stays_down new (here is) = here (λ device down. down)
@@ -237,8 +237,8 @@ for_some_more base devices before kind kind' more old new moments = throughout_m
 
 module _ (honest still : Type 0) (goes_honest : honest → still) (first second : ℕ) (passes1 leaves1 passes2 leaves2 passes leaves : Change) (old mid new : ArrayView) (answer : Answer)
     (true_to : honest → IsTrueTo mid.panel mid.history) (one : ChangesList honest first passes1 leaves1 old mid (Ok tt)) (two : ChangesList still second passes2 leaves2 mid new answer) where
-  both_stay : StaysButForFalls honest old new (HasEnded answer)
-  both_stay = stays_both honest old mid new (HasEnded answer) one.goes_on two.goes_on one.stays record { table = two.stays.table; fallen = λ is. two.stays.fallen (goes_honest is) }
+  both_stay : StaysButForFailures honest old new (HasEnded answer)
+  both_stay = stays_both honest old mid new (HasEnded answer) one.goes_on two.goes_on one.stays record { table = two.stays.table; failure = λ is. two.stays.failure (goes_honest is) }
 
   lost_between : (is : honest) (lost : Option Lost) (V : List Bytes) (rests : RestsOn old lost V) → IsLostSince (slots_of old.table) lost mid.history (one.rests is refl lost V rests).rests.lost
   lost_between is lost V rests =
@@ -296,7 +296,7 @@ pub changes_none : (honest : Type 0) (entries : ℕ) (passes leaves : Change) (a
     → ChangesList honest entries passes leaves array array (Ok tt)
 changes_none honest entries passes leaves array pass leave = record {
   goes_on = record { later = later_same array.panel; not_older = not_older_same array.table; number = omega arith; its_slots = λ slots. slots };
-  stays = record { table = inl refl; fallen = λ is goes slot of_set fell. absurd (none_fell slot fell) };
+  stays = record { table = inl refl; failure = λ is goes slot of_set failed. absurd (none_failed slot failed) };
   number = λ ok. omega arith;
   moments = λ is lost V rests. here (for_some array.table array.panel.devices lost (V ∷ []) (passes V) array.history
       (λ logical among. subst (passes V) (sym (one_of V logical among)) (pass V))
@@ -305,8 +305,8 @@ changes_none honest entries passes leaves array pass leave = record {
   cause = λ refusal is. absurd (cc);
 }
   where
-    none_fell : (slot : ℕ) → HasFallen slot array.panel array.panel → ⊥
-    none_fell slot fell = differ (sym fell.is_down ∙ fell.was_up)
+    none_failed : (slot : ℕ) → HasOneFailed slot array.panel array.panel → ⊥
+    none_failed slot failed = differ (sym failed.is_down ∙ failed.was_up)
 
 -- one call
 

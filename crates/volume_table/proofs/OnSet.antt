@@ -18,7 +18,7 @@ use Rattle.superblock.specs.States.{has_rebuilding, is_missing, position_in}
 use Rattle.superblock.specs.Tables.{state_at}
 use Rattle.array_io.specs.Believed.ArrayCalls.{KeepsTheList}
 use Rattle.array_io.specs.Believed.Moments.{HoldsNow}
-use Rattle.array_io.specs.Believed.Views.{ArrayView, EndsIt, Fell, GoesOn, HasEnded, IsEndOf, RestsAfter}
+use Rattle.array_io.specs.Believed.Views.{ArrayView, EndsIt, DeviceFailed, GoesOn, HasEnded, IsEndOf, RestsAfter}
 use Rattle.extents.specs.declared.volume_table.VolumeTable.{VolumeTable}
 use Rattle.extents.specs.TableSpelling.{Spell}
 use Rattle.scrub.specs.Scrubbing.{AreUnsound}
@@ -104,13 +104,13 @@ devices_with old new unsound = record {
   unsound = unsound;
 }
 
--- what fell is missing, and so the devices are the call's
+-- what failed is missing, and so the devices are the call's
 pub are_devices_with : (honest : Type 0) (old new : ArrayView) (unsound : List ℕ)
     → (honest → AreUnsound old.table (readable new.history) unsound)
-    → (honest → (slot : ℕ) → slot < slots_of old.table → Fell slot old.panel new.panel → state_at new.table.states slot ≡ Missing)
+    → (honest → (slot : ℕ) → slot < slots_of old.table → DeviceFailed slot old.panel new.panel → state_at new.table.states slot ≡ Missing)
     → AreDevicesOf honest old.table old.panel new.panel new.history (devices_with old new unsound)
-are_devices_with honest old new unsound are fallen = record {
-  fell = λ fair slot of_set fell. is_fault new slot (fallen fair slot of_set fell) fell.is_down;
+are_devices_with honest old new unsound are failure = record {
+  failed = λ fair slot of_set failed. is_fault new slot (failure fair slot of_set failed) failed.is_down;
   is_down = λ slot of_set fault. fault_is_down new slot fault;
   unusable = λ slot of_set. refl;
   rows = refl;
@@ -118,9 +118,9 @@ are_devices_with honest old new unsound are fallen = record {
 }
 
 pub are_devices : (honest : Type 0) (old new : ArrayView)
-    → (honest → (slot : ℕ) → slot < slots_of old.table → Fell slot old.panel new.panel → state_at new.table.states slot ≡ Missing)
+    → (honest → (slot : ℕ) → slot < slots_of old.table → DeviceFailed slot old.panel new.panel → state_at new.table.states slot ≡ Missing)
     → AreDevicesOf honest old.table old.panel new.panel new.history (devices_in old new)
-are_devices honest old new fallen = are_devices_with honest old new (unsound_rows old.table (readable new.history)) (λ fair. are_unsound old.table (readable new.history)) fallen
+are_devices honest old new failure = are_devices_with honest old new (unsound_rows old.table (readable new.history)) (λ fair. are_unsound old.table (readable new.history)) failure
 
 -- What a command leaves of the set, by whether it is refused.
 pub set_left_by : (honest : Type 0) (command : SetCommand) (old new : StoreView) (reply : Reply) (devices : Devices) (refusal : Option Refusal)
@@ -178,8 +178,8 @@ none_ended refusal is = cc
 pub refused_differ : (first second : Refusal) → Refused first ≡ Refused second → first ≡ second
 refused_differ first second is = cc
 
-pub fell_nowhere : (array : ArrayView) (slot : ℕ) → Fell slot array.panel array.panel → ⊥
-fell_nowhere array slot fell = true≢false (sym fell.is_down ∙ fell.was_up)
+pub failed_nowhere : (array : ArrayView) (slot : ℕ) → DeviceFailed slot array.panel array.panel → ⊥
+failed_nowhere array slot failed = true≢false (sym failed.is_down ∙ failed.was_up)
 
 refused_not_scrubbed : (refusal : Refusal) (rows bad : ℕ) (first_bad : Option ℕ)
     → Refused refusal ≡ Scrubbed rows bad first_bad → ⊥
@@ -294,7 +294,7 @@ refused_on_set honest command store refusal alive goes kept refuses = record {
     incarnations = incarnations_same (OnSet command) store.array.table store.array.table refl;
     spared = λ other of_set in_sync kept. inl in_sync;
     set_left = λ unended. set_left_by honest command store store (Refused refusal) (devices_in store.array store.array) (Some refusal)
-        (are_devices honest store.array store.array (λ fair other of_set fell. absurd (fell_nowhere store.array other fell))) refuses refl
+        (are_devices honest store.array store.array (λ fair other of_set failed. absurd (failed_nowhere store.array other failed))) refuses refl
         (devices_leave store.array store.array store.array.table.position (own_position store.array.table));
     ends = λ other same ends. absurd (goes (subst EndsIt (sym (refused_differ refusal other same)) ends));
     goes = λ unended. alive;

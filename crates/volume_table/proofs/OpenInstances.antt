@@ -23,7 +23,7 @@ use Rattle.superblock.proofs.LaterTables.{not_older_same}
 use Rattle.array_io.specs.Believed.Holds.{row_count}
 use Rattle.array_io.specs.Believed.ReadWhole.{list_read}
 use Rattle.array_io.specs.Believed.Settled.{IsLostSlot}
-use Rattle.array_io.specs.Believed.Views.{ArrayView, Fell, GoesOn, RestsOn, StaysButForFalls}
+use Rattle.array_io.specs.Believed.Views.{ArrayView, DeviceFailed, GoesOn, RestsOn, StaysButForFailures}
 use Rattle.array_io.proofs.Laws.Beginning.{lost_at_rest, state_in_sync}
 use Rattle.array_io.proofs.Images.Codecs.{spellings}
 use Rattle.extents.specs.declared.volume_table.VolumeTable.{VolumeTable}
@@ -69,15 +69,15 @@ not_returned A store bank refusal is = absurd (subst (OnReturned (λ b r. ⊥)) 
 differ : false ≡ true → ⊥
 differ is = cc
 
--- an array that stays as it is goes on, and no device fell
+-- an array that stays as it is goes on, and no device failed
 pub array_goes_on : (array : ArrayView) → GoesOn array array
 array_goes_on array = record { later = later_same array.panel; not_older = not_older_same array.table; number = omega arith; its_slots = λ slots. slots }
 
-none_fell : (array : ArrayView) (slot : ℕ) → Fell slot array.panel array.panel → ⊥
-none_fell array slot fell = differ (sym fell.was_up ∙ fell.is_down)
+none_failed : (array : ArrayView) (slot : ℕ) → DeviceFailed slot array.panel array.panel → ⊥
+none_failed array slot failed = differ (sym failed.was_up ∙ failed.is_down)
 
-array_stays : (honest : Type 0) (array : ArrayView) (ended : Type 0) → StaysButForFalls honest array array ended
-array_stays honest array ended = record { table = inl refl; fallen = λ is goes slot of_set fell. absurd (none_fell array slot fell) }
+array_stays : (honest : Type 0) (array : ArrayView) (ended : Type 0) → StaysButForFailures honest array array ended
+array_stays honest array ended = record { table = inl refl; failure = λ is goes slot of_set failed. absurd (none_failed array slot failed) }
 
 -- where an array is settled, the slot that is lost is the one that its table lacks
 complete_where_none : (table : Table) → IsLostSlot table None → IsComplete table
@@ -133,13 +133,13 @@ opens_at_rest honest array keeps spelled within = record {
   later = later_same array.panel;
   going = λ store is. opened_is (λ s. s.ended ≡ None) (store_of array keeps) store is refl;
   goes_on = λ store is. opened_is (λ s. GoesOn array s.array) (store_of array keeps) store is (array_goes_on array);
-  stays = λ store is. opened_is (λ s. StaysButForFalls honest array s.array ⊥) (store_of array keeps) store is (array_stays honest array ⊥);
+  stays = λ store is. opened_is (λ s. StaysButForFailures honest array s.array ⊥) (store_of array keeps) store is (array_stays honest array ⊥);
   moments = λ fair lost V volumes rests shown. here (stands_at_rest array.panel.devices array.table array.number array.history lost V volumes rests shown);
   settled = λ fair lost V volumes rests shown store is.
       opened_is (λ s. IsSettledAfter lost s volumes) (store_of array keeps) store is (stays_settled array keeps spelled lost V volumes rests shown);
   spelled = λ fair lost V rests store is.
       opened_is (λ s. Spell V s.keeps) (store_of array keeps) store is (rests_spelled array keeps spelled lost V rests);
-  within = λ store is extent behind. opened_is (λ s. owner_of s.keeps.extents extent ≡ None) (store_of array keeps) store is (within extent behind);
+  within = λ store is extent beyond. opened_is (λ s. owner_of s.keeps.extents extent ≡ None) (store_of array keeps) store is (within extent beyond);
   cause = λ bank refusal is. not_returned (IsNoOpening honest array bank refusal) (store_of array keeps) bank refusal is;
 }
 
@@ -149,17 +149,17 @@ opens_none honest array none = record {
   later = later_same array.panel;
   going = λ store is. not_opened (store.ended ≡ None) (bank_of array) BadTable store is;
   goes_on = λ store is. not_opened (GoesOn array store.array) (bank_of array) BadTable store is;
-  stays = λ store is. not_opened (StaysButForFalls honest array store.array ⊥) (bank_of array) BadTable store is;
+  stays = λ store is. not_opened (StaysButForFailures honest array store.array ⊥) (bank_of array) BadTable store is;
   moments = λ fair lost V volumes rests shown. here (stands_at_rest array.panel.devices array.table array.number array.history lost V volumes rests shown);
   settled = λ fair lost V volumes rests shown store is. not_opened (IsSettledAfter lost store volumes) (bank_of array) BadTable store is;
   spelled = λ fair lost V rests store is. not_opened (Spell V store.keeps) (bank_of array) BadTable store is;
-  within = λ store is extent behind. not_opened (owner_of store.keeps.extents extent ≡ None) (bank_of array) BadTable store is;
+  within = λ store is extent beyond. not_opened (owner_of store.keeps.extents extent ≡ None) (bank_of array) BadTable store is;
   cause = λ bank refusal is. returned_is (λ b r. IsNoOpening honest array b r) (bank_of array) bank BadTable refusal is (λ fair. shows_nothing, λ fair up. none);
 }
   where
     shows_nothing : ShowsNothing array
     shows_nothing lost V volumes rests shown =
-        none shown.table (subst (λ (l : List Bytes). Spell l shown.table) (sym rests.listed) shown.spelled) shown.free_behind
+        none shown.table (subst (λ (l : List Bytes). Spell l shown.table) (sym rests.listed) shown.spelled) shown.free_beyond
 
 -- ---- events that leave a store as it is
 
@@ -173,7 +173,7 @@ one_map store lost other volumes those settled also =
     list_shows_one same_spelling (extents_for_store store) settled.logical those volumes
     (subst (λ (V : List Bytes). Shows (extents_for_store store) V those) same also.shown) settled.shown
 
--- the devices of a call in which none fell
+-- the devices of a call in which none failed
 abbrev idle_devices : StoreView → List ℕ → Devices
 idle_devices store unsound = record {
   faults = λ slot. false;
@@ -200,7 +200,7 @@ set_is_left : (honest : Type 0) (store : StoreView) (command : Command) (reply :
 set_is_left honest store command reply unsound are = record {
   devices = idle_devices store unsound;
   are = record {
-    fell = λ is_honest slot of_set fell. absurd (none_fell store.array slot fell);
+    failed = λ is_honest slot of_set failed. absurd (none_failed store.array slot failed);
     is_down = λ slot of_set fault. absurd (differ fault);
     unusable = λ slot of_set. refl;
     rows = refl;

@@ -1,4 +1,4 @@
--- From an array that is safe: opening a store, the events of a run, and what a stop leaves.
+-- From an array that is safe: opening a store, the events of a run, and what a crash leaves.
 use Rattle.std.proofs.Common.{◌≡◌, inl, inr, ℕ, List, [], ◌∷◌, Option, Some, refl, sym, subst, arith}
 use Rattle.std.specs.Prelude.{Contains}
 use Rattle.std.proofs.lemmas.List.Elements.{Contains-push, Contains-push_cases}
@@ -7,7 +7,7 @@ use Rattle.sector_model.specs.Readable.{readable}
 use Rattle.sector_model.proofs.Readable.{readable_left}
 use Rattle.superblock.specs.declared.table.Table.{Table}
 use Rattle.superblock.specs.Cases.{Lost}
-use Rattle.superblock.specs.Losses.{IsLostAt, IsOneLoss}
+use Rattle.superblock.specs.Losses.{IsLostAt, IsSingleFailure}
 use Rattle.superblock.specs.NextTables.{IsNotOlder, slots_of}
 use Rattle.superblock.proofs.LaterTables.{not_older_both}
 use Rattle.superblock.proofs.Losing.{lost_after_is_one}
@@ -23,14 +23,14 @@ use Rattle.volume_table.specs.Runs.{Fate, GoesOver, Serving}
 use Rattle.volume_table.proofs.SafeWorlds.{IsOver, goes_over, same_slots}
 
 -- the slot that was lost is still lost at the end
-still_lost : (slots : ℕ) (during : Option Lost) (h : History) (l : Lost) → during ≡ Some l → IsOneLoss slots during h → IsLostAt slots (Some l) h (Some l)
-still_lost slots during h l is one = by_lost (subst (λ (o : Option Lost). IsOneLoss slots o h) is one)
+still_lost : (slots : ℕ) (during : Option Lost) (h : History) (l : Lost) → during ≡ Some l → IsSingleFailure slots during h → IsLostAt slots (Some l) h (Some l)
+still_lost slots during h l is one = by_lost (subst (λ (o : Option Lost). IsSingleFailure slots o h) is one)
   where
-    by_lost : IsOneLoss slots (Some l) h → IsLostAt slots (Some l) h (Some l)
+    by_lost : IsSingleFailure slots (Some l) h → IsLostAt slots (Some l) h (Some l)
     by_lost (after, (of_set, same, up)) = (of_set, refl, up)
 
 -- by what stands at the end, what reads give holds with that slot lost
-pub holds_readable : (slots devices : ℕ) (base : Table) (during : Option Lost) (maps : List VolumeMap) (h : History) → slots_of base ≡ slots → StandsNow base devices during maps h → IsOneLoss slots during h
+pub holds_readable : (slots devices : ℕ) (base : Table) (during : Option Lost) (maps : List VolumeMap) (h : History) → slots_of base ≡ slots → StandsNow base devices during maps h → IsSingleFailure slots during h
     → (l : Lost) → during ≡ Some l → (X : List (List Bytes)) × Holds base devices record { image = readable h; lost = Some l } X
 holds_readable slots devices base during maps h same now one l is =
     let stands = now (Some l) (readable h)
@@ -84,5 +84,5 @@ store_after made devices base during maps old new volumes older later of_bank st
   replaced = (goes_over (slots_of made) devices base new.store.array.table new.store.array.number new.store.array.history during after.lost old new.fate after.settled.logical
       later stale over after.is_lost
       (subst (λ (d : ℕ). IsSettled d new.store.array.table new.store.array.number new.store.array.history after.lost after.settled.logical) of_bank after.settled.rests)
-      (holds_readable (slots_of made) devices base during maps new.store.array.history (same_slots made base older) now over.one_loss)).replaced;
+      (holds_readable (slots_of made) devices base during maps new.store.array.history (same_slots made base older) now over.single_failure)).replaced;
 }

@@ -18,7 +18,7 @@ use Rattle.layout_map.specs.Placement.{data_sectors_of, extents_of}
 use Rattle.superblock.specs.declared.table.Table.{Table}
 use Rattle.superblock.specs.Cases.{Lost}
 use Rattle.array_io.specs.Believed.ArrayCalls.{Answer, Reads}
-use Rattle.array_io.specs.Believed.Views.{ArrayView, GoesOn, HasEnded, IsEndOf, RestsOn, StaysButForFalls}
+use Rattle.array_io.specs.Believed.Views.{ArrayView, GoesOn, HasEnded, IsEndOf, RestsOn, StaysButForFailures}
 use Rattle.array_io.proofs.Calls.CallSteps.{end_of_both, refused}
 use Rattle.extents.specs.declared.owned.Owned.{Owned}
 use Rattle.extents.specs.declared.volume_table.VolumeTable.{VolumeTable}
@@ -30,7 +30,7 @@ use Rattle.extents.specs.Versions.{IsVersion, table_length}
 use Rattle.extents.proofs.ExtentLawLemmas.{extents_are_counted}
 use Rattle.extents.proofs.Sectors.{spelling_at}
 use Rattle.extents.proofs.TableLaws.{fills}
-use Rattle.array_io.specs.Believed.ReadWhole.{NoneFell, ReadsWhole, SectorsStay, list_read}
+use Rattle.array_io.specs.Believed.ReadWhole.{NoDeviceFailed, ReadsWhole, SectorsStay, list_read}
 use Rattle.recovery.specs.Making.{BankView}
 use Rattle.volume_table.specs.Volumes.{VolumeMap}
 use Rattle.volume_table.specs.ListChanges.{ChangesList, HoldsForSomeNow, IsSame}
@@ -111,7 +111,7 @@ spells_too version sectors other table is first same spelled =
     let its : table.version ≡ version = same_version table.version version (is_version table) is (sym (first_of_spelled sectors table spelled) ∙ first) in
     subst (λ (v : ℕ). take (table_length v) other ≡ take (table_length v) sectors) (sym its) same ∙ spelled
 
--- ---- what reads give where no device falls
+-- ---- what reads give where no device fails
 
 -- n sectors from one on were read so
 pub record HaveReadWhole (first n : ℕ) (old new : ArrayView) (sectors : List Bytes) : Type 0 where
@@ -121,26 +121,26 @@ pub record HaveReadWhole (first n : ℕ) (old new : ArrayView) (sectors : List B
 pub none_read : (first : ℕ) (array : ArrayView) (sectors : List Bytes) → HaveReadWhole first 0 array array sectors
 none_read first array sectors = record { given = λ k below. absurd (omega (arith, below)); stays = λ sector whole. refl }
 
--- none fell in a part of a run in which none fell
-none_fell_before : (old mid new : Panel) → IsLater mid new → NoneFell old new → NoneFell old mid
-none_fell_before old mid new later none slot of_bank up = by_state (mid.down slot) refl
+-- none failed in a part of a run in which none failed
+none_failed_before : (old mid new : Panel) → IsLater mid new → NoDeviceFailed old new → NoDeviceFailed old mid
+none_failed_before old mid new later none slot of_bank up = by_state (mid.down slot) refl
   where
     by_state : (b : Bool) → mid.down slot ≡ b → mid.down slot ≡ false
     by_state true down = absurd (true≢false (sym (later.down slot down) ∙ none slot of_bank up))
     by_state false still = still
 
-none_fell_after : (old mid new : Panel) → IsLater old mid → NoneFell old new → NoneFell mid new
-none_fell_after old mid new later none slot of_bank up = by_state (old.down slot) refl
+none_failed_after : (old mid new : Panel) → IsLater old mid → NoDeviceFailed old new → NoDeviceFailed mid new
+none_failed_after old mid new later none slot of_bank up = by_state (old.down slot) refl
   where
     by_state : (b : Bool) → old.down slot ≡ b → new.down slot ≡ false
     by_state true down = absurd (true≢false (sym (later.down slot down) ∙ up))
     by_state false was_up = none slot (omega (arith, of_bank, later.devices)) was_up
 
-pub read_more : (first n : ℕ) (old mid new : ArrayView) (sectors : List Bytes) (to : Bytes) → n < length sectors → GoesOn old mid → GoesOn mid new → NoneFell old.panel new.panel
-    → (NoneFell old.panel mid.panel → HaveReadWhole first n old mid sectors) → (NoneFell mid.panel new.panel → ReadsWhole (first + n) mid new to) → HaveReadWhole first (n + 1) old new (set sectors n to)
+pub read_more : (first n : ℕ) (old mid new : ArrayView) (sectors : List Bytes) (to : Bytes) → n < length sectors → GoesOn old mid → GoesOn mid new → NoDeviceFailed old.panel new.panel
+    → (NoDeviceFailed old.panel mid.panel → HaveReadWhole first n old mid sectors) → (NoDeviceFailed mid.panel new.panel → ReadsWhole (first + n) mid new to) → HaveReadWhole first (n + 1) old new (set sectors n to)
 read_more first n old mid new sectors to within goes goes_then none before one =
-    let was = before (none_fell_before old.panel mid.panel new.panel goes_then.later none) in
-    let now = one (none_fell_after old.panel mid.panel new.panel goes.later none) in
+    let was = before (none_failed_before old.panel mid.panel new.panel goes_then.later none) in
+    let now = one (none_failed_after old.panel mid.panel new.panel goes.later none) in
     record {
       given = below_more (λ (k : ℕ). length (get_or (list_read old) (first + k) []) ≡ 512 → get_or (set sectors n to) k [] ≡ get_or (list_read old) (first + k) []) n
           (λ k below whole. get_or-set_other sectors n k to [] (λ same. omega (arith, below, same)) ∙ was.given k below whole)
@@ -155,19 +155,19 @@ first_spelled old new to table read spelled =
     read.given (ap length first ∙ sym (ap length (first_of_spelled (table_sectors table) table (take_all (table_length table.version) (table_sectors table) (le_of_eq (fills table).0))))
     ∙ (fills table).1 0 (omega (arith, table_long table.version))) ∙ first
 
--- ---- the first sector, and then those behind it
+-- ---- the first sector, and then those after it
 
 -- one read, and then others
 pub read_then : (honest still : Type 0) → (honest → still) → (old mid new : ArrayView) (answer : Answer) → (honest → IsTrueTo mid.panel mid.history)
     → ChangesList honest 0 IsSame IsSame old mid (Ok tt) → ChangesList still 0 IsSame IsSame mid new answer → ChangesList honest 0 IsSame IsSame old new answer
-read_then honest still goes old mid new answer true_to first behind =
-    changes_both honest still goes 0 0 IsSame IsSame IsSame IsSame IsSame IsSame old mid new answer true_to first behind
+read_then honest still goes old mid new answer true_to first beyond =
+    changes_both honest still goes 0 0 IsSame IsSame IsSame IsSame IsSame IsSame old mid new answer true_to first beyond
     (λ V W same. same) (λ V U W one two. two ∙ one) (λ V U W one two. two ∙ one)
 
 pub then_ends : (honest : Type 0) (old mid new : ArrayView) (answer : Answer) (refusal : Refusal) → ChangesList honest 0 IsSame IsSame old new answer → IsEndOf mid new ⊥ refusal → IsEndOf old new ⊥ refusal
 then_ends honest old mid new answer refusal changes end = end_of_both honest old mid new (HasEnded answer) changes.stays refusal end (two_or_worn mid new refusal end)
 
--- the first n of some sectors are one sector, and a part behind it
+-- the first n of some sectors are one sector, and a part after it
 pub record IsPut (n : ℕ) (first : Bytes) (part sectors : List Bytes) : Type 0 where
   pub begins : take n sectors ≡ first ∷ part
   pub long : length part + 1 ≡ n
@@ -193,20 +193,20 @@ begins_so n first part sectors other put enough same each =
         let within : k + 1 < n = omega (arith, below, put.long) in
         each k within ∙ ap (λ (i : ℕ). get_or other i []) (omega arith) ∙ sym (get_or-take n other (suc k) [] (omega (arith, within)))
 
--- the part is that of the sectors behind the first
-pub length-behind : (n : ℕ) (sectors : List Bytes) (first : Bytes) → length sectors ≡ TABLE_SECTORS → n ≤ TABLE_SECTORS → length (mid_of 1 (n - 1) (set sectors 0 first)) ≡ n - 1
-length-behind n sectors first long within =
+-- the part is that of the sectors after the first
+pub length-beyond : (n : ℕ) (sectors : List Bytes) (first : Bytes) → length sectors ≡ TABLE_SECTORS → n ≤ TABLE_SECTORS → length (mid_of 1 (n - 1) (set sectors 0 first)) ≡ n - 1
+length-beyond n sectors first long within =
     length-take-le (n - 1) (drop 1 (set sectors 0 first)) (omega (arith, within, length-drop 1 (set sectors 0 first), length-set sectors 0 first, long))
 
 -- at rest they are those of the list
 reads_table : (array : ArrayView) (lost : Option Lost) (V : List Bytes) (version n : ℕ) (first : Bytes) (part sectors : List Bytes) (table : VolumeTable) → RestsOn array lost V → IsVersion version
     → first ≡ first_sector version → n ≡ table_length version → IsPut n first part sectors → first ≡ get_or V 0 [] → part ≡ take (n - 1) (drop 1 V) → Spell sectors table ↔ Spell V table
-reads_table array lost V version n first part sectors table rests is says so_many put same behind =
+reads_table array lost V version n first part sectors table rests is says so_many put same beyond =
     (spells_too version sectors V table is (put_first n first part sectors put ∙ says) (sym both), spells_too version V sectors table is (sym same ∙ says) both)
   where
     each : (k : ℕ) → k + 1 < n → get_or part k [] ≡ get_or V (k + 1) []
     each k below =
-        ap (λ (list : List Bytes). get_or list k []) behind ∙ get_or-take (n - 1) (drop 1 V) k [] (omega (arith, below)) ∙ get_or-drop 1 V k []
+        ap (λ (list : List Bytes). get_or list k []) beyond ∙ get_or-take (n - 1) (drop 1 V) k [] (omega (arith, below)) ∙ get_or-drop 1 V k []
         ∙ ap (λ (i : ℕ). get_or V i []) (omega arith)
 
     both : take (table_length version) sectors ≡ take (table_length version) V
@@ -228,16 +228,16 @@ pub where_ok : {P Q : Type 0} (answer : Answer) → OnOk answer P → (P → Q) 
 where_ok (Ok done) so then_so = then_so so
 where_ok (Err refusal) so then_so = tt
 
--- where none fell and what reads give spells a table, they spell it
+-- where none failed and what reads give spells a table, they spell it
 pub reads_spelled : (old mid new : ArrayView) (version n : ℕ) (first : Bytes) (part sectors : List Bytes) (table : VolumeTable) → IsVersion version → first ≡ first_sector version → n ≡ table_length version
-    → IsPut n first part sectors → GoesOn old mid → GoesOn mid new → NoneFell old.panel new.panel → (NoneFell old.panel mid.panel → ReadsWhole 0 old mid first)
-    → (NoneFell mid.panel new.panel → (k : ℕ) → k < n - 1 → length (get_or (list_read mid) (1 + k) []) ≡ 512 → get_or part k [] ≡ get_or (list_read mid) (1 + k) [])
+    → IsPut n first part sectors → GoesOn old mid → GoesOn mid new → NoDeviceFailed old.panel new.panel → (NoDeviceFailed old.panel mid.panel → ReadsWhole 0 old mid first)
+    → (NoDeviceFailed mid.panel new.panel → (k : ℕ) → k < n - 1 → length (get_or (list_read mid) (1 + k) []) ≡ 512 → get_or part k [] ≡ get_or (list_read mid) (1 + k) [])
     → Spell (list_read old) table → Spell sectors table
 reads_spelled old mid new version n first part sectors table is says so_many put goes goes_then none one more spelled =
     spells_too version (table_sectors table) sectors table is (first_of_spelled (table_sectors table) table itself ∙ ap first_sector its) both itself
   where
     read : ReadsWhole 0 old mid first
-    read = one (none_fell_before old.panel mid.panel new.panel goes_then.later none)
+    read = one (none_failed_before old.panel mid.panel new.panel goes_then.later none)
 
     itself : Spell (table_sectors table) table
     itself = take_all (table_length table.version) (table_sectors table) (le_of_eq (fills table).0)
@@ -259,7 +259,7 @@ reads_spelled old mid new version n first part sectors table is says so_many put
     each k below =
         let stays : get_or (list_read mid) (k + 1) [] ≡ get_or (list_read old) (k + 1) [] = read.stays (k + 1) (whole (k + 1) below) in
         let next : 1 + k ≡ k + 1 = omega arith in
-        more (none_fell_after old.panel mid.panel new.panel goes.later none) k (omega (arith, below))
+        more (none_failed_after old.panel mid.panel new.panel goes.later none) k (omega (arith, below))
         (ap (λ (i : ℕ). length (get_or (list_read mid) i [])) next ∙ ap length stays ∙ whole (k + 1) below)
         ∙ ap (λ (i : ℕ). get_or (list_read mid) i []) next ∙ stays ∙ here (k + 1) below
 
@@ -378,7 +378,7 @@ module _ (honest : Type 0) (old new : ArrayView) where
     panel = refl;
     history = refl;
     goes_on = changes.goes_on;
-    stays = record { table = changes.stays.table; fallen = λ fair goes. absurd (goes tt) };
+    stays = record { table = changes.stays.table; failure = λ fair goes. absurd (goes tt) };
     ends = end;
   }
   ends_opening Worn changes end = record {
@@ -386,7 +386,7 @@ module _ (honest : Type 0) (old new : ArrayView) where
     panel = refl;
     history = refl;
     goes_on = changes.goes_on;
-    stays = record { table = changes.stays.table; fallen = λ fair goes. absurd (goes tt) };
+    stays = record { table = changes.stays.table; failure = λ fair goes. absurd (goes tt) };
     ends = end;
   }
   ends_opening refusal changes end = absurd end
@@ -399,10 +399,10 @@ module _ (honest : Type 0) (old new : ArrayView) where
   pub open_refused : (sectors : List Bytes) → ChangesList honest 0 IsSame IsSame old new (Ok tt)
       → ((table : VolumeTable) → Spell sectors table → ¬ AreFreeFrom table.extents (extents_in old.table.geometry))
       → (honest → (lost : Option Lost) (V : List Bytes) (table : VolumeTable) → RestsOn old lost V → Spell sectors table ↔ Spell V table)
-      → (honest → NoneFell old.panel new.panel → (table : VolumeTable) → Spell (list_read old) table → Spell sectors table)
+      → (honest → NoDeviceFailed old.panel new.panel → (table : VolumeTable) → Spell (list_read old) table → Spell sectors table)
       → Opens honest old (given_back new.panel new.history BadTable)
   open_refused sectors changes no_table gives spelled = given_up (Ok tt) BadTable changes (
-    λ fair lost V volumes rests shown. no_table shown.table ((gives fair lost V shown.table rests).1 shown.spelled) shown.free_behind,
+    λ fair lost V volumes rests shown. no_table shown.table ((gives fair lost V shown.table rests).1 shown.spelled) shown.free_beyond,
     λ fair none table spells. no_table table (spelled fair none table spells),
   )
 
@@ -413,10 +413,10 @@ module _ (honest : Type 0) (old new : ArrayView) where
     later = changes.goes_on.later;
     going = λ store is. subst (λ (s : StoreView). s.ended ≡ None) (same_store _ store is) refl;
     goes_on = λ store is. subst (λ (s : StoreView). GoesOn old s.array) (same_store _ store is) changes.goes_on;
-    stays = λ store is. subst (λ (s : StoreView). StaysButForFalls honest old s.array ⊥) (same_store _ store is) changes.stays;
+    stays = λ store is. subst (λ (s : StoreView). StaysButForFailures honest old s.array ⊥) (same_store _ store is) changes.stays;
     moments = moments (Ok tt) changes;
     settled = λ fair lost V volumes rests shown store is. subst (λ (s : StoreView). IsSettledAfter lost s volumes) (same_store _ store is) (settled fair lost V volumes rests shown);
-    within = λ store is extent behind. subst (λ (s : StoreView). owner_of s.keeps.extents extent ≡ None) (same_store _ store is) (free extent behind);
+    within = λ store is extent beyond. subst (λ (s : StoreView). owner_of s.keeps.extents extent ≡ None) (same_store _ store is) (free extent beyond);
     spelled = λ fair lost V rests store is. subst (λ (s : StoreView). Spell V s.keeps) (same_store _ store is) (spelled fair lost V rests);
     cause = λ bank refusal is. absurd (not_returned _ bank refusal is);
   }

@@ -197,7 +197,7 @@ module _ (V before after : List Block) (table : VolumeTable) (sectors : List (�
   has_table = record {
     as_long = length-written V sectors;
     spelled = ext_get_or [] (take n (written V sectors)) (table_sectors table) (taken (written V sectors) (omega (arith, enough, length-written V sectors)) ∙ sym ((fills table).0)) spelled_in;
-    behind = λ sector past. written_elsewhere V sectors sector (λ i within at. omega (arith, are.below i within, at, past));
+    beyond = λ sector past. written_elsewhere V sectors sector (λ i within at. omega (arith, are.below i within, at, past));
   }
 
 long_enough : (version : ℕ) (array : ArrayView) (lost : Option Lost) (V : List Bytes) → RestsOn array lost V → table_length version ≤ length V

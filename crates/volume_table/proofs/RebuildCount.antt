@@ -24,7 +24,7 @@ use Rattle.volume_table.specs.Stands.{StoreView}
 use Rattle.volume_table.specs.StoreCalls.{Applies, AreDevicesOf, EndsStore, GoesThrough, LeavesSet, SetIsLeft, no_devices, set_of}
 use Rattle.volume_table.specs.StoreFunctions.{Chain, none_done, then_done}
 use Rattle.volume_table.specs.RebuildLaw.{AllLeaveRebuilding, AllUp, IsRebuildingOn, LeavesRebuilding, RebuildsBy, steps_in, steps_to_do}
-use Rattle.volume_table.proofs.OneLoss.{refused_beside}
+use Rattle.volume_table.proofs.SingleFailure.{refused_beside}
 use Rattle.volume_table.proofs.SetLemmas.{call_leaves, made, none_missing, step_is_last, tables_have_one_out}
 use Rattle.volume_table.proofs.StoreSteps.{length-set_of}
 use Rattle.rebuild.specs.declared.stepping.TheConstants.{MOST_ROWS}
@@ -148,9 +148,9 @@ ahead member (_ ∷ events) [] old new goes is chain leave more = elim chain [ ]
 ahead member (_ ∷ events) (_ ∷ acks) old new goes is (then_done mid event reply ack applies on same chain) leave more =
     let less : old.array.table.position + MOST_ROWS * steps_of event < row_count old.array.table = omega (arith, more) in
     let first = one_ahead (Unit {0}) member event old mid reply (applies.going goes) on is leave.0 less in
-    let behind : mid.array.table.position + MOST_ROWS * steps_in events < row_count mid.array.table =
+    let beyond : mid.array.table.position + MOST_ROWS * steps_in events < row_count mid.array.table =
     omega (arith, more, first.rows, first.on.position) in
-    let rest = ahead member events acks mid new first.going first.on.still chain leave.1 behind in
+    let rest = ahead member events acks mid new first.going first.on.still chain leave.1 beyond in
     record {
       on = record { still = rest.on.still; position = omega (arith, rest.on.position, first.on.position) };
       rows = rest.rows ∙ first.rows;

@@ -1,4 +1,4 @@
--- A rebuild goes on after a stop from where it was.
+-- A rebuild goes on after a crash from where it was.
 use Rattle.std.proofs.Common.{◌≡◌, ◌≢◌, ℕ, ◌<◌, Bool, true, false, List, [], ◌∷◌, Option}
 use Rattle.std.proofs.Common.{refl, sym, ◌∙◌, ap, subst, arith, cond}
 use Rattle.std.proofs.lemmas.List.Folds.{list_any_at}
@@ -28,7 +28,7 @@ use Rattle.volume_table.specs.RebuildLaw.{IsAssembledAgain, IsRebuildingOn}
 rebuilding_not_missing : (state : State) → state ≡ Rebuilding → state ≢ Missing
 rebuilding_not_missing state is missing = let never : Rebuilding ≡ Missing = sym is ∙ missing in cc
 
--- From what a stop leaves of a settled array assembling may start.
+-- From what a crash leaves of a settled array assembling may start.
 may_assemble : (array : ArrayView) (lost : Option Lost) (V : List Bytes) (store : StoreView)
     (again : IsAssembledAgain store lost array) → RestsOn store.array lost V
     → MayAssemble store.array.table lost (V ∷ []) (begun_with again.panel again.image)
@@ -70,7 +70,7 @@ live_again array lost V store again rests slot of_set counted =
     live : IsLive store.array.panel.devices store.array.table slot (readable store.array.history slot)
     live = rests.there slot of_set counted
 
--- the law of a rebuild after a stop
+-- the law of a rebuild after a crash
 pub rebuild_resumes : (store : StoreView) (lost : Option Lost) (volumes : VolumeMap) (array : ArrayView) (member : ℕ)
     → IsSettledOn store lost volumes
     → IsAssembledAgain store lost array → IsRebuilding store.array.table member → is_down array.history member ≡ false
@@ -90,11 +90,11 @@ rebuild_resumes store lost volumes array member settled again rebuilding up = re
     may = may_assemble array lost V store again settled.rests
 
     opens : OpensOnOne store.array.table lost (V ∷ []) array
-    opens = again.assembles.rests tt store.array.table lost (V ∷ []) refl may array refl again.one_loss
+    opens = again.assembles.rests tt store.array.table lost (V ∷ []) refl may array refl again.single_failure
 
     states : HasStatesOf store.array.table (begun_with again.panel again.image) array
     states =
-        again.assembles.states tt store.array.table lost (V ∷ []) refl may array refl again.one_loss store.array.table
+        again.assembles.states tt store.array.table lost (V ∷ []) refl may array refl again.single_failure store.array.table
         (chosen_again array lost V store again settled.rests)
 
     of_set : member < slots_of store.array.table

@@ -264,7 +264,7 @@ module _ (honest : Type 0) (rows : ℕ) (old new : StoreView) (answer : Result P
       → SetIsLeft honest (OnSet (RebuildStep rows)) old new (Progressed (Position q))
   left_on q member rebuilding after unended =
       set_left_by honest (RebuildStep rows) old new (Progressed (Position q)) (devices_in old.array new.array) None
-      (are_devices honest old.array new.array (λ fair. is.steps.fallen fair unended))
+      (are_devices honest old.array new.array (λ fair. is.steps.failure fair unended))
       (admits member rebuilding (step_table old.array.table new.array.table member rows (Position q) rebuilding after))
       (ap (λ (p : ℕ). Progressed (Position p)) after.0 ∙ sym (answer_is false (not_last q member after)))
       (ap (settled (devices_in old.array new.array)) (changed_is false (not_last q member after))
@@ -296,7 +296,7 @@ module _ (honest : Type 0) (rows : ℕ) (old new : StoreView) (answer : Result P
   left_complete member rebuilding after unended =
       let last = eq-eqb (end_at old.array.table rows) (row_count old.array.table) after.0 in
       set_left_by honest (RebuildStep rows) old new (Progressed Complete) (devices_in old.array new.array) None
-      (are_devices honest old.array new.array (λ fair. is.steps.fallen fair unended))
+      (are_devices honest old.array new.array (λ fair. is.steps.failure fair unended))
       (admits member rebuilding (step_table old.array.table new.array.table member rows Complete rebuilding after))
       (sym (answer_is true last))
       (ap (settled (devices_in old.array new.array)) (changed_is true last)
@@ -323,7 +323,7 @@ module _ (honest : Type 0) (rows : ℕ) (old new : StoreView) (answer : Result P
       let left = states_left old.array new.array is.steps.goes_on (keeps_each cause) in
       let none : has_rebuilding (states_in new.array.table) ≡ false = none_in_set new.array.table cause.0 in
       set_left_by honest (RebuildStep rows) old new (Refused NothingToRebuild) (devices_in old.array new.array) (Some NothingToRebuild)
-      (are_devices honest old.array new.array (λ fair. is.steps.fallen fair unended))
+      (are_devices honest old.array new.array (λ fair. is.steps.failure fair unended))
       (ap (λ states. cond (not (has_rebuilding states)) (Some NothingToRebuild) None) left
       ∙ ap (λ (b : Bool). cond (not b) (Some NothingToRebuild) None) none) refl
       (ap (λ (states : List State). made states (position_in states old.array.table.position)) left

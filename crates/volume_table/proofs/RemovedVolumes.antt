@@ -56,7 +56,7 @@ others_stay extents old new owners left number before now kept kept_then records
   same_records = λ other apart. ap (λ (those : List (Option Record)). record_of those other) records ∙ get_or-set_other old.records number other None None apart;
   same_extents = λ other extent place apart there.
       sym (kept_owner extents old owners kept extent) ∙ was_at owners left number other extent place given (kept_owner extents new left kept_then extent ∙ there);
-  same_blocks = λ other entry apart used j extent below there. has.behind (RESERVED_SECTORS + EXTENT_SECTORS * extent + j % EXTENT_SECTORS) (omega (arith, table_length_most new.version));
+  same_blocks = λ other entry apart used j extent below there. has.beyond (RESERVED_SECTORS + EXTENT_SECTORS * extent + j % EXTENT_SECTORS) (omega (arith, table_length_most new.version));
 }
 
 -- so the list with the new table shows the volumes but the one that is removed
@@ -81,7 +81,7 @@ removal_shows extents old new owners left name number before now volumes kept ke
         (subst (λ (n : List ℕ). Shows extents now (volumes_after extents (Remove n) volumes)) found.named
         (remove_is_shown extents before now volumes new number found.entry shown.shows
         (ap (λ (t : VolumeTable). record_of t.records number) shown.by ∙ found.used)
-        (subst (λ (n : List ℕ). reply_to extents (Remove n) volumes ≡ Done) (sym found.named) is_done) has.spelled (version ∙ ap (λ (t : VolumeTable). t.version) (sym shown.by) ∙ shown.shows.of_version) kept_then.free_behind
+        (subst (λ (n : List ℕ). reply_to extents (Remove n) volumes ≡ Done) (sym found.named) is_done) has.spelled (version ∙ ap (λ (t : VolumeTable). t.version) (sym shown.by) ∙ shown.shows.of_version) kept_then.free_beyond
         (subst (λ (t : VolumeTable). ChangesOneRecord EXTENT_SECTORS t.records new.records t.extents new.extents before now number) (sym shown.by)
         (others_stay extents old new owners left number before now kept kept_then records given has)) gone))
 

@@ -83,7 +83,7 @@ renaming_shows extents old new owners name name_after number entry before now vo
         (rename_is_shown extents before now volumes name_after new number is.found.entry shown.shows
         (ap (λ (t : VolumeTable). record_of t.records number) shown.by ∙ is.found.used)
         (subst (λ (n : List ℕ). reply_to extents (Rename n name_after) volumes ≡ Done) (sym is.found.named) is_done) has.spelled version changes same_owner
-        (λ sector past. has.behind sector (subst (λ (v : ℕ). table_length v ≤ sector) (sym version) past))))
+        (λ sector past. has.beyond sector (subst (λ (v : ℕ). table_length v ≤ sector) (sym version) past))))
 
 -- A rename that is admitted, by its one call.
 pub rename_applies : (honest : Type 0) (name name_after : List ℕ) (old new : StoreView) (owners : List (Option Owned)) (number : ℕ) (entry : Record) (result : Answer) → old.ended ≡ None

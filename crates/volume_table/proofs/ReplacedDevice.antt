@@ -37,8 +37,8 @@ refusal_by filled useless = cond filled (Some NotMissing) (cond useless (Some No
 abbrev pub is_filled : Table → ℕ → Bool
 is_filled table slot = nat_le (length (states_in table)) slot || not (is_missing (slice_index_or (states_in table) slot InSync))
 
-filled_behind : (table : Table) (slot : ℕ) → slots_of table ≤ slot → is_filled table slot ≡ true
-filled_behind table slot past =
+filled_beyond : (table : Table) (slot : ℕ) → slots_of table ≤ slot → is_filled table slot ≡ true
+filled_beyond table slot past =
     or_left (nat_le (length (states_in table)) slot) (not (is_missing (slice_index_or (states_in table) slot InSync)))
     (le-leb (length (states_in table)) slot (omega (arith, past, length-set_of table)))
 
@@ -78,7 +78,7 @@ below_or_past count slot = by_case (nat_lt slot count) refl
 pub filled_if : (table : Table) (slot : ℕ) → IsNotMissing table slot → is_filled table slot ≡ true
 filled_if table slot other_than = elim (below_or_past (slots_of table) slot) [
   | inl below ↦ filled_there table slot below (elim other_than [ inl past ↦ absurd (omega (arith, below, past)) | inr other ↦ other ])
-  | inr past ↦ filled_behind table slot past
+  | inr past ↦ filled_beyond table slot past
 ]
 
 -- a slot that is none of the set, or is not missing, is refused
@@ -230,7 +230,7 @@ module _ (honest : Type 0) (slot : ℕ) (old new : StoreView) (answer : Answer) 
       → SetIsLeft honest (OnSet (Replace slot)) old new (Refused NotUsable)
   left_unusable unended why missing =
       set_left_by honest (Replace slot) old new (Refused NotUsable) (devices_in old.array new.array) (Some NotUsable)
-      (are_devices honest old.array new.array (λ fair. is.replaces.fallen fair unended))
+      (are_devices honest old.array new.array (λ fair. is.replaces.failure fair unended))
       (ap₂ refusal_by replace_filled (useless why missing)) refl
       (ap (λ (states : List State). made states (position_in states old.array.table.position)) (states_left old.array new.array is.replaces.goes_on (λ other of_set.
       elim (cases_eq other slot) [
@@ -250,7 +250,7 @@ module _ (honest : Type 0) (slot : ℕ) (old new : StoreView) (answer : Answer) 
       → SetIsLeft honest (OnSet (Replace slot)) old new Done
   left_joined unended usable_before usable_now is_joined =
       set_left_by honest (Replace slot) old new Done (devices_in old.array new.array) None
-      (are_devices honest old.array new.array (λ fair. is.replaces.fallen fair unended))
+      (are_devices honest old.array new.array (λ fair. is.replaces.failure fair unended))
       (ap₂ refusal_by replace_filled (or_from ((devices_in old.array new.array).unusable slot) (has_fault new.array slot)
       (or_from (old.array.panel.down slot) (nat_lt (old.array.panel.sectors slot) (least_sectors old.array.table.geometry slot))
       (false_if (old.array.panel.down slot) (λ down. usable_before (inl down)))

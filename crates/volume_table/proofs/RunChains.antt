@@ -25,7 +25,7 @@ applies_for honest other event old new reply so applies = record { ended = appli
           record {
             devices = left.devices;
             are = record {
-              fell = λ fair. left.are.fell (so fair);
+              failed = λ fair. left.are.failed (so fair);
               is_down = left.are.is_down;
               unusable = left.are.unusable;
               rows = left.are.rows;
@@ -63,7 +63,7 @@ done_one_more honest then events event old mid new before there after so done on
   acknowledged = one.acknowledged ∙ ap (λ (acks : List ℕ). acks ++ new.array.panel.calls ∷ []) done.acknowledged ∙ append_assoc before done.acks (new.array.panel.calls ∷ []);
 }
 
--- events, one of them, and those behind it
+-- events, one of them, and those after it
 pub parts_at : {A : Type 0} (of : A → Event) (events : List A) (i : ℕ) (d : A) → i < length events
     → map of events ≡ map of (take i events) ++ of (get_or events i d) ∷ map of (drop (i + 1) events)
 parts_at of events i d within =

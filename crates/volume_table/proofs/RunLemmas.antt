@@ -33,17 +33,17 @@ same_extents (_ ∷ events) (_ ∷ acks) old new (then_done mid event reply ack 
     let through : GoesThrough (Unit {0}) event old mid reply = applies.going goes_on in
     same_extents events acks mid new chain (through.goes goes) ∙ ap extents_in through.goes_on.not_older.same_geometry
 
--- events, one of them, and those behind it
+-- events, one of them, and those after it
 record Split (done : List Event) (event : Event) (undone : List Event) (acks : List ℕ) (old new : StoreView) : Type 0 where
   mid : StoreView
   next : StoreView
   reply : Reply
   acks_before : List ℕ
-  acks_behind : List ℕ
+  acks_after : List ℕ
   those_before : Chain (Unit {0}) done acks_before old mid
   applies : Applies (Unit {0}) event mid next reply
-  those_behind : Chain (Unit {0}) undone acks_behind next new
-  acknowledged : acks ≡ acks_before ++ next.array.panel.calls ∷ acks_behind
+  those_after : Chain (Unit {0}) undone acks_after next new
+  acknowledged : acks ≡ acks_before ++ next.array.panel.calls ∷ acks_after
 
 split : (done : List Event) (event : Event) (undone : List Event) (acks : List ℕ) (old new : StoreView) → Chain (Unit {0}) (done ++ event ∷ undone) acks old new
     → Split done event undone acks old new
@@ -53,10 +53,10 @@ split [] _ undone (_ ∷ acks) old new (then_done mid event reply ack applies go
   next = mid;
   reply = reply;
   acks_before = [];
-  acks_behind = acks;
+  acks_after = acks;
   those_before = none_done;
   applies = applies;
-  those_behind = chain;
+  those_after = chain;
   acknowledged = ap (λ n. n ∷ acks) counted;
 }
 split (_ ∷ done) event undone [] old new chain = elim chain [ ]
@@ -67,10 +67,10 @@ split (_ ∷ done) event undone (_ ∷ acks) old new (then_done mid first reply 
       next = later.next;
       reply = later.reply;
       acks_before = ack ∷ later.acks_before;
-      acks_behind = later.acks_behind;
+      acks_after = later.acks_after;
       those_before = then_done mid first reply ack applies goes counted later.those_before;
       applies = later.applies;
-      those_behind = later.those_behind;
+      those_after = later.those_after;
       acknowledged = ap (λ others. ack ∷ others) later.acknowledged;
     }
 
@@ -96,9 +96,9 @@ each_event_stands done event undone acks old new chain lost volumes rests =
       mid = parts.mid;
       next = parts.next;
       acks_before = parts.acks_before;
-      acks_behind = parts.acks_behind;
+      acks_after = parts.acks_after;
       those_before = parts.those_before;
-      those_behind = parts.those_behind;
+      those_after = parts.those_after;
       acknowledged = parts.acknowledged;
       as_many = kept.0;
       there = kept.1;

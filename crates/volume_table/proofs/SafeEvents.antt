@@ -61,10 +61,10 @@ fail_refused : (devices : Devices) (slot : ℕ) (old new : ArrayView) (refusal :
     → IsSetRefused (Fail slot) old new refusal
 fail_refused devices slot old new refusal is =
     let others = not (is_complete (slice_set (set_of old.table).states slot InSync)) in
-    let behind = nat_le (length (set_of old.table).states) slot in
-    elim (by_two others behind WouldLose NotMissing refusal (sym is)) [
+    let beyond = nat_le (length (set_of old.table).states) slot in
+    elim (by_two others beyond WouldLose NotMissing refusal (sym is)) [
       | inl (out, which) ↦ subst (λ (r : Refusal). IsSetRefused (Fail slot) old new r) (sym which)
-          (ap (λ (b : Bool). first_refusal ((b, WouldLose) ∷ (behind, NotMissing) ∷ [])) out)
+          (ap (λ (b : Bool). first_refusal ((b, WouldLose) ∷ (beyond, NotMissing) ∷ [])) out)
       | inr (none, past, which) ↦ subst (λ (r : Refusal). IsSetRefused (Fail slot) old new r) (sym which)
           (ap₂ (λ (b c : Bool). first_refusal ((b, WouldLose) ∷ (c, NotMissing) ∷ [])) none past)
     ]
@@ -309,8 +309,8 @@ ended_by honest event old new (Refused said) refusal applies going ended = elim 
 ]
 ended_by honest event old new reply refusal applies going ended = absurd (none-some refusal (sym ((applies.going going).goes (λ no. no)) ∙ ended))
 
-behind_one : (first : Reply) (replies : List Reply) (reply : Reply) → Contains replies reply → Contains (first ∷ replies) reply
-behind_one first replies reply (k, below, at) = (suc k, omega (arith, below), at)
+past_one : (first : Reply) (replies : List Reply) (reply : Reply) → Contains replies reply → Contains (first ∷ replies) reply
+past_one first replies reply (k, below, at) = (suc k, omega (arith, below), at)
 
 -- by what ended the store, if its first event did
 ended_among : (honest : Type 0) (event : Event) (events : List Event) (reply : Reply) (replies : List Reply) (old mid new : StoreView) (refusal : Refusal)
@@ -318,7 +318,7 @@ ended_among : (honest : Type 0) (event : Event) (events : List Event) (reply : R
     → (mid.ended ≡ None → EndsIt refusal × Contains replies (Refused refusal))
     → (o : Option Refusal) → mid.ended ≡ o → EndsIt refusal × Contains (reply ∷ replies) (Refused refusal)
 ended_among honest event events reply replies old mid new refusal going applies rest ended later None on =
-    ((later on).0, behind_one reply replies (Refused refusal) (later on).1)
+    ((later on).0, past_one reply replies (Refused refusal) (later on).1)
 ended_among honest event events reply replies old mid new refusal going applies rest ended later (Some said) over =
     let same : said ≡ refusal = same_Some said refusal (sym over ∙ sym (ap (λ (s : StoreView). s.ended) (asks_stay honest events replies mid new said over rest).1) ∙ ended) in
     let by = ended_by honest event old mid reply refusal applies going (over ∙ ap (λ (r : Refusal). Some r) same) in

@@ -15,7 +15,7 @@ use Rattle.sector_model.specs.Readable.{readable}
 use Rattle.sector_model.proofs.Steps.{throughout_last}
 use Rattle.layout_map.specs.declared.geometry.Geometry.{Geometry}
 use Rattle.superblock.specs.declared.table.Table.{Table}
-use Rattle.superblock.specs.Losses.{IsOneLoss}
+use Rattle.superblock.specs.Losses.{IsSingleFailure}
 use Rattle.superblock.specs.NextTables.{IsNotOlder, slots_of}
 use Rattle.superblock.proofs.LaterTables.{not_older_both, not_older_same}
 use Rattle.array_io.specs.Believed.DeviceRules.{Replaced}
@@ -23,7 +23,7 @@ use Rattle.array_io.specs.Believed.Fresh.{zeros_of}
 use Rattle.array_io.specs.Believed.Settled.{IsSettled}
 use Rattle.array_io.specs.Believed.Views.{ArrayView, RestsOn}
 use Rattle.recovery.specs.Making as recovery
-use Rattle.recovery.specs.Making.{IsQuietBehind, Makes}
+use Rattle.recovery.specs.Making.{IsQuietBeyond, Makes}
 use Rattle.volume_table.specs.Volumes.{VolumeMap, no_volumes}
 use Rattle.volume_table.specs.VolumeStep.{Event, Fail, OnSet, OnVolumes, RebuildStep, Replace, Reply, Scrub, after, left_by}
 use Rattle.volume_table.specs.Shows.{Shows}
@@ -33,10 +33,10 @@ use Rattle.volume_table.specs.Opening.{IsNoOpening, Opened, Opens, Outcome, Retu
 use Rattle.volume_table.specs.Runs.{Does, Fate, IsAssembled, IsDone, IsServing, Run, Runs, Serving, Session, World, assembled, between_events, in_assembling, in_event, in_opening, next_run, no_more, none_done, then_done, unopened}
 use Rattle.volume_table.specs.Headline.{AreRight, Before, Headline, IsAfterPrefix, IsOpenedUnlessWorn, IsRight, RunKeeps, RunsKeep, SessionKeeps, nothing_before, nothing_lost}
 use Rattle.volume_table.proofs.Assembled.{assembled_unless_worn, assembling_holds, assembling_stands, may_start}
-use Rattle.volume_table.proofs.OneLoss.{not_two, opening_not_two}
+use Rattle.volume_table.proofs.SingleFailure.{not_two, opening_not_two}
 use Rattle.volume_table.proofs.FreshLemmas.{fresh_set_shows_none}
 use Rattle.volume_table.proofs.Opened.{IsSafeArray, IsSafeStore, holds_readable, rests_on, stands_at_rest, store_after}
-use Rattle.volume_table.proofs.SafeWorlds.{IsSafe, begins_safe, goes_over, same_slots, stops_safe}
+use Rattle.volume_table.proofs.SafeWorlds.{IsSafe, begins_safe, goes_over, same_slots, crashes_safe}
 use Rattle.volume_table.proofs.Scrubbed.{scrub_finds_none}
 
 same_extents : (old new : Table) → IsNotOlder old new → extents_in new.geometry ≡ extents_in old.geometry
@@ -155,14 +155,14 @@ safe_first made devices array fate volumes first safe serving =
     serving.goes_over (throughout_last first.store.array.history moments) (serving.opens.settled tt fate.lost safe.logical volumes rests safe.shown first.store refl)
 
 refused_opening : (made : Table) (devices : ℕ) (array : ArrayView) (fate : Fate) (volumes : VolumeMap) (bank : recovery.BankView) (refusal : Refusal) → IsSafeArray made devices array fate volumes
-    → IsTrueTo bank.panel bank.history → IsOneLoss (slots_of array.table) fate.lost bank.history → IsNoOpening (Unit {0}) array bank refusal
+    → IsTrueTo bank.panel bank.history → IsSingleFailure (slots_of array.table) fate.lost bank.history → IsNoOpening (Unit {0}) array bank refusal
     → (refusal ≡ Worn) × IsNoOpening (Unit {0}) array bank Worn
 refused_opening made devices array fate volumes bank BadTable safe true_to one why =
     absurd (why.0 tt fate.lost safe.logical volumes (rests_on made devices array fate volumes safe) safe.shown)
 refused_opening made devices array fate volumes bank TwoLost safe true_to one why =
     absurd (opening_not_two _ array why.array fate.lost why.stays why.goes_on.not_older.same_geometry safe.over.settled.lost_slot
     (subst₂ (λ (p : Panel) (h : History). IsTrueTo p h) (sym why.panel) (sym why.history) true_to)
-    (subst (λ (h : History). IsOneLoss (slots_of array.table) fate.lost h) (sym why.history) one) why.ends)
+    (subst (λ (h : History). IsSingleFailure (slots_of array.table) fate.lost h) (sym why.history) one) why.ends)
 refused_opening made devices array fate volumes bank Worn safe true_to one why = (refl, why)
 refused_opening made devices array fate volumes bank refusal safe true_to one why = absurd why
 
@@ -171,7 +171,7 @@ opened_unless_worn : (made : Table) (devices : ℕ) (array : ArrayView) (fate : 
 opened_unless_worn made devices array fate volumes (Opened store) safe opens true_to = tt
 opened_unless_worn made devices array fate volumes (Returned bank refusal) safe opens true_to = λ one.
     refused_opening made devices array fate volumes bank refusal safe true_to
-    (subst (λ (n : ℕ). IsOneLoss n fate.lost bank.history) (sym (same_slots made array.table safe.not_older)) one) (opens.cause bank refusal refl)
+    (subst (λ (n : ℕ). IsSingleFailure n fate.lost bank.history) (sym (same_slots made array.table safe.not_older)) one) (opens.cause bank refusal refl)
 
 -- each case of a safe store that makes no call stands for its volumes
 stands_between : (made : Table) (devices : ℕ) (serving : Serving) (volumes : VolumeMap) → IsSafeStore made devices serving volumes
@@ -194,43 +194,43 @@ stands_in_event made devices event store reply serving volumes safe goes =
 session_keeps : (made : Table) (devices : ℕ) (before : Before) (array : ArrayView) (fate : Fate) (volumes : VolumeMap) (left : World) → IsSafeArray made devices array fate volumes
     → IsAfterPrefix (extents_in made.geometry) before volumes → (session : Session (slots_of made) array fate left) → (later : Before → Type 0)
     → KeepsLater made devices left later → SessionKeeps (extents_in made.geometry) (slots_of made) before session later
-session_keeps made devices before array fate volumes left safe prefix (unopened stops) later keeps =
+session_keeps made devices before array fate volumes left safe prefix (unopened crashes) later keeps =
     keeps before (volumes ∷ []) (λ other among. subst (λ (v : VolumeMap). IsAfterPrefix (extents_in made.geometry) before v) (one_of_one volumes other among) prefix)
-    (stops_safe made array.table devices fate.lost (volumes ∷ []) fate array.history array.history left safe.not_older safe.over.replaced
-    (here (stands_at_rest devices array.table array.number array.history fate.lost safe.logical volumes safe.over.settled safe.shown)) stops)
-session_keeps made devices before array fate volumes left safe prefix (in_opening outcome opens true_to stops) later keeps = (
+    (crashes_safe made array.table devices fate.lost (volumes ∷ []) fate array.history array.history left safe.not_older safe.over.replaced
+    (here (stands_at_rest devices array.table array.number array.history fate.lost safe.logical volumes safe.over.settled safe.shown)) crashes)
+session_keeps made devices before array fate volumes left safe prefix (in_opening outcome opens true_to crashes) later keeps = (
   opened_unless_worn made devices array fate volumes outcome safe opens true_to,
   keeps before (volumes ∷ []) (λ other among. subst (λ (v : VolumeMap). IsAfterPrefix (extents_in made.geometry) before v) (one_of_one volumes other among) prefix)
-      (stops_safe made array.table devices fate.lost (volumes ∷ []) fate array.history (bank_after outcome).history left safe.not_older safe.over.replaced
+      (crashes_safe made array.table devices fate.lost (volumes ∷ []) fate array.history (bank_after outcome).history left safe.not_older safe.over.replaced
       (subst (λ (d : ℕ). StandsThroughout array.table d fate.lost (volumes ∷ []) array.history (bank_after outcome).history) safe.of_bank
-      (opens.moments tt fate.lost safe.logical volumes (rests_on made devices array fate volumes safe) safe.shown)) stops),
+      (opens.moments tt fate.lost safe.logical volumes (rests_on made devices array fate volumes safe) safe.shown)) crashes),
 )
-session_keeps made devices before array fate volumes left safe prefix (between_events first serving events replies opened does stops) later keeps =
+session_keeps made devices before array fate volumes left safe prefix (between_events first serving events replies opened does crashes) later keeps =
     let begun = safe_first made devices array fate volumes first safe opened in
     let done = all_done made devices does volumes begun in (
       volumes,
       record { after_prefix = prefix; settled = begun.settled; right = done.right },
       keeps record { volumes = volumes; events = events; acknowledged = length events } (left_by_all (extents_in made.geometry) events volumes ∷ [])
           (prefix_of_all (extents_in made.geometry) volumes events)
-          (stops_safe made serving.store.array.table devices serving.fate.lost (left_by_all (extents_in made.geometry) events volumes ∷ []) serving.fate
+          (crashes_safe made serving.store.array.table devices serving.fate.lost (left_by_all (extents_in made.geometry) events volumes ∷ []) serving.fate
           serving.store.array.history serving.store.array.history left done.safe.not_older done.safe.replaced
-          (stands_between made devices serving (left_by_all (extents_in made.geometry) events volumes) done.safe) stops),
+          (stands_between made devices serving (left_by_all (extents_in made.geometry) events volumes) done.safe) crashes),
     )
-session_keeps made devices before array fate volumes left safe prefix (in_event first serving events replies event store reply opened does applies true_to stops) later keeps =
+session_keeps made devices before array fate volumes left safe prefix (in_event first serving events replies event store reply opened does applies true_to crashes) later keeps =
     let begun = safe_first made devices array fate volumes first safe opened in
     let done = all_done made devices does volumes begun in
     let goes = applies.going done.safe.settled.going in (
       volumes,
       record { after_prefix = prefix; settled = begun.settled; right = done.right },
       λ one. not_two event serving.store store reply serving.fate.lost goes done.safe.settled.rests.lost_slot true_to
-          (subst (λ (n : ℕ). IsOneLoss n (lost_in event serving.store.array.table serving.fate.lost) store.array.history) (sym (same_slots made serving.store.array.table done.safe.not_older)) one),
+          (subst (λ (n : ℕ). IsSingleFailure n (lost_in event serving.store.array.table serving.fate.lost) store.array.history) (sym (same_slots made serving.store.array.table done.safe.not_older)) one),
       keeps record { volumes = volumes; events = events ++ event ∷ []; acknowledged = length events }
           (left_by_all (extents_in made.geometry) events volumes ∷ left_by (extents_in made.geometry) event (left_by_all (extents_in made.geometry) events volumes) ∷ [])
           (prefix_with_last (extents_in made.geometry) volumes events event)
-          (stops_safe made serving.store.array.table devices (lost_in event serving.store.array.table serving.fate.lost)
+          (crashes_safe made serving.store.array.table devices (lost_in event serving.store.array.table serving.fate.lost)
           (left_by_all (extents_in made.geometry) events volumes ∷ left_by (extents_in made.geometry) event (left_by_all (extents_in made.geometry) events volumes) ∷ []) serving.fate
           serving.store.array.history store.array.history left done.safe.not_older done.safe.replaced
-          (stands_in_event made devices event store reply serving (left_by_all (extents_in made.geometry) events volumes) done.safe goes) stops),
+          (stands_in_event made devices event store reply serving (left_by_all (extents_in made.geometry) events volumes) done.safe goes) crashes),
     )
 
 -- an array that is assembled from what is safe is safe
@@ -245,7 +245,7 @@ safe_assembly made devices maps world panel array fate of_bank safe is =
     let may = may_start made devices maps world panel of_bank safe in
     let same = same_slots made safe.base safe.not_older in
     let opens = is.assembles.rests tt safe.base world.fate.lost safe.stands.lists safe.not_older.same_id may array refl
-    (subst (λ (n : ℕ). IsOneLoss n world.fate.lost array.history) (sym same) is.goes_over.one_loss) in
+    (subst (λ (n : ℕ). IsSingleFailure n world.fate.lost array.history) (sym same) is.goes_over.single_failure) in
     let shows = safe.stands.shown opens.logical opens.among in
     let bank = is.assembles.later.devices ∙ of_bank in
     let moments = assembling_stands made devices maps world array.history safe
@@ -260,7 +260,7 @@ safe_assembly made devices maps world panel array fate of_bank safe is =
         over = goes_over (slots_of made) devices safe.base array.table array.number array.history world.fate.lost opens.rests.lost world.fate fate opens.logical
             opens.not_older safe.replaced is.goes_over opens.rests.is_lost
             (subst (λ (d : ℕ). IsSettled d array.table array.number array.history opens.rests.lost opens.logical) bank opens.rests.rests)
-            (holds_readable (slots_of made) devices safe.base world.fate.lost maps array.history same (throughout_last array.history moments) is.goes_over.one_loss);
+            (holds_readable (slots_of made) devices safe.base world.fate.lost maps array.history same (throughout_last array.history moments) is.goes_over.single_failure);
         shown = subst (λ (e : ℕ). Shows e opens.logical shows.volumes) (sym (same_extents safe.base array.table opens.not_older)) shows.shown;
       };
     }
@@ -270,10 +270,10 @@ run_keeps : (made : Table) (devices : ℕ) (before : Before) (maps : List Volume
     → ((volumes : VolumeMap) → Contains maps volumes → IsAfterPrefix (extents_in made.geometry) before volumes) → panel.devices ≡ devices → IsSafe made devices maps world
     → (run : Run made.id (slots_of made) panel world left) → (later : Before → Type 0) → KeepsLater made devices left later
     → RunKeeps made.id (extents_in made.geometry) (slots_of made) before run later
-run_keeps made devices before maps panel world left each of_bank safe (in_assembling outcome assembles stops) later keeps = (
+run_keeps made devices before maps panel world left each of_bank safe (in_assembling outcome assembles crashes) later keeps = (
   assembled_unless_worn made devices maps world panel outcome of_bank safe assembles,
-  keeps before maps each (stops_safe made safe.base devices world.fate.lost maps world.fate (Began world.image) (recovery.bank_after outcome).history left safe.not_older safe.replaced
-      (assembling_stands made devices maps world (recovery.bank_after outcome).history safe (assembling_holds made devices maps world panel outcome of_bank safe assembles)) stops),
+  keeps before maps each (crashes_safe made safe.base devices world.fate.lost maps world.fate (Began world.image) (recovery.bank_after outcome).history left safe.not_older safe.replaced
+      (assembling_stands made devices maps world (recovery.bank_after outcome).history safe (assembling_holds made devices maps world panel outcome of_bank safe assembles)) crashes),
 )
 run_keeps made devices before maps panel world left each of_bank safe (assembled array fate is session) later keeps =
     let assembly = safe_assembly made devices maps world panel array fate of_bank safe is in
@@ -293,7 +293,7 @@ no_device : (device : Replaced) → Contains [] device → ⊥
 no_device device (k, below, is) = omega (arith, below)
 
 -- what making a set gives is safe
-made_safe : (id : List ℕ) (geometry : Geometry) (bank : recovery.BankView) (array : ArrayView) → Makes (Unit {0}) id geometry bank (recovery.Opened array) → IsQuietBehind id (geometry.members + 2) bank
+made_safe : (id : List ℕ) (geometry : Geometry) (bank : recovery.BankView) (array : ArrayView) → Makes (Unit {0}) id geometry bank (recovery.Opened array) → IsQuietBeyond id (geometry.members + 2) bank
     → Shows (extents_in array.table.geometry) (zeros_of array.table.geometry) no_volumes → IsSafeArray array.table array.panel.devices array nothing_lost no_volumes
 made_safe id geometry bank array makes quiet shows = record {
   of_bank = refl;

@@ -1,4 +1,4 @@
--- What is kept between two runs, and from the start of a run to its stop.
+-- What is kept between two runs, and from the start of a run to its crash.
 use Rattle.std.proofs.Common.{◌≡◌, inl, inr, ℕ, ◌+◌, List, [], ◌∷◌, map, Option, Some, None, refl, sym, ap, subst, subst₂, arith}
 use Rattle.std.specs.Prelude.{Contains}
 use Rattle.std.proofs.lemmas.List.Elements.{Contains-append_cases, Contains-push_cases}
@@ -20,12 +20,12 @@ use Rattle.array_io.specs.Believed.Holds.{AllStale, Holds}
 use Rattle.array_io.specs.Believed.Settled.{IsSettled}
 use Rattle.array_io.specs.Laws.Starts.{Starts}
 use Rattle.array_io.proofs.Laws.AwayStale.{away_is_stale}
-use Rattle.array_io.proofs.Laws.Begun.{a_stop_then_a_start}
+use Rattle.array_io.proofs.Laws.Begun.{a_crash_then_a_start}
 use Rattle.array_io.proofs.Images.Codecs.{spellings}
 use Rattle.array_io.proofs.Laws.DeviceRules.{a_start_is_one_of}
 use Rattle.volume_table.specs.Volumes.{VolumeMap}
 use Rattle.volume_table.specs.Stands.{Stands, StandsNow}
-use Rattle.volume_table.specs.Runs.{Fate, GoesOver, Stops, World, case_of, replaced_by}
+use Rattle.volume_table.specs.Runs.{Fate, GoesOver, Crashes, World, case_of, replaced_by}
 
 -- Between two runs: the case stands for these maps, by no table older than `base`, which is one of the set's; and each device that was replaced is stale
 -- under it.
@@ -63,19 +63,19 @@ begins_safe made devices maps world begun safe may same = record {
         (subst₂ (λ (i : List ℕ) (n : ℕ). MayBegin i devices n world.fate.replaced (case_of world) (case_of begun)) (sym later.same_id) (sym (same_slots made table later)) may)
 
     holds : Holds safe.base devices (case_of begun) safe.stands.lists
-    holds = a_stop_then_a_start safe.base devices table (case_of world) (case_of begun) safe.stands.lists safe.stands.holds
+    holds = a_crash_then_a_start safe.base devices table (case_of world) (case_of begun) safe.stands.lists safe.stands.holds
         (subst (λ (i : List ℕ). IsChosen i devices world.image table) safe.stands.holds.not_older.same_id safe.stands.holds.whole.chosen) starts
 
--- A stop leaves what is safe: at the moment at which it comes each case stands for these maps.
-pub stops_safe : (made base : Table) (devices : ℕ) (during : Option Lost) (maps : List VolumeMap) (fate : Fate) (old new : History) (left : World)
+-- A crash leaves what is safe: at the moment at which it comes each case stands for these maps.
+pub crashes_safe : (made base : Table) (devices : ℕ) (during : Option Lost) (maps : List VolumeMap) (fate : Fate) (old new : History) (left : World)
     → IsNotOlder made base → AreReplacedStale devices base fate.replaced → Throughout (StandsNow base devices during maps) old new
-    → Stops (slots_of made) during fate old new left → IsSafe made devices maps left
-stops_safe made base devices during maps fate old new left later stale moments stops = record {
+    → Crashes (slots_of made) during fate old new left → IsSafe made devices maps left
+crashes_safe made base devices during maps fate old new left later stale moments crashes = record {
   base = base;
   not_older = later;
-  stands = throughout_cut new moments stops.t stops.from left.fate.lost left.image
-      (subst (λ (n : ℕ). IsLostAt n during (cut_at stops.t new) left.fate.lost) (sym (same_slots made base later)) stops.lost) stops.leaves;
-  replaced = subst (λ (r : List Replaced). AreReplacedStale devices base r) (sym stops.replaced) stale;
+  stands = throughout_cut new moments crashes.t crashes.from left.fate.lost left.image
+      (subst (λ (n : ℕ). IsLostAt n during (cut_at crashes.t new) left.fate.lost) (sym (same_slots made base later)) crashes.lost) crashes.leaves;
+  replaced = subst (λ (r : List Replaced). AreReplacedStale devices base r) (sym crashes.replaced) stale;
 }
 
 no_device : (device : Replaced) → Contains [] device → ⊥

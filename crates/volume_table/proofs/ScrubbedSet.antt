@@ -22,10 +22,10 @@ use Rattle.volume_table.specs.VolumeStep.{OnSet, Refused, Reply, Scrub, Scrubbed
 use Rattle.volume_table.proofs.FailedSlot.{in_sync_at}
 use Rattle.volume_table.proofs.OnSet.{ActsOnSet, KeepsRefusal, acts_on_set, are_devices, are_devices_with, devices_with, kept_if_done, kept_if_refused, refused_replies, set_left_by, state_in, states_in}
 use Rattle.volume_table.proofs.Scrubbed.{complete_states}
-use Rattle.volume_table.proofs.StoreSteps.{devices_in, falls_leave, generation_left, has_fault, incarnations_left, length-set_of, same_slots, slot_spared, states_left, stays_or_falls, unsound_rows}
+use Rattle.volume_table.proofs.StoreSteps.{devices_in, failures_leave, generation_left, has_fault, incarnations_left, length-set_of, same_slots, slot_spared, states_left, stays_or_fails, unsound_rows}
 
 -- The array's scrub was made.
-pub record LooksAtRows (honest : Type 0) (old new : StoreView) (answer : Result Report Refusal) : Type 0 where
+pub record InspectsRows (honest : Type 0) (old new : StoreView) (answer : Result Report Refusal) : Type 0 where
   pub kept : KeepsRefusal Report old new answer
   pub scrubs : Scrubs honest old.array new.array answer
 
@@ -56,9 +56,9 @@ end_of old new TwoLost cause ends = cause
 end_of old new Worn cause ends = cause
 end_of old new refusal cause ends = absurd ends
 
-module _ (honest : Type 0) (old new : StoreView) (answer : Result Report Refusal) (is : LooksAtRows honest old new answer) where
+module _ (honest : Type 0) (old new : StoreView) (answer : Result Report Refusal) (is : InspectsRows honest old new answer) where
   faults_leave_it : with_faults (has_fault new.array) (states_in old.array.table) ≡ states_in new.array.table
-  faults_leave_it = states_left old.array new.array is.scrubs.goes_on (λ slot of_set. stays_or_falls old.array new.array is.scrubs.stays.table slot)
+  faults_leave_it = states_left old.array new.array is.scrubs.goes_on (λ slot of_set. stays_or_fails old.array new.array is.scrubs.stays.table slot)
 
   -- whether the scrub is refused, by whether the set is then complete
   refused_by : (unsound : List ℕ) (whole : Bool) → is_complete (states_in new.array.table) ≡ whole
@@ -74,9 +74,9 @@ module _ (honest : Type 0) (old new : StoreView) (answer : Result Report Refusal
       → SetIsLeft honest (OnSet Scrub) old new (Refused Incomplete)
   left_incomplete unended other_than =
       set_left_by honest Scrub old new (Refused Incomplete) (devices_in old.array new.array) (Some Incomplete)
-      (are_devices honest old.array new.array (λ fair. is.scrubs.stays.fallen fair unended))
+      (are_devices honest old.array new.array (λ fair. is.scrubs.stays.failure fair unended))
       (refused_by (unsound_rows old.array.table (readable new.array.history)) false (incomplete_states new.array.table other_than)) refl
-      (falls_leave old.array new.array is.scrubs.goes_on is.scrubs.stays.table)
+      (failures_leave old.array new.array is.scrubs.goes_on is.scrubs.stays.table)
 
   left_told : ¬ HasEnded answer → IsComplete new.array.table → (report : Report)
       → IsReport honest new.array.table (readable new.array.history) report
@@ -86,12 +86,12 @@ module _ (honest : Type 0) (old new : StoreView) (answer : Result Report Refusal
       set_left_by honest Scrub old new (Scrubbed report.rows report.bad report.first_bad) (devices_with old.array new.array told.rows) None
       (are_devices_with honest old.array new.array told.rows
       (λ fair. subst (λ (t : Table). AreUnsound t (readable new.array.history) told.rows) same (told.are fair))
-      (λ fair. is.scrubs.stays.fallen fair unended))
+      (λ fair. is.scrubs.stays.failure fair unended))
       (refused_by told.rows true (complete_states new.array.table complete))
       (ap (λ (n : ℕ). Scrubbed n report.bad report.first_bad) (told.tells.rows ∙ ap row_count same)
       ∙ ap (λ (n : ℕ). Scrubbed (row_count old.array.table) n report.first_bad) told.tells.bad
       ∙ ap (λ (first : Option ℕ). Scrubbed (row_count old.array.table) (length told.rows) first) told.tells.first_bad)
-      (falls_leave old.array new.array is.scrubs.goes_on is.scrubs.stays.table)
+      (failures_leave old.array new.array is.scrubs.goes_on is.scrubs.stays.table)
 
 -- ---- by what the array's call did
 
@@ -103,7 +103,7 @@ scrubbed_not_refused : (rows bad : ℕ) (first_bad : Option ℕ) (refusal : Refu
     → Scrubbed rows bad first_bad ≡ Refused refusal → ⊥
 scrubbed_not_refused rows bad first_bad refusal same = cc
 
-left_refused : (honest : Type 0) (old new : StoreView) (refusal : Refusal) → LooksAtRows honest old new (Err refusal)
+left_refused : (honest : Type 0) (old new : StoreView) (refusal : Refusal) → InspectsRows honest old new (Err refusal)
     → IsNoScrub old.array new.array refusal → ¬ EndsIt refusal
     → SetIsLeft honest (OnSet Scrub) old new (Refused refusal)
 left_refused honest old new Incomplete is cause goes = left_incomplete honest old new (Err Incomplete) is goes cause
@@ -112,7 +112,7 @@ left_refused honest old new Worn is cause goes = absurd (goes tt)
 left_refused honest old new refusal is cause goes = absurd cause
 
 -- what the array's scrub does for one of a store, which leaves the set so, and has only read where it was answered
-scrub_acts : (honest : Type 0) (old new : StoreView) (answer : Result Report Refusal) (reply : Reply) → LooksAtRows honest old new answer
+scrub_acts : (honest : Type 0) (old new : StoreView) (answer : Result Report Refusal) (reply : Reply) → InspectsRows honest old new answer
     → (¬ HasEnded answer → SetIsLeft honest (OnSet Scrub) old new reply)
     → (honest → (rows bad : ℕ) (first_bad : Option ℕ) → reply ≡ Scrubbed rows bad first_bad → HasRead old.array.history new.array.history)
     → ActsOnSet honest Scrub Report old new answer reply
@@ -123,14 +123,14 @@ scrub_acts honest old new answer reply is left reads = record {
   lost_stays = λ lost. refl;
   generation = generation_left old.array new.array is.scrubs.stays.table;
   incarnations = incarnations_left (OnSet Scrub) old.array new.array is.scrubs.stays.table;
-  spared = λ slot of_set in_sync. slot_spared old.array new.array slot (stays_or_falls old.array new.array is.scrubs.stays.table slot) in_sync;
+  spared = λ slot of_set in_sync. slot_spared old.array new.array slot (stays_or_fails old.array new.array is.scrubs.stays.table slot) in_sync;
   left = left;
   cause = λ refusal refused ends. end_of old.array new.array refusal (is.scrubs.cause refusal refused) ends;
   scrubs = λ fair scrub rows bad first_bad answered. reads fair rows bad first_bad answered;
 }
 
 pub scrub_applies : (honest : Type 0) (old new : StoreView) (answer : Result Report Refusal)
-    → LooksAtRows honest old new answer → ScrubsSet honest old new answer
+    → InspectsRows honest old new answer → ScrubsSet honest old new answer
 scrub_applies honest old new (Ok report) is =
     acts_on_set honest Scrub Report old new (Ok report) (Scrubbed report.rows report.bad report.first_bad)
     record { refused = λ refusal same. absurd (scrubbed_not_refused report.rows report.bad report.first_bad refusal same); unended = λ unended. unended }

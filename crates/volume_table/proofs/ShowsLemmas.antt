@@ -237,7 +237,7 @@ write_is_shown extents before left volumes number entry at written shows used wh
       table = table;
       of_version = shows.of_version ∙ sym (write_keeps_version extents entry.name.bytes.items at written volumes replied);
       spelled = table_stays table.version before left table.extents number at written as_long has ∙ shows.spelled;
-      free_behind = shows.free_behind;
+      free_beyond = shows.free_beyond;
       shown = write_is_shown_by extents table.records table.extents before left volumes number entry at written (distinct_names table.version table.records table.extents table.is_table) shows.shown used replied has;
     }
 

@@ -140,8 +140,8 @@ may_be_renamed extents old new volumes none =
 -- as many blocks after a write
 pub length-overwritten : (blocks : List Block) (at : ℕ) (written : List Block) → at + length written ≤ length blocks → length (overwritten blocks at written) ≡ length blocks
 length-overwritten blocks at written within =
-    let behind = drop (at + length written) blocks in
-    omega (arith, length-append (take at blocks ++ written) behind, length-append (take at blocks) written, length-take at blocks, length-drop (at + length written) blocks)
+    let beyond = drop (at + length written) blocks in
+    omega (arith, length-append (take at blocks ++ written) beyond, length-append (take at blocks) written, length-take at blocks, length-drop (at + length written) blocks)
 
 overwritten_whole : (blocks : List Block) (at : ℕ) (written : List Block) → All IsBlock blocks → All IsBlock written → All IsBlock (overwritten blocks at written)
 overwritten_whole blocks at written whole new_whole =
@@ -152,26 +152,26 @@ overwritten_whole blocks at written whole new_whole =
 pub written_again : (blocks : List Block) (at : ℕ) (written : List Block) → at + length written ≤ length blocks → take (length written) (drop at (overwritten blocks at written)) ≡ written
 written_again blocks at written within =
     let before = take at blocks in
-    let behind = drop (at + length written) blocks in
+    let beyond = drop (at + length written) blocks in
     let long : length before ≡ at = omega (arith, length-take at blocks) in
-    ap (take (length written)) (drop-append-le at (before ++ written) behind (omega (arith, length-append before written, long)) ∙ ap (λ rest. rest ++ behind) (drop_at before written at long))
-    ∙ take_at written behind (length written) refl
+    ap (take (length written)) (drop-append-le at (before ++ written) beyond (omega (arith, length-append before written, long)) ∙ ap (λ rest. rest ++ beyond) (drop_at before written at long))
+    ∙ take_at written beyond (length written) refl
 
 -- block by block
 pub is_written : (blocks : List Block) (at : ℕ) (written : List Block) → at + length written ≤ length blocks → IsWritten blocks (overwritten blocks at written) at written
 is_written blocks at written within =
     let before = take at blocks in
-    let behind = drop (at + length written) blocks in
+    let beyond = drop (at + length written) blocks in
     let front = before ++ written in
     let long : length before ≡ at = omega (arith, length-take at blocks) in
     let front_long : length front ≡ at + length written = length-append before written ∙ ap (λ n. n + length written) long in
     record {
       as_long = length-overwritten blocks at written within;
-      inside = λ k d below. get_or_append_left front behind d (at + k) (omega (arith, front_long)) ∙ ap (λ n. get_or front (n + k) d) (sym long) ∙ get_or-append-add before written k d;
-      below = λ k d below. get_or_append_left front behind d k (omega (arith, front_long)) ∙ get_or_append_left before written d k (omega (arith, long)) ∙ get_or-take at blocks k d below;
+      inside = λ k d below. get_or_append_left front beyond d (at + k) (omega (arith, front_long)) ∙ ap (λ n. get_or front (n + k) d) (sym long) ∙ get_or-append-add before written k d;
+      below = λ k d below. get_or_append_left front beyond d k (omega (arith, front_long)) ∙ get_or_append_left before written d k (omega (arith, long)) ∙ get_or-take at blocks k d below;
       above = λ k d below.
           let past : length front + (k - length front) ≡ k = omega (arith, front_long) in
-          ap (λ n. get_or (front ++ behind) n d) (sym past) ∙ get_or-append-add front behind (k - length front) d ∙ get_or-drop (at + length written) blocks (k - length front) d
+          ap (λ n. get_or (front ++ beyond) n d) (sym past) ∙ get_or-append-add front beyond (k - length front) d ∙ get_or-drop (at + length written) blocks (k - length front) d
           ∙ ap (λ n. get_or blocks n d) (omega (arith, front_long));
     }
 
@@ -475,9 +475,9 @@ pub found_is_listed : (extents : ℕ) (name : List ℕ) (blocks : List Block) (v
 unfolding shown
 found_is_listed extents name blocks volumes found = record { listed = shown volumes.volumes; answered = refl; shown = shown_has name blocks volumes.volumes found }
 
--- a volume behind another has another name
-behind : (name : List ℕ) (count : ℕ) (volume : Volume) (volumes : VolumeList) → Below volume.name volumes → HasLength name count volumes → HasLength name count (volume ∷ volumes)
-behind name count volume volumes below has = record { blocks = has.blocks; found = ap (λ (b : Bool). cond b (Some volume.blocks) (blocks_of name volumes)) (other_name name volume.name apart) ∙ has.found; as_long = has.as_long }
+-- a volume after another has another name
+beyond : (name : List ℕ) (count : ℕ) (volume : Volume) (volumes : VolumeList) → Below volume.name volumes → HasLength name count volumes → HasLength name count (volume ∷ volumes)
+beyond name count volume volumes below has = record { blocks = has.blocks; found = ap (λ (b : Bool). cond b (Some volume.blocks) (blocks_of name volumes)) (other_name name volume.name apart) ∙ has.found; as_long = has.as_long }
   where
     apart : name ≡ volume.name → ⊥
     apart same = none-some has.blocks (sym (none_below volume.name volumes below) ∙ ap (λ n. blocks_of n volumes) (sym same) ∙ has.found)
@@ -500,7 +500,7 @@ listed_is_found name count (volume ∷ volumes) rising (zero, within, at) =
       as_long = ap (λ (p : List ℕ × ℕ). p.1) at;
     }
 listed_is_found name count (volume ∷ volumes) rising (suc k, within, at) =
-    behind name count volume volumes rising.0 (listed_is_found name count volumes rising.1 (k, omega (arith, within), at))
+    beyond name count volume volumes rising.0 (listed_is_found name count volumes rising.1 (k, omega (arith, within), at))
 
 pub list_is_exact : (extents : ℕ) (volumes : VolumeMap) (listed : List (List ℕ × ℕ)) → AreVolumes extents volumes → reply_to extents Names volumes ≡ Volumes listed → ListsExactly volumes.volumes listed
 unfolding shown

@@ -26,7 +26,7 @@ use Rattle.superblock.specs.States.{has_rebuilding, is_missing, is_rebuilding, p
 use Rattle.superblock.specs.Tables.{incarnation_at, state_at}
 use Rattle.array_io.specs.Believed.ArrayCalls.{Answer}
 use Rattle.array_io.specs.Believed.Holds.{row_count}
-use Rattle.array_io.specs.Believed.Views.{ArrayView, EndsIt, GoesOn, HasLostOne, IsEndOf, KeepsItsState, RestsOn, StaysButForFalls}
+use Rattle.array_io.specs.Believed.Views.{ArrayView, EndsIt, GoesOn, HasLostOne, IsEndOf, KeepsItsState, RestsOn, StaysButForFailures}
 use Rattle.array_io.proofs.Marks.MarkingHolds.{incarnation_stays, missing_then, state_stays}
 use Rattle.extents.specs.TableSpelling.{Spell}
 use Rattle.extents.proofs.TableLaws.{one_table}
@@ -127,9 +127,9 @@ missing_is InSync is = absurd (cc)
 missing_is Rebuilding is = absurd (cc)
 
 -- In a call that marks at most a slot whose device is down, each slot keeps its state, or is missing for that.
-pub stays_or_falls : (old new : ArrayView) → (new.table ≡ old.table) ⊎ HasLostOne old new → (slot : ℕ) → KeepsItsState old new slot
-stays_or_falls old new (inl same) slot = record { state = inl (ap (λ (t : Table). state_at t.states slot) same) }
-stays_or_falls old new (inr lost) slot = elim (cases_eq slot lost.slot) [
+pub stays_or_fails : (old new : ArrayView) → (new.table ≡ old.table) ⊎ HasLostOne old new → (slot : ℕ) → KeepsItsState old new slot
+stays_or_fails old new (inl same) slot = record { state = inl (ap (λ (t : Table). state_at t.states slot) same) }
+stays_or_fails old new (inr lost) slot = elim (cases_eq slot lost.slot) [
   | inl one ↦ record {
     state = inr (ap new.panel.down one ∙ lost.is_down, ap (state_at new.table.states) one ∙ missing_then old.table new.table lost.slot lost.marked lost.of_set);
   }
@@ -177,8 +177,8 @@ any_more test (suc n) [] any = any
 any_more test (suc n) (state ∷ states) any = by_test (any_more test n states) (test state) any
   where
     by_test : (list_any test (take n states) ≡ true → list_any test states ≡ true) → (b : Bool) → (b || list_any test (take n states)) ≡ true → (b || list_any test states) ≡ true
-    by_test behind true any = refl
-    by_test behind false any = behind any
+    by_test beyond true any = refl
+    by_test beyond false any = beyond any
 
 -- the position is 0 where no slot of the set is rebuilding
 pub no_position : (table : Table) → has_rebuilding (set_of table).states ≡ false → table.position ≡ 0
@@ -198,25 +198,25 @@ position_left old new (inr lost) true is =
 abbrev pub made : List State → ℕ → SetState
 made states position = record { states = states; position = position }
 
--- what falls leave of a table's set
-pub falls_leave : (old new : ArrayView) → GoesOn old new → (new.table ≡ old.table) ⊎ HasLostOne old new
+-- what failures leave of a table's set
+pub failures_leave : (old new : ArrayView) → GoesOn old new → (new.table ≡ old.table) ⊎ HasLostOne old new
     → settled (devices_in old new) (set_of old.table) ≡ set_of new.table
-falls_leave old new goes table =
-    ap (λ (states : List State). made states (position_in states old.table.position)) (states_left old new goes (λ slot of_set. stays_or_falls old new table slot))
+failures_leave old new goes table =
+    ap (λ (states : List State). made states (position_in states old.table.position)) (states_left old new goes (λ slot of_set. stays_or_fails old new table slot))
     ∙ ap (made (set_of new.table).states) (position_left old new table (has_rebuilding (set_of new.table).states) refl)
 
-set_is_left : (honest : Type 0) (command : Command) (old new : StoreView) (reply : Reply) (ended : Type 0) → GoesOn old.array new.array → StaysButForFalls honest old.array new.array ended
+set_is_left : (honest : Type 0) (command : Command) (old new : StoreView) (reply : Reply) (ended : Type 0) → GoesOn old.array new.array → StaysButForFailures honest old.array new.array ended
     → ¬ ended → SetIsLeft honest (OnVolumes command) old new reply
 set_is_left honest command old new reply ended goes stays unended = record {
   devices = devices_in old.array new.array;
   are = record {
-    fell = λ fair slot of_set fell. and_from (is_missing (state_at new.array.table.states slot)) (new.array.panel.down slot) (ap is_missing (stays.fallen fair unended slot of_set fell)) fell.is_down;
+    failed = λ fair slot of_set failed. and_from (is_missing (state_at new.array.table.states slot)) (new.array.panel.down slot) (ap is_missing (stays.failure fair unended slot of_set failed)) failed.is_down;
     is_down = λ slot of_set fault. (and_parts (is_missing (state_at new.array.table.states slot)) (new.array.panel.down slot) fault).1;
     unusable = λ slot of_set. refl;
     rows = refl;
     unsound = λ fair. are_unsound old.array.table (readable new.array.history);
   };
-  left = sym (falls_leave old.array new.array goes stays.table);
+  left = sym (failures_leave old.array new.array goes stays.table);
 }
 
 -- a slot that was in sync is so still, or its device is down
@@ -396,7 +396,7 @@ done_with_volumes honest command entries passes leaves old new reply whole few g
     goes_on = changes.goes_on;
     generation = generation_left old.array new.array changes.stays.table;
     incarnations = incarnations_left (OnVolumes command) old.array new.array changes.stays.table;
-    spared = λ slot of_set in_sync kept. slot_spared old.array new.array slot (stays_or_falls old.array new.array changes.stays.table slot) in_sync;
+    spared = λ slot of_set in_sync kept. slot_spared old.array new.array slot (stays_or_fails old.array new.array changes.stays.table slot) in_sync;
     set_left = λ unended. set_is_left honest command old new reply ⊥ changes.goes_on changes.stays (λ e. e);
     ends = λ other is ends. absurd (not_refused command reply other kind is);
     goes = λ unended. goes;
@@ -426,7 +426,7 @@ ended_with_volumes honest command entries passes leaves old new refusal whole fe
     goes_on = changes.goes_on;
     generation = generation_left old.array new.array changes.stays.table;
     incarnations = incarnations_left (OnVolumes command) old.array new.array changes.stays.table;
-    spared = λ slot of_set in_sync kept. slot_spared old.array new.array slot (stays_or_falls old.array new.array changes.stays.table slot) in_sync;
+    spared = λ slot of_set in_sync kept. slot_spared old.array new.array slot (stays_or_fails old.array new.array changes.stays.table slot) in_sync;
     set_left = λ unended. absurd (unended it_ends);
     ends = λ other is ends. subst (λ (r : Refusal). (new.ended ≡ Some r) × IsEndOf old.array new.array (IsCounterFull (OnVolumes command) old.array new.array) r) (same_refusal refusal other is)
         (ended, end_more command entries old.array new.array refusal few (changes.cause refusal refl));

@@ -47,7 +47,7 @@ unused_may_change extents before left volumes shows same_table same =
       table = table;
       of_version = shows.of_version;
       spelled = subst (λ (v : ℕ). take (table_length v) left ≡ take (table_length v) before) (sym shows.of_version) same_table ∙ shows.spelled;
-      free_behind = shows.free_behind;
+      free_beyond = shows.free_beyond;
       shown = record {
         used = λ number entry used. stands_still table.extents before left volumes.volumes number entry (same number entry used) (shows.shown.used number entry used);
         all = shows.shown.all;
@@ -116,13 +116,13 @@ pub put_is_shown : (extents : ℕ) (before left : List Block) (volumes : VolumeM
     → IsRecordOf EXTENT_SECTORS table.records table.extents left number new
     → ((entry : Record) → record_of shows.table.records number ≡ Some entry → entry.name.bytes.items ≡ new.name)
     → Shows extents left (with_list (with_volume new volumes.volumes) volumes)
-put_is_shown extents before left volumes new table number shows limits spelled of_version free_behind changes is_of was_named =
+put_is_shown extents before left volumes new table number shows limits spelled of_version free_beyond changes is_of was_named =
     record {
       limits = limits;
       table = table;
       of_version = of_version;
       spelled = spelled;
-      free_behind = free_behind;
+      free_beyond = free_beyond;
       shown = put_is_shown_by shows.table.records table.records shows.table.extents table.extents before left volumes.volumes new number shows.shown (distinct_names table.version table.records table.extents table.is_table) changes is_of was_named;
     }
 
@@ -159,13 +159,13 @@ pub removal_is_shown : (extents : ℕ) (before left : List Block) (volumes : Vol
     → ChangesOneRecord EXTENT_SECTORS shows.table.records table.records shows.table.extents table.extents before left number
     → record_of shows.table.records number ≡ Some entry → record_of table.records number ≡ None
     → Shows extents left (with_list (without entry.name.bytes.items volumes.volumes) volumes)
-removal_is_shown extents before left volumes table number entry shows limits spelled of_version free_behind changes used free =
+removal_is_shown extents before left volumes table number entry shows limits spelled of_version free_beyond changes used free =
     record {
       limits = limits;
       table = table;
       of_version = of_version;
       spelled = spelled;
-      free_behind = free_behind;
+      free_beyond = free_beyond;
       shown = removal_is_shown_by shows.table.records table.records shows.table.extents table.extents before left volumes.volumes number entry shows.shown (distinct_names shows.table.version shows.table.records shows.table.extents shows.table.is_table) changes used free;
     }
 
@@ -177,11 +177,11 @@ pub create_is_shown : (extents : ℕ) (before left : List Block) (volumes : Volu
     → IsRecordOf EXTENT_SECTORS table.records table.extents left number (record { name = name; blocks = zero_blocks count })
     → record_of shows.table.records number ≡ None
     → Shows extents left (volumes_after extents (Create name count) volumes)
-create_is_shown extents before left volumes name count table number shows replied spelled of_version free_behind changes is_of unused =
+create_is_shown extents before left volumes name count table number shows replied spelled of_version free_beyond changes is_of unused =
     let same = changed_if_done extents (Create name count) volumes (done_if_not_refused (refusal_of extents (Create name count) volumes) Done replied) in
     let limits = step_keeps extents (Create name count) volumes tt shows.limits in
     subst (Shows extents left) (sym same)
-    (put_is_shown extents before left volumes (record { name = name; blocks = zero_blocks count }) table number shows (subst (AreVolumes extents) same limits) spelled of_version free_behind changes is_of
+    (put_is_shown extents before left volumes (record { name = name; blocks = zero_blocks count }) table number shows (subst (AreVolumes extents) same limits) spelled of_version free_beyond changes is_of
     (λ entry used. absurd (none-some entry (sym unused ∙ used))))
 
 pub extend_is_shown : (extents : ℕ) (before left : List Block) (volumes : VolumeMap) (growth : ℕ) (table : VolumeTable) (number : ℕ) (entry : Record) (shows : Shows extents before volumes)
@@ -191,12 +191,12 @@ pub extend_is_shown : (extents : ℕ) (before left : List Block) (volumes : Volu
     → ChangesOneRecord EXTENT_SECTORS shows.table.records table.records shows.table.extents table.extents before left number
     → IsRecordOf EXTENT_SECTORS table.records table.extents left number (record { name = entry.name.bytes.items; blocks = blocks_in entry.name.bytes.items volumes.volumes ++ zero_blocks growth })
     → Shows extents left (volumes_after extents (Extend entry.name.bytes.items growth) volumes)
-extend_is_shown extents before left volumes growth table number entry shows used replied spelled of_version free_behind changes is_of =
+extend_is_shown extents before left volumes growth table number entry shows used replied spelled of_version free_beyond changes is_of =
     let name = entry.name.bytes.items in
     let same = changed_if_done extents (Extend name growth) volumes (done_if_not_refused (refusal_of extents (Extend name growth) volumes) Done replied) in
     let limits = step_keeps extents (Extend name growth) volumes tt shows.limits in
     subst (Shows extents left) (sym same)
-    (put_is_shown extents before left volumes (record { name = name; blocks = blocks_in name volumes.volumes ++ zero_blocks growth }) table number shows (subst (AreVolumes extents) same limits) spelled of_version free_behind changes is_of
+    (put_is_shown extents before left volumes (record { name = name; blocks = blocks_in name volumes.volumes ++ zero_blocks growth }) table number shows (subst (AreVolumes extents) same limits) spelled of_version free_beyond changes is_of
     (λ other other_used. ap (λ (r : Record). r.name.bytes.items) (same_Some other entry (sym other_used ∙ used))))
 
 pub remove_is_shown : (extents : ℕ) (before left : List Block) (volumes : VolumeMap) (table : VolumeTable) (number : ℕ) (entry : Record) (shows : Shows extents before volumes)
@@ -206,12 +206,12 @@ pub remove_is_shown : (extents : ℕ) (before left : List Block) (volumes : Volu
     → ChangesOneRecord EXTENT_SECTORS shows.table.records table.records shows.table.extents table.extents before left number
     → record_of table.records number ≡ None
     → Shows extents left (volumes_after extents (Remove entry.name.bytes.items) volumes)
-remove_is_shown extents before left volumes table number entry shows used replied spelled of_version free_behind changes free =
+remove_is_shown extents before left volumes table number entry shows used replied spelled of_version free_beyond changes free =
     let name = entry.name.bytes.items in
     let same = changed_if_done extents (Remove name) volumes (done_if_not_refused (refusal_of extents (Remove name) volumes) Done replied) in
     let limits = step_keeps extents (Remove name) volumes tt shows.limits in
     subst (Shows extents left) (sym same)
-    (removal_is_shown extents before left volumes table number entry shows (subst (AreVolumes extents) same limits) spelled of_version free_behind changes used free)
+    (removal_is_shown extents before left volumes table number entry shows (subst (AreVolumes extents) same limits) spelled of_version free_beyond changes used free)
 
 -- ---- a rename
 
@@ -275,7 +275,7 @@ pub rename_is_shown : (extents : ℕ) (before left : List Block) (volumes : Volu
     → ((extent : ℕ) → owner_of table.extents extent ≡ owner_of shows.table.extents extent)
     → ((sector : ℕ) → table_length volumes.version ≤ sector → get_or left sector [] ≡ get_or before sector [])
     → Shows extents left (volumes_after extents (Rename entry.name.bytes.items name) volumes)
-rename_is_shown extents before left volumes name table number entry shows used replied spelled of_version changes same_owner behind =
+rename_is_shown extents before left volumes name table number entry shows used replied spelled of_version changes same_owner beyond =
     let old = entry.name.bytes.items in
     let was = shows.table in
     let same = changed_if_done extents (Rename old name) volumes (done_if_not_refused (refusal_of extents (Rename old name) volumes) Done replied) in
@@ -285,10 +285,10 @@ rename_is_shown extents before left volumes name table number entry shows used r
       table = table;
       of_version = of_version;
       spelled = spelled;
-      free_behind = λ extent above. same_owner extent ∙ shows.free_behind extent above;
+      free_beyond = λ extent above. same_owner extent ∙ shows.free_beyond extent above;
       shown = renaming_is_shown_by was.records table.records was.extents table.extents before left volumes.volumes number entry name shows.shown
           (distinct_names was.version was.records was.extents was.is_table) (distinct_names table.version table.records table.extents table.is_table) used changes same_owner
-          (λ extent j. behind (sector_of_block EXTENT_SECTORS extent j) (omega (arith, table_short volumes.version)));
+          (λ extent j. beyond (sector_of_block EXTENT_SECTORS extent j) (omega (arith, table_short volumes.version)));
     } in
     subst (Shows extents left) (sym same) after
 
@@ -316,13 +316,13 @@ pub upgrade_is_shown : (extents : ℕ) (before left : List Block) (volumes : Vol
     → Spell left table → table.version ≡ LAST_VERSION → table.records ≡ shows.table.records → table.extents ≡ shows.table.extents
     → ((sector : ℕ) → table_length LAST_VERSION ≤ sector → get_or left sector [] ≡ get_or before sector [])
     → Shows extents left (volumes_after extents Upgrade volumes)
-upgrade_is_shown extents before left volumes table shows spelled of_version same_records same_extents behind =
+upgrade_is_shown extents before left volumes table shows spelled of_version same_records same_extents beyond =
     record {
       limits = limits_later extents volumes shows.limits;
       table = table;
       of_version = of_version;
       spelled = spelled;
-      free_behind = λ extent above. ap (λ (its : List (Option Owned)). owner_of its extent) same_extents ∙ shows.free_behind extent above;
+      free_beyond = λ extent above. ap (λ (its : List (Option Owned)). owner_of its extent) same_extents ∙ shows.free_beyond extent above;
       shown = subst (λ (records : List (Option Record)). AreShown EXTENT_SECTORS records table.extents left volumes.volumes) (sym same_records)
           (subst (λ (owners : List (Option Owned)). AreShown EXTENT_SECTORS shows.table.records owners left volumes.volumes) (sym same_extents) still_shown);
     }
@@ -331,6 +331,6 @@ upgrade_is_shown extents before left volumes table shows spelled of_version same
     still_shown = record {
       used = λ number entry used.
           stands_still shows.table.extents before left volumes.volumes number entry
-          (λ j extent below at. behind (sector_of_block EXTENT_SECTORS extent j) (omega (arith, table_short LAST_VERSION))) (shows.shown.used number entry used);
+          (λ j extent below at. beyond (sector_of_block EXTENT_SECTORS extent j) (omega (arith, table_short LAST_VERSION))) (shows.shown.used number entry used);
       all = shows.shown.all;
     }

@@ -36,7 +36,7 @@ pub kept_upgraded : (geometry now : Geometry) (old new : VolumeTable) (owners : 
     → AreKept (extents_in now) new owners
 kept_upgraded geometry now old new owners same is kept = subst (λ (g : Geometry). AreKept (extents_in g) new owners) (sym same) record {
   same = kept.same ∙ ap (λ (those : List (Option Owned)). take (extents_in geometry) those) (sym is.extents);
-  free_behind = λ extent past. ap (λ (those : List (Option Owned)). owner_of those extent) is.extents ∙ kept.free_behind extent past;
+  free_beyond = λ extent past. ap (λ (those : List (Option Owned)). owner_of those extent) is.extents ∙ kept.free_beyond extent past;
 }
 
 -- the list that has it shows the same volumes, with the new version
@@ -45,7 +45,7 @@ upgraded_is_shown : (extents : ℕ) (old new : VolumeTable) (V W : List Block) (
 upgraded_is_shown extents old new V W volumes is by has =
     let after : Shows extents W (done Upgrade volumes) =
     upgrade_is_shown extents V W volumes new by.shows has.spelled is.version (is.records ∙ ap (λ (t : VolumeTable). t.records) (sym by.by)) (is.extents ∙ ap (λ (t : VolumeTable). t.extents) (sym by.by))
-    (λ sector past. has.behind sector (subst (λ (v : ℕ). table_length v ≤ sector) (sym is.version) past)) in
+    (λ sector past. has.beyond sector (subst (λ (v : ℕ). table_length v ≤ sector) (sym is.version) past)) in
     record { shows = after; by = one_table W after.table new after.spelled has.spelled }
 
 -- An upgrade, by its one call.

@@ -41,9 +41,9 @@ module _ (owners : List (Option Owned)) (number first last sector : ℕ) where
               let its_place : owned.place ≡ is.block / EXTENT_SECTORS = ap (λ (o : Owned). o.place) (owned_is owned at is) in
               omega (arith, before, its_place, is.is, is.least))
           | inr least ↦ elim (cases_lt block last) [
-            | inr behind ↦ inr (λ is.
+            | inr beyond ↦ inr (λ is.
                 let its_place : owned.place ≡ is.block / EXTENT_SECTORS = ap (λ (o : Owned). o.place) (owned_is owned at is) in
-                omega (arith, behind, its_place, is.is, is.most))
+                omega (arith, beyond, its_place, is.is, is.most))
             | inl most ↦ inl record {
               block = block;
               extent = place;
@@ -70,7 +70,7 @@ module _ (owners : List (Option Owned)) (number first last sector : ℕ) where
 abbrev pub AreZero : List Block → ℕ → Type 0
 AreZero blocks count = blocks ≡ replicate count zero_block
 
--- zeros were written behind those that are zero already
+-- zeros were written after those that are zero already
 module _ (owners : List (Option Owned)) (number first at count : ℕ) (blocks V U W : List Block) (zeros : AreZero blocks count)
     (zeroed : IsZeroed EXTENT_SECTORS owners number first at V U) (written : IsWrittenAt EXTENT_SECTORS owners number at blocks U W) where
   as_many : length blocks ≡ count

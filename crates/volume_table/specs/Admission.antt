@@ -81,4 +81,4 @@ pub record MayRename (version : ℕ) (records : List (Option Record)) (number : 
 -- a store's map of extents is that of its table, of a set with so many
 pub record AreKept (extents : ℕ) (table : VolumeTable) (owners : List (Option Owned)) : Type 0 where
   pub same : owners ≡ take extents table.extents
-  pub free_behind : (extent : ℕ) → extents ≤ extent → owner_of table.extents extent ≡ None
+  pub free_beyond : (extent : ℕ) → extents ≤ extent → owner_of table.extents extent ≡ None

@@ -37,7 +37,7 @@ reply_of (answering.Progress progress) = Progressed (progress_by progress)
 reply_of (answering.Scrubbed report) = Scrubbed report.rows report.bad report.first_bad
 reply_of (answering.Refused refusal) = Refused refusal
 
--- an event that is done, and leaves the store open, gets its ack behind those that were there
+-- an event that is done, and leaves the store open, gets its ack after those that were there
 pub record IsAcknowledged (honest : Type 0) (event : Event) (old new : StoreView) (acks_before acks_after : List ℕ) : Type 0 where
   pub reply : Reply
   pub applies : Applies honest event old new reply

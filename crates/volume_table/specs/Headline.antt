@@ -4,12 +4,12 @@ use Rattle.sector_model.specs.declared.refusal.Refusal.TheVariants.{TwoLost, Wor
 use Rattle.sector_model.specs.Bank.{Panel}
 use Rattle.layout_map.specs.declared.geometry.Geometry.{Geometry}
 use Rattle.superblock.specs.Cases.{Lost}
-use Rattle.superblock.specs.Losses.{IsOneLoss}
+use Rattle.superblock.specs.Losses.{IsSingleFailure}
 use Rattle.superblock.specs.NextTables.{IsComplete, slots_of}
 use Rattle.array_io.specs.Believed.Holds.{row_count}
 use Rattle.array_io.specs.Believed.Views.{ArrayView}
 use Rattle.recovery.specs.Making as recovery
-use Rattle.recovery.specs.Making.{BankView, IsQuietBehind, Makes}
+use Rattle.recovery.specs.Making.{BankView, IsQuietBeyond, Makes}
 use Rattle.recovery.specs.Assembling.{IsNoAssembly}
 use Rattle.volume_table.specs.Volumes.{VolumeMap, no_volumes}
 use Rattle.volume_table.specs.VolumeStep.{Event, OnSet, OnVolumes, Refused, Reply, Scrub, Scrubbed, after, left_by, reply_to}
@@ -46,12 +46,12 @@ AreRight extents volumes (then_done mid event reply done rest) = IsRight extents
 -- with one slot lost at most, assembling is refused only where a counter stands at 2^62
 abbrev pub IsAssembledUnlessWorn : List ℕ → (slots : ℕ) → Option Lost → BankView → recovery.Outcome → Type 0
 IsAssembledUnlessWorn id slots lost old (recovery.Opened array) = Unit {0}
-IsAssembledUnlessWorn id slots lost old (recovery.Returned bank refusal) = IsOneLoss slots lost bank.history → (refusal ≡ Worn) × IsNoAssembly id old bank Worn
+IsAssembledUnlessWorn id slots lost old (recovery.Returned bank refusal) = IsSingleFailure slots lost bank.history → (refusal ≡ Worn) × IsNoAssembly id old bank Worn
 
 -- and so is opening
 abbrev pub IsOpenedUnlessWorn : (slots : ℕ) → Option Lost → ArrayView → Outcome → Type 0
 IsOpenedUnlessWorn slots lost array (Opened store) = Unit {0}
-IsOpenedUnlessWorn slots lost array (Returned bank refusal) = IsOneLoss slots lost bank.history → (refusal ≡ Worn) × IsNoOpening (Unit {0}) array bank Worn
+IsOpenedUnlessWorn slots lost array (Returned bank refusal) = IsSingleFailure slots lost bank.history → (refusal ≡ Worn) × IsNoOpening (Unit {0}) array bank Worn
 
 -- The store was opened with volumes after a prefix, with every acknowledged event, of the events before; and all events were answered rightly.
 pub record IsServed {slots : ℕ} {events : List Event} {replies : List Reply} {first serving : Serving} (extents : ℕ) (before : Before) (does : Does slots events replies first serving)
@@ -62,19 +62,19 @@ pub record IsServed {slots : ℕ} {events : List Event} {replies : List Reply} {
 
 -- A session keeps the promise, and what comes after it by what then went before.
 abbrev pub SessionKeeps : (extents slots : ℕ) → Before → {array : ArrayView} {fate : Fate} {left : World} → Session slots array fate left → (Before → Type 0) → Type 0
-SessionKeeps extents slots before (unopened stops) later = later before
-SessionKeeps extents slots before {array = array} {fate = fate} (in_opening outcome opens true_to stops) later =
+SessionKeeps extents slots before (unopened crashes) later = later before
+SessionKeeps extents slots before {array = array} {fate = fate} (in_opening outcome opens true_to crashes) later =
     IsOpenedUnlessWorn slots fate.lost array outcome × later before
-SessionKeeps extents slots before (between_events first serving events replies opened does stops) later =
+SessionKeeps extents slots before (between_events first serving events replies opened does crashes) later =
     (volumes : VolumeMap) × IsServed extents before does volumes
     × later (record { volumes = volumes; events = events; acknowledged = length events })
-SessionKeeps extents slots before (in_event first serving events replies event store reply opened does applies true_to stops) later =
+SessionKeeps extents slots before (in_event first serving events replies event store reply opened does applies true_to crashes) later =
     (volumes : VolumeMap) × IsServed extents before does volumes
-    × (IsOneLoss slots (lost_in event serving.store.array.table serving.fate.lost) store.array.history → reply ≢ Refused TwoLost)
+    × (IsSingleFailure slots (lost_in event serving.store.array.table serving.fate.lost) store.array.history → reply ≢ Refused TwoLost)
     × later (record { volumes = volumes; events = events ++ event ∷ []; acknowledged = length events })
 
 abbrev pub RunKeeps : (id : List ℕ) (extents slots : ℕ) → Before → {panel : Panel} {world left : World} → Run id slots panel world left → (Before → Type 0) → Type 0
-RunKeeps id extents slots before {panel = panel} {world = world} (in_assembling outcome assembles stops) later =
+RunKeeps id extents slots before {panel = panel} {world = world} (in_assembling outcome assembles crashes) later =
     IsAssembledUnlessWorn id slots world.fate.lost (begun_with panel world.image) outcome × later before
 RunKeeps id extents slots before (assembled array fate is session) later = SessionKeeps extents slots before session later
 
@@ -92,10 +92,10 @@ nothing_before = record { volumes = no_volumes; events = []; acknowledged = 0 }
 abbrev pub nothing_lost : Fate
 nothing_lost = record { lost = None; replaced = [] }
 
--- The theorem: from a set that `make` has answered, whatever is done with it until a stop, and in all runs after that.
+-- The theorem: from a set that `make` has answered, whatever is done with it until a crash, and in all runs after that.
 abbrev pub Headline : Type 0
 Headline = (id : List ℕ) (geometry : Geometry) (bank : BankView) (array : ArrayView) (left : World)
-    → Makes (Unit {0}) id geometry bank (recovery.Opened array) → IsQuietBehind id (geometry.members + 2) bank
+    → Makes (Unit {0}) id geometry bank (recovery.Opened array) → IsQuietBeyond id (geometry.members + 2) bank
     → (session : Session (slots_of array.table) array nothing_lost left)
     → (runs : Runs array.table.id array.panel.devices (slots_of array.table) left)
     → ∥ SessionKeeps (extents_in array.table.geometry) (slots_of array.table) nothing_before session

@@ -144,7 +144,7 @@ AfterOneMore = (extents : ℕ) (events : List Event) (volumes : VolumeMap) (n : 
 abbrev pub AfterInParts : Type 0
 AfterInParts = (extents : ℕ) (events : List Event) (volumes : VolumeMap) (m n : ℕ) → after extents events volumes (m + n) ≡ after extents (drop m events) (after extents events volumes m) n
 
--- the events behind the first n count for nothing
+-- the events after the first n count for nothing
 abbrev pub AfterOfPrefix : Type 0
 AfterOfPrefix = (extents : ℕ) (events : List Event) (volumes : VolumeMap) (m n : ℕ) → n ≤ m → after extents (take m events) volumes n ≡ after extents events volumes n
 

@@ -9,7 +9,7 @@ use Rattle.superblock.specs.Losses.{IsLostAt}
 use Rattle.superblock.specs.NextTables.{slots_of}
 use Rattle.array_io.specs.Believed.ArrayCalls.{Answer}
 use Rattle.array_io.specs.Believed.Holds.{Holds}
-use Rattle.array_io.specs.Believed.Views.{ArrayView, GoesOn, HasEnded, IsEndOf, RestsAfter, RestsOn, StaysButForFalls}
+use Rattle.array_io.specs.Believed.Views.{ArrayView, GoesOn, HasEnded, IsEndOf, RestsAfter, RestsOn, StaysButForFailures}
 use Rattle.sector_model.specs.declared.calls.TheConstants.{GREATEST_COUNT}
 
 -- a kind of logical lists
@@ -26,7 +26,7 @@ pub record HoldsForSome (base : Table) (devices : ℕ) (case : Case) (kind : Kin
   pub holds : Holds base devices case lists
   pub each : (logical : List Bytes) → Contains lists logical → kind logical
 
--- every case that a stop now may leave does
+-- every case that a crash now may leave does
 abbrev pub HoldsForSomeNow : (base : Table) (devices : ℕ) (before : Option Lost) → Kind → History → Type 0
 HoldsForSomeNow base devices before kind h = (after : Option Lost) (image : Slots) → IsLostAt (slots_of base) before h after
     → MayLeave h image → HoldsForSome base devices record { image = image; lost = after } kind
@@ -45,7 +45,7 @@ IsNumberFull entries old new = (GREATEST_COUNT ≤ old.number + entries) × (GRE
 -- on one that differs as `leaves` says. 15, 16.
 pub record ChangesList (honest : Type 0) (entries : ℕ) (passes leaves : Change) (old new : ArrayView) (answer : Answer) : Type 0 where
   pub goes_on : GoesOn old new
-  pub stays : StaysButForFalls honest old new (HasEnded answer)
+  pub stays : StaysButForFailures honest old new (HasEnded answer)
   pub number : answer ≡ Ok tt → new.number ≤ old.number + entries
   pub moments : honest → (lost : Option Lost) (V : List Bytes) → RestsOn old lost V
       → Throughout (HoldsForSomeNow old.table old.panel.devices lost (passes V)) old.history new.history

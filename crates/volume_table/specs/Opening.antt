@@ -5,11 +5,11 @@ use Rattle.sector_model.specs.declared.refusal.Refusal.TheVariants.{BadTable, Tw
 use Rattle.sector_model.specs.Bank.{IsLater, Panel}
 use Rattle.sector_model.specs.History.{Bytes, History}
 use Rattle.superblock.specs.Cases.{Lost}
-use Rattle.array_io.specs.Believed.Views.{ArrayView, GoesOn, IsEndOf, RestsOn, StaysButForFalls}
+use Rattle.array_io.specs.Believed.Views.{ArrayView, GoesOn, IsEndOf, RestsOn, StaysButForFailures}
 use Rattle.extents.specs.declared.volume_table.VolumeTable.{VolumeTable}
 use Rattle.extents.specs.Owners.{owner_of}
 use Rattle.extents.specs.TableSpelling.{Spell}
-use Rattle.array_io.specs.Believed.ReadWhole.{NoneFell, list_read}
+use Rattle.array_io.specs.Believed.ReadWhole.{NoDeviceFailed, list_read}
 use Rattle.recovery.specs.Making.{BankView}
 use Rattle.volume_table.specs.Volumes.{VolumeMap}
 use Rattle.volume_table.specs.Shows.{Shows}
@@ -46,12 +46,12 @@ pub record WasGivenUp (honest : Type 0) (old : ArrayView) (bank : BankView) (ref
   pub panel : array.panel ≡ bank.panel
   pub history : array.history ≡ bank.history
   pub goes_on : GoesOn old array
-  pub stays : StaysButForFalls honest old array (Unit {0})
+  pub stays : StaysButForFailures honest old array (Unit {0})
   pub ends : IsEndOf old array ⊥ refusal
 
 -- why opening was refused
 abbrev pub IsNoOpening : Type 0 → ArrayView → BankView → Refusal → Type 0
-IsNoOpening honest old bank BadTable = (honest → ShowsNothing old) × (honest → NoneFell old.panel bank.panel → SpellsNoTable old)
+IsNoOpening honest old bank BadTable = (honest → ShowsNothing old) × (honest → NoDeviceFailed old.panel bank.panel → SpellsNoTable old)
 IsNoOpening honest old bank TwoLost = WasGivenUp honest old bank TwoLost
 IsNoOpening honest old bank Worn = WasGivenUp honest old bank Worn
 IsNoOpening honest old bank refusal = ⊥
@@ -61,7 +61,7 @@ pub record Opens (honest : Type 0) (old : ArrayView) (outcome : Outcome) : Type 
   pub later : IsLater old.panel (bank_after outcome).panel
   pub going : (store : StoreView) → outcome ≡ Opened store → store.ended ≡ None
   pub goes_on : (store : StoreView) → outcome ≡ Opened store → GoesOn old store.array
-  pub stays : (store : StoreView) → outcome ≡ Opened store → StaysButForFalls honest old store.array ⊥
+  pub stays : (store : StoreView) → outcome ≡ Opened store → StaysButForFailures honest old store.array ⊥
   pub moments : honest → (lost : Option Lost) (V : List Bytes) (volumes : VolumeMap) → RestsOn old lost V → Shows (extents_in old.table.geometry) V volumes
       → StandsThroughout old.table old.panel.devices lost (volumes ∷ []) old.history (bank_after outcome).history
   pub settled : honest → (lost : Option Lost) (V : List Bytes) (volumes : VolumeMap) → RestsOn old lost V → Shows (extents_in old.table.geometry) V volumes

@@ -1,11 +1,11 @@
--- What becomes of the rebuild of a member: it goes on after a stop from where it was, and it ends after so many steps.
+-- What becomes of the rebuild of a member: it goes on after a crash from where it was, and it ends after so many steps.
 use Rattle.std.specs.Prelude.{◌≡◌, ◌≢◌, ℕ, ◌+◌, ◌*◌, ◌<◌, false, List, [], ◌∷◌, Option, None}
 use Rattle.sector_model.specs.declared.refusal.Refusal.TheVariants.{Worn}
 use Rattle.sector_model.specs.Bank.{Panel}
 use Rattle.sector_model.specs.History.{MayLeave, Slots, is_down}
 use Rattle.superblock.specs.declared.table.Table.{Table}
 use Rattle.superblock.specs.Cases.{Lost}
-use Rattle.superblock.specs.Losses.{IsOneLoss}
+use Rattle.superblock.specs.Losses.{IsSingleFailure}
 use Rattle.superblock.specs.NextTables.{IsComplete, slots_of}
 use Rattle.array_io.specs.Believed.Holds.{row_count}
 use Rattle.array_io.specs.Believed.Views.{ArrayView}
@@ -21,21 +21,21 @@ use Rattle.volume_table.specs.StoreFunctions.{Chain, none_done, then_done}
 use Rattle.volume_table.specs.Runs.{begun_with}
 use Rattle.rebuild.specs.declared.stepping.TheConstants.{MOST_ROWS}
 
--- A store was stopped, and its set is assembled from an image that the stop may leave, with one slot lost at most.
+-- A store crashed, and its set is assembled from an image that the crash may leave, with one slot lost at most.
 pub record IsAssembledAgain (store : StoreView) (lost : Option Lost) (array : ArrayView) : Type 0 where
   pub image : Slots
   pub panel : Panel
   pub left : MayLeave store.array.history image
   pub as_many_slots : panel.devices ≡ store.array.panel.devices
   pub assembles : Assembles (Unit {0}) store.array.table.id (begun_with panel image) (Opened array)
-  pub one_loss : IsOneLoss (slots_of store.array.table) lost array.history
+  pub single_failure : IsSingleFailure (slots_of store.array.table) lost array.history
 
 -- the member that was rebuilding by the old table is so by the new one, so many rows further
 pub record IsRebuildingOn (member rows : ℕ) (old new : Table) : Type 0 where
   pub still : IsRebuilding new member
   pub position : new.position ≡ old.position + rows
 
--- A rebuild resumes: where a settled store is stopped, by whose table a member is rebuilding, and its set is assembled
+-- A rebuild resumes: where a settled store crashes, by whose table a member is rebuilding, and its set is assembled
 -- with the device of that member up at the return, the member is rebuilding at the same position.
 abbrev pub RebuildResumes : Type 0
 RebuildResumes = (store : StoreView) (lost : Option Lost) (volumes : VolumeMap) (array : ArrayView) (member : ℕ)

@@ -26,22 +26,22 @@ ChainKeepsVolumes = (events : List Event) (acks : List ℕ) (old new : StoreView
     → (lost : Option Lost) (volumes : VolumeMap) → IsSettledOn old lost volumes
     → (length acks ≡ length events) × IsSettledAfterEvents (extents_for_store old) chain lost volumes
 
--- each case that a stop in an event may leave stands for the volumes after the events before it, or for those after it too
+-- each case that a crash in an event may leave stands for the volumes after the events before it, or for those after it too
 abbrev pub StandsOneMore : ℕ → List Event → Event → (old new : StoreView) → Option Lost → VolumeMap → Type 0
 StandsOneMore extents done event old new lost before = StandsThroughout old.array.table old.array.panel.devices (lost_in event old.array.table lost)
     (after extents done before (length done) ∷ left_by extents event (after extents done before (length done)) ∷ [])
     old.array.history new.array.history
 
--- One of the events of a chain, with those before it and those behind it: while it is done, each case that a stop may leave stands for the
+-- One of the events of a chain, with those before it and those after it: while it is done, each case that a crash may leave stands for the
 -- volumes before it or for those after it.
 pub record StandsInEvent (extents : ℕ) (done : List Event) (event : Event) (undone : List Event) (acks : List ℕ) (old new : StoreView) (first : Option Lost) (before : VolumeMap) : Type 0 where
   pub mid : StoreView
   pub next : StoreView
   pub acks_before : List ℕ
-  pub acks_behind : List ℕ
+  pub acks_after : List ℕ
   pub those_before : Chain (Unit {0}) done acks_before old mid
-  pub those_behind : Chain (Unit {0}) undone acks_behind next new
-  pub acknowledged : acks ≡ acks_before ++ next.array.panel.calls ∷ acks_behind
+  pub those_after : Chain (Unit {0}) undone acks_after next new
+  pub acknowledged : acks ≡ acks_before ++ next.array.panel.calls ∷ acks_after
   pub as_many : length acks_before ≡ length done
   pub there : IsSettledAfterEvents extents those_before first before
   pub stands : StandsOneMore extents done event mid next there.lost before
@@ -52,7 +52,7 @@ EachEventStands = (done : List Event) (event : Event) (undone : List Event) (ack
     → Chain (Unit {0}) (done ++ event ∷ undone) acks old new → (lost : Option Lost) (volumes : VolumeMap) → IsSettledOn old lost volumes
     → StandsInEvent (extents_for_store old) done event undone acks old new lost volumes
 
--- and for one that ends the run, or in which the stop comes, behind those that were done
+-- and for one that ends the run, or in which the crash comes, after those that were done
 abbrev pub LastEventStands : Type 0
 LastEventStands = (done : List Event) (event : Event) (acks : List ℕ) (old mid new : StoreView) (reply : Reply) → (chain : Chain (Unit {0}) done acks old mid)
     → Applies (Unit {0}) event mid new reply → (lost : Option Lost) (volumes : VolumeMap) → IsSettledOn old lost volumes

@@ -1,10 +1,10 @@
--- Runs of a set, one after another: each begins with what the one before left, and ends with a stop.
+-- Runs of a set, one after another: each begins with what the one before left, and ends with a crash.
 use Rattle.std.specs.Prelude.{◌≡◌, ℕ, ◌≤◌, List, [], ◌∷◌, ◌++◌, map, Option, Some, None}
 use Rattle.sector_model.specs.Bank.{IsTrueTo, Panel}
 use Rattle.sector_model.specs.History.{Began, History, MayLeave, Slots, calls_of, cut_at}
 use Rattle.superblock.specs.declared.table.Table.{Table}
 use Rattle.superblock.specs.Cases.{Case, IsLostAfter, Lost}
-use Rattle.superblock.specs.Losses.{IsLostAt, IsOneLoss}
+use Rattle.superblock.specs.Losses.{IsLostAt, IsSingleFailure}
 use Rattle.array_io.specs.Believed.DeviceRules.{MayBegin, Replaced}
 use Rattle.array_io.specs.Believed.Views.{ArrayView}
 use Rattle.recovery.specs.Making as recovery
@@ -28,7 +28,7 @@ replaced_by before after = []
 
 -- A call of a set returned: one slot is lost at most, by what was lost during the call; and from now on the slot that the set's table lacks.
 pub record GoesOver (slots : ℕ) (during : Option Lost) (old : Fate) (table : Table) (h : History) (new : Fate) : Type 0 where
-  pub one_loss : IsOneLoss slots during h
+  pub single_failure : IsSingleFailure slots during h
   pub lost : IsLostAfter during table new.lost
   pub replaced : new.replaced ≡ replaced_by during new.lost ++ old.replaced
 
@@ -40,8 +40,8 @@ pub record World : Type 0 where
 abbrev pub case_of : World → Case
 case_of world = record { image = world.image; lost = world.fate.lost }
 
--- A stop comes in a call, after so many device calls, with one slot lost at most, and leaves one of the images that it may leave.
-pub record Stops (slots : ℕ) (during : Option Lost) (fate : Fate) (old new : History) (left : World) : Type 0 where
+-- A crash comes in a call, after so many device calls, with one slot lost at most, and leaves one of the images that it may leave.
+pub record Crashes (slots : ℕ) (during : Option Lost) (fate : Fate) (old new : History) (left : World) : Type 0 where
   pub t : ℕ
   pub from : calls_of old ≤ t
   pub until : t ≤ calls_of new
@@ -71,19 +71,19 @@ pub record IsServing (slots : ℕ) (array : ArrayView) (fate : Fate) (serving : 
   pub opens : Opens (Unit {0}) array (Opened serving.store)
   pub goes_over : GoesOver slots fate.lost fate serving.store.array.table serving.store.array.history serving.fate
 
--- What is done with an open array until a stop: nothing; the stop comes in opening a store; between events, or in one, after some were done.
--- Events behind one that ended the store change nothing (`StaysEnded`), so the stop then comes in that one.
+-- What is done with an open array until a crash: nothing; the crash comes in opening a store; between events, or in one, after some were done.
+-- Events after one that ended the store change nothing (`StaysEnded`), so the crash then comes in that one.
 pub data Session (slots : ℕ) (array : ArrayView) (fate : Fate) (left : World) : Type 0 where
-  unopened : Stops slots fate.lost fate array.history array.history left → Session slots array fate left
+  unopened : Crashes slots fate.lost fate array.history array.history left → Session slots array fate left
   in_opening : (outcome : Outcome) → Opens (Unit {0}) array outcome → IsTrueTo (bank_after outcome).panel (bank_after outcome).history
-      → Stops slots fate.lost fate array.history (bank_after outcome).history left → Session slots array fate left
+      → Crashes slots fate.lost fate array.history (bank_after outcome).history left → Session slots array fate left
   between_events : (first serving : Serving) (events : List Event) (replies : List Reply)
       → IsServing slots array fate first → Does slots events replies first serving
-      → Stops slots serving.fate.lost serving.fate serving.store.array.history serving.store.array.history left → Session slots array fate left
+      → Crashes slots serving.fate.lost serving.fate serving.store.array.history serving.store.array.history left → Session slots array fate left
   in_event : (first serving : Serving) (events : List Event) (replies : List Reply) (event : Event) (store : StoreView) (reply : Reply)
       → IsServing slots array fate first → Does slots events replies first serving
       → Applies (Unit {0}) event serving.store store reply → IsTrueTo store.array.panel store.array.history
-      → Stops slots (lost_in event serving.store.array.table serving.fate.lost) serving.fate serving.store.array.history store.array.history left
+      → Crashes slots (lost_in event serving.store.array.table serving.fate.lost) serving.fate serving.store.array.history store.array.history left
       → Session slots array fate left
 
 -- a run begins with an image, and the bank shows what its run says
@@ -95,10 +95,10 @@ pub record IsAssembled (id : List ℕ) (slots : ℕ) (panel : Panel) (world : Wo
   pub assembles : Assembles (Unit {0}) id (begun_with panel world.image) (recovery.Opened array)
   pub goes_over : GoesOver slots world.fate.lost world.fate array.table array.history fate
 
--- A run: the stop comes in assembling, or the set is assembled, and then a session.
+-- A run: the crash comes in assembling, or the set is assembled, and then a session.
 pub data Run (id : List ℕ) (slots : ℕ) (panel : Panel) (world left : World) : Type 0 where
   in_assembling : (outcome : recovery.Outcome) → Assembles (Unit {0}) id (begun_with panel world.image) outcome
-      → Stops slots world.fate.lost world.fate (Began world.image) (recovery.bank_after outcome).history left → Run id slots panel world left
+      → Crashes slots world.fate.lost world.fate (Began world.image) (recovery.bank_after outcome).history left → Run id slots panel world left
   assembled : (array : ArrayView) (fate : Fate) → IsAssembled id slots panel world array fate → Session slots array fate left → Run id slots panel world left
 
 -- Runs one after another, of a bank with so many slots: each begins with what the one before left, as far as the rules on devices allow.

@@ -36,7 +36,7 @@ pub record Shows (extents : ℕ) (sectors : List Block) (volumes : VolumeMap) : 
   pub table : VolumeTable
   pub of_version : table.version ≡ volumes.version
   pub spelled : Spell sectors table
-  pub free_behind : (extent : ℕ) → extents ≤ extent → owner_of table.extents extent ≡ None
+  pub free_beyond : (extent : ℕ) → extents ≤ extent → owner_of table.extents extent ≡ None
   pub shown : AreShown (extent_blocks volumes.version) table.records table.extents sectors volumes.volumes
 
 -- `left` is the list with these blocks in place of those of record `number`'s volume from `at` on

@@ -35,7 +35,7 @@ pub record Stands (base : Table) (devices : ℕ) (case : Case) (maps : List Volu
   pub holds : Holds base devices case lists
   pub shown : (logical : List Bytes) → Contains lists logical → ShowsOneOf base.geometry maps logical
 
--- every case that a stop now may leave stands for these maps
+-- every case that a crash now may leave stands for these maps
 abbrev pub StandsNow : (base : Table) (devices : ℕ) (before : Option Lost) → List VolumeMap → History → Type 0
 StandsNow base devices before maps h = (after : Option Lost) (image : Slots) → IsLostAt (slots_of base) before h after
     → MayLeave h image → Stands base devices record { image = image; lost = after } maps
@@ -69,7 +69,7 @@ pub record IsSettledAfter (before : Option Lost) (store : StoreView) (volumes : 
   pub is_lost : IsLostAfter before store.array.table lost
   pub settled : IsSettledOn store lost volumes
 
--- what a case stands for when a run stops it stands for when the next begins
+-- what a case stands for when a run crashes it stands for when the next begins
 abbrev pub StandsAfterAStart : Type 0
 StandsAfterAStart = (base : Table) (devices : ℕ) (table : Table) (old new : Case) (maps : List VolumeMap)
     → Stands base devices old maps → IsChosen base.id devices old.image table → Starts devices table old new

@@ -13,7 +13,7 @@ use Rattle.superblock.specs.Cases.{Lost, lost_from}
 use Rattle.superblock.specs.Counted.{least_sectors}
 use Rattle.superblock.specs.NextTables.{slots_of}
 use Rattle.array_io.specs.Believed.Holds.{row_count}
-use Rattle.array_io.specs.Believed.Views.{ArrayView, EndsIt, Fell, GoesOn, IsEndOf}
+use Rattle.array_io.specs.Believed.Views.{ArrayView, EndsIt, DeviceFailed, GoesOn, IsEndOf}
 use Rattle.scrub.specs.Scrubbing.{AreUnsound}
 use Rattle.volume_table.specs.Volumes.{Block, VolumeMap}
 use Rattle.volume_table.specs.VolumeStep.{Blocks, Command, Create, Done, Event, Extend, Fail, Names, OnSet, OnVolumes, Refused, Remove, Rename, Replace, Reply, Scrub, Scrubbed, Upgrade, Volumes, Write, Read, left_by, reply_to}
@@ -27,10 +27,10 @@ use Rattle.sector_model.specs.declared.calls.TheConstants.{GREATEST_COUNT}
 abbrev pub set_of : Table → SetState
 set_of table = record { states = take (slots_of table) table.states; position = table.position }
 
--- What the set's replies say of devices is what the bank's devices do: one that fell in the call answered a fault, and whichever did is down at the
+-- What the set's replies say of devices is what the bank's devices do: one that failed in the call answered a fault, and whichever did is down at the
 -- return; one is unusable that was down or is too short; and the unsound rows are those of what reads give.
 pub record AreDevicesOf (honest : Type 0) (table : Table) (old new : Panel) (h : History) (devices : Devices) : Type 0 where
-  pub fell : honest → (slot : ℕ) → slot < slots_of table → Fell slot old new → devices.faults slot ≡ true
+  pub failed : honest → (slot : ℕ) → slot < slots_of table → DeviceFailed slot old new → devices.faults slot ≡ true
   pub is_down : (slot : ℕ) → slot < slots_of table → devices.faults slot ≡ true → new.down slot ≡ true
   pub unusable : (slot : ℕ) → slot < slots_of table → devices.unusable slot ≡ (old.down slot || nat_lt (old.sectors slot) (least_sectors table.geometry slot))
   pub rows : devices.rows ≡ row_count table

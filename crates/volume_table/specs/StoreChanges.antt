@@ -43,7 +43,7 @@ pub record IsZeroed (each : ℕ) (owners : List (Option Owned)) (number first la
 pub record HasTable (table : VolumeTable) (before now : List Block) : Type 0 where
   pub as_long : length now ≡ length before
   pub spelled : Spell now table
-  pub behind : (sector : ℕ) → table_length table.version ≤ sector → slice_index_or now sector [] ≡ slice_index_or before sector []
+  pub beyond : (sector : ℕ) → table_length table.version ≤ sector → slice_index_or now sector [] ≡ slice_index_or before sector []
 
 -- from a list that begins with the spelling of a table
 abbrev pub From : VolumeTable → Change → Change

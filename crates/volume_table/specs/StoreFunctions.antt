@@ -170,7 +170,7 @@ pub data Chain (honest : Type 0) : List Event → (acks : List ℕ) → (old new
       → Applies honest event old mid reply → ¬ EndsStore reply → ack ≡ mid.array.panel.calls
       → Chain honest events acks mid new → Chain honest (event ∷ events) (ack ∷ acks) old new
 
--- all events are done, and acknowledged behind the acks that were there
+-- all events are done, and acknowledged after the acks that were there
 pub record DoesAll (honest : Type 0) (events : List Event) (old new : StoreView) (acks_before acks_after : List ℕ) : Type 0 where
   pub acks : List ℕ
   pub chain : Chain honest events acks old new

@@ -30,9 +30,9 @@ pub struct Status {
     pub volumes: u32,
     /// The version of the table of volumes, 1 or 2.
     pub version: u8,
-    /// The state of each slot; behind the second journal nothing is read.
+    /// The state of each slot; after the second journal nothing is read.
     pub states: [State; 10],
-    /// How often each slot was given a device; behind the second journal nothing is read.
+    /// How often each slot was given a device; after the second journal nothing is read.
     pub incarnations: [u64; 10],
     pub ghost few: { members ≤ MOST_MEMBERS },
 }

@@ -18,7 +18,7 @@ use Rattle.superblock.proofs.LaterTables.{not_older_both}
 use Rattle.layout_map.specs.declared.geometry.Geometry.{Geometry}
 use Rattle.array_io.specs.Believed.ArrayCalls.{Answer}
 use Rattle.array_io.specs.Steps.CallSteps.{IsCarriedOn, IsPublishedAnew, IsPublishedOn, IsStepEnd, StaysDown, StepsOf}
-use Rattle.array_io.specs.Believed.Views.{ArrayView, Fell, GoesOn, HasEnded, HasLostOne, IsEndOf, StaysButForFalls}
+use Rattle.array_io.specs.Believed.Views.{ArrayView, DeviceFailed, GoesOn, HasEnded, HasLostOne, IsEndOf, StaysButForFailures}
 use Rattle.array_io.proofs.Marks.MarkingHolds.{missing_then, state_stays}
 
 -- what an array keeps over two stretches
@@ -43,7 +43,7 @@ two_missing table first second below below' is is' =
     table.allowed.one_out first second below below' (λ in_sync. none_differ (sym is ∙ in_sync)) (λ in_sync. none_differ (sym is' ∙ in_sync))
 
 -- what is missing stays so
-missing_stays : (honest : Type 0) (mid new : ArrayView) (ended : Type 0) → StaysButForFalls honest mid new ended → (slot : ℕ) → slot < slots_of mid.table
+missing_stays : (honest : Type 0) (mid new : ArrayView) (ended : Type 0) → StaysButForFailures honest mid new ended → (slot : ℕ) → slot < slots_of mid.table
     → state_at mid.table.states slot ≡ Missing → state_at new.table.states slot ≡ Missing
 missing_stays honest mid new ended stays slot of_set missing = elim stays.table [
   | inl same ↦ ap (λ (t : Table). state_at t.states slot) same ∙ missing
@@ -57,7 +57,7 @@ same_set : (old mid : ArrayView) → GoesOn old mid → slots_of mid.table ≡ s
 same_set old mid goes = ap (λ (g : Geometry). g.members + 2) goes.not_older.same_geometry
 
 -- one slot may be missing after both, no more
-table_both : (honest : Type 0) (old mid new : ArrayView) (ended ended' : Type 0) → GoesOn old mid → GoesOn mid new → StaysButForFalls honest old mid ended → StaysButForFalls honest mid new ended'
+table_both : (honest : Type 0) (old mid new : ArrayView) (ended ended' : Type 0) → GoesOn old mid → GoesOn mid new → StaysButForFailures honest old mid ended → StaysButForFailures honest mid new ended'
     → (new.table ≡ old.table) ⊎ HasLostOne old new
 table_both honest old mid new ended ended' goes goes' first second = elim first.table [
   | inl same ↦ elim second.table [
@@ -89,26 +89,26 @@ table_both honest old mid new ended ended' goes goes' first second = elim first.
   ]
 ]
 
--- a device that fell in both stretches fell in one
-fell_in_one : (slot : ℕ) (old mid new : ArrayView) → Fell slot old.panel new.panel → Fell slot old.panel mid.panel ⊎ Fell slot mid.panel new.panel
-fell_in_one slot old mid new fell = by_state (mid.panel.down slot) refl
+-- a device that failed in both stretches failed in one
+failed_in_one : (slot : ℕ) (old mid new : ArrayView) → DeviceFailed slot old.panel new.panel → DeviceFailed slot old.panel mid.panel ⊎ DeviceFailed slot mid.panel new.panel
+failed_in_one slot old mid new failed = by_state (mid.panel.down slot) refl
   where
-    by_state : (b : Bool) → mid.panel.down slot ≡ b → Fell slot old.panel mid.panel ⊎ Fell slot mid.panel new.panel
-    by_state true down = inl record { was_up = fell.was_up; is_down = down }
-    by_state false up = inr record { was_up = up; is_down = fell.is_down }
+    by_state : (b : Bool) → mid.panel.down slot ≡ b → DeviceFailed slot old.panel mid.panel ⊎ DeviceFailed slot mid.panel new.panel
+    by_state true down = inl record { was_up = failed.was_up; is_down = down }
+    by_state false up = inr record { was_up = up; is_down = failed.is_down }
 
-pub stays_both : (honest : Type 0) (old mid new : ArrayView) (ended : Type 0) → GoesOn old mid → GoesOn mid new → StaysButForFalls honest old mid ⊥ → StaysButForFalls honest mid new ended
-    → StaysButForFalls honest old new ended
+pub stays_both : (honest : Type 0) (old mid new : ArrayView) (ended : Type 0) → GoesOn old mid → GoesOn mid new → StaysButForFailures honest old mid ⊥ → StaysButForFailures honest mid new ended
+    → StaysButForFailures honest old new ended
 stays_both honest old mid new ended goes goes' first second = record {
   table = table_both honest old mid new ⊥ ended goes goes' first second;
-  fallen = λ is goes_open slot of_set fell. elim (fell_in_one slot old mid new fell) [
-    | inl before ↦ missing_stays honest mid new ended second slot (subst (λ (n : ℕ). slot < n) (sym (same_set old mid goes)) of_set) (first.fallen is (λ e. e) slot of_set before)
-    | inr later ↦ second.fallen is goes_open slot (subst (λ (n : ℕ). slot < n) (sym (same_set old mid goes)) of_set) later
+  failure = λ is goes_open slot of_set failed. elim (failed_in_one slot old mid new failed) [
+    | inl before ↦ missing_stays honest mid new ended second slot (subst (λ (n : ℕ). slot < n) (sym (same_set old mid goes)) of_set) (first.failure is (λ e. e) slot of_set before)
+    | inr later ↦ second.failure is goes_open slot (subst (λ (n : ℕ). slot < n) (sym (same_set old mid goes)) of_set) later
   ];
 }
 
 -- the table's generation went up by one at most
-pub one_more : (honest : Type 0) (old mid : ArrayView) (ended : Type 0) → StaysButForFalls honest old mid ended → mid.table.generation ≤ old.table.generation + 1
+pub one_more : (honest : Type 0) (old mid : ArrayView) (ended : Type 0) → StaysButForFailures honest old mid ended → mid.table.generation ≤ old.table.generation + 1
 one_more honest old mid ended stays = elim stays.table [
   | inl same ↦ omega (arith, ap (λ (t : Table). t.generation) same)
   | inr lost ↦ omega (arith, lost.marked.generation)
@@ -136,7 +136,7 @@ ended_by old new refusal end = elim (two_or_worn old new refusal end) [
 ]
 
 -- the second row of steps ended why both did: the first marked no slot, if the table could have no further generation
-pub end_after : (honest : Type 0) (old mid new : ArrayView) → StaysButForFalls honest old mid ⊥ → (refusal : Refusal) → IsStepEnd mid new refusal → IsStepEnd old new refusal
+pub end_after : (honest : Type 0) (old mid new : ArrayView) → StaysButForFailures honest old mid ⊥ → (refusal : Refusal) → IsStepEnd mid new refusal → IsStepEnd old new refusal
 end_after honest old mid new stays refusal (inl two) = inl two
 end_after honest old mid new stays refusal (inr (inl calls)) = inr (inl calls)
 end_after honest old mid new stays refusal (inr (inr (is, worn, same, there))) = elim stays.table [
@@ -151,7 +151,7 @@ end_after honest old mid new stays refusal (inr (inr (is, worn, same, there))) =
 ]
 
 -- why the second row of steps ended is why both ended: over both the generation went up by one at most
-pub end_of_both : (honest : Type 0) (old mid new : ArrayView) (ended : Type 0) → StaysButForFalls honest old new ended → (refusal : Refusal) → IsEndOf mid new ⊥ refusal
+pub end_of_both : (honest : Type 0) (old mid new : ArrayView) (ended : Type 0) → StaysButForFailures honest old new ended → (refusal : Refusal) → IsEndOf mid new ⊥ refusal
     → (refusal ≡ TwoLost) ⊎ (refusal ≡ Worn) → IsEndOf old new ⊥ refusal
 end_of_both honest old mid new ended stays refusal end (inl is) = subst (IsEndOf old new ⊥) (sym is) (subst (IsEndOf mid new ⊥) is end)
 end_of_both honest old mid new ended stays refusal end (inr is) = subst (IsEndOf old new ⊥) (sym is) (by_why (subst (IsEndOf mid new ⊥) is end))
@@ -210,7 +210,7 @@ pub steps_both : (honest still : Type 0) → (honest → still) → {From : Type
     → StepsOf honest holds before between old mid (Ok tt) → StepsOf still holds between after mid new answer → StepsOf honest holds before after old new answer
 steps_both honest still more holds before between after old mid new answer first second = record {
   goes_on = goes_on_both old mid new first.goes_on second.goes_on;
-  stays = stays_both honest old mid new (HasEnded answer) first.goes_on second.goes_on first.stays record { table = second.stays.table; fallen = λ is. second.stays.fallen (more is) };
+  stays = stays_both honest old mid new (HasEnded answer) first.goes_on second.goes_on first.stays record { table = second.stays.table; failure = λ is. second.stays.failure (more is) };
   number = second.number ∙ first.number;
   moments = λ is from at. throughout_on mid.history (first.moments is from at) new.history (second.moments (more is) from (first.reached is refl from at));
   reached = λ is ok from at. second.reached (more is) ok from (first.reached is refl from at);

@@ -9,7 +9,7 @@ use Rattle.array_io.specs.Steps.CallSteps.{KeepsFront, StaysDown}
 
 pub reads_run : {old new : History} → HasRead old new → Throughout (StaysDown old) old new
 reads_run {old = old} read = throughout_read (StaysDown old) (λ h before. before)
-    (λ h fallen before device down. or_right (device == fallen) (is_down h device) (before device down)) read (λ device down. down)
+    (λ h failure before device down. or_right (device == failure) (is_down h device) (before device down)) read (λ device down. down)
 
 pub reads_front : {old new : History} → HasRead old new → KeepsFront old new
 reads_front read device at below = ap (λ (disk : List Bytes). sector_of disk at) (seen_read read device)

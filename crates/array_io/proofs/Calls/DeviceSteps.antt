@@ -1,4 +1,4 @@
--- A step that calls one device: it is done, or no further call can be counted, or the device fell and its slot is marked missing.
+-- A step that calls one device: it is done, or no further call can be counted, or the device failed and its slot is marked missing.
 use Rattle.std.proofs.Common.{◌≡◌, ◌≢◌, inl, inr, ℕ, ◌+◌, ◌<◌, ◌≤◌, Bool, true, false, List, Option, refl, sym, ◌∙◌, ap, subst, arith}
 use Rattle.std.specs.Prelude.{Ok, Err, Result}
 use Rattle.std.proofs.lemmas.Bool.{cases_eq}
@@ -15,7 +15,7 @@ use Rattle.superblock.specs.declared.state.State.TheVariants.{InSync, Missing}
 use Rattle.superblock.specs.declared.table.Table.{Table}
 use Rattle.superblock.specs.Cases.{Lost}
 use Rattle.superblock.specs.Counted.{least_sectors}
-use Rattle.superblock.specs.Losses.{IsOneLoss}
+use Rattle.superblock.specs.Losses.{IsSingleFailure}
 use Rattle.superblock.specs.NextTables.{slots_of}
 use Rattle.superblock.specs.Publishing.{place_of}
 use Rattle.superblock.specs.Tables.{state_at}
@@ -27,12 +27,12 @@ use Rattle.array_io.specs.Steps.Bringing.{CountsOn}
 use Rattle.array_io.specs.Steps.CallSteps.{CallsOne, IsPublishedOn, IsStepEnd, StaysDown, StepsOf}
 use Rattle.array_io.specs.Steps.MarkingOn.{AreOthersInSync, IsWhyLeft, MarksOn, answer_of}
 use Rattle.array_io.specs.Believed.Moments.{HoldsNow, HoldsThroughout}
-use Rattle.array_io.specs.Believed.Views.{ArrayView, Fell, GoesOn, HasEnded, HasItsSlots, view_of}
-use Rattle.array_io.specs.Steps.Writing.{HasFallenOnce}
+use Rattle.array_io.specs.Believed.Views.{ArrayView, DeviceFailed, GoesOn, HasEnded, HasItsSlots, view_of}
+use Rattle.array_io.specs.Steps.Writing.{HasFailedOnce}
 use Rattle.array_io.proofs.Calls.CallSteps.{down_on, ended_by, goes_on_both}
 use Rattle.array_io.proofs.Images.LossBefore.{was_lost}
 use Rattle.array_io.proofs.Laws.Fresh.{lowest_apart, lowest_but, lowest_of_set}
-use Rattle.array_io.proofs.Marks.FallenMarked.{MarkedOn, fallen_marked}
+use Rattle.array_io.proofs.Marks.FailedMarked.{MarkedOn, failed_marked}
 use Rattle.array_io.proofs.Marks.MarkMissing.{marks_missing}
 use Rattle.array_io.proofs.Marks.MarkedEnd.{gets_others, made, result_ok, stays_throughout, up_then}
 use Rattle.array_io.proofs.Marks.MarkedWhole.{throughout_if_lost}
@@ -66,15 +66,15 @@ goes_on_later old new before now table number later = record {
   its_slots = its_slots_later table old new later;
 }
 
--- a slot that fell while one device was called is that device's
-pub fell_is_it : (device : ℕ) (old_panel new_panel : Panel) (old new : History) → IsTrueTo old_panel old → IsTrueTo new_panel new → StaysOff (λ d. d ≡ device) old new → (slot : ℕ)
-    → Fell slot old_panel new_panel → slot ≡ device
-fell_is_it device old_panel new_panel old new was now off slot fell = elim (cases_eq slot device) [
+-- a slot that failed while one device was called is that device's
+pub failed_is_it : (device : ℕ) (old_panel new_panel : Panel) (old new : History) → IsTrueTo old_panel old → IsTrueTo new_panel new → StaysOff (λ d. d ≡ device) old new → (slot : ℕ)
+    → DeviceFailed slot old_panel new_panel → slot ≡ device
+failed_is_it device old_panel new_panel old new was now off slot failed = elim (cases_eq slot device) [
   | inl same ↦ same
-  | inr apart ↦ absurd (flags_differ (sym fell.is_down ∙ now.down slot ∙ off.others_down slot apart ∙ sym (was.down slot) ∙ fell.was_up))
+  | inr apart ↦ absurd (flags_differ (sym failed.is_down ∙ now.down slot ∙ off.others_down slot apart ∙ sym (was.down slot) ∙ failed.was_up))
 ]
 
--- over calls of one device that is up at their end no device fell
+-- over calls of one device that is up at their end no device failed
 pub same_down : (device : ℕ) (old new : History) → StaysOff (λ d. d ≡ device) old new → is_down new device ≡ false → (other : ℕ) → is_down new other ≡ is_down old other
 same_down device old new off up other = elim (cases_eq other device) [
   | inr apart ↦ off.others_down other apart
@@ -86,8 +86,8 @@ same_down device old new off up other = elim (cases_eq other device) [
     was_up false is = is
 
 -- one slot is lost at most at the first moment, if it is so at the last
-pub one_loss_before : (slots : ℕ) (lost : Option Lost) (old new : History) → Throughout (StaysDown old) old new → IsOneLoss slots lost new → IsOneLoss slots lost old
-one_loss_before slots lost old new runs loss =
+pub single_failure_before : (slots : ℕ) (lost : Option Lost) (old new : History) → Throughout (StaysDown old) old new → IsSingleFailure slots lost new → IsSingleFailure slots lost old
+single_failure_before slots lost old new runs loss =
     let was = was_lost slots lost old new loss.0 (throughout_last new runs) loss.1 in
     (was.before, was.was)
 
@@ -108,15 +108,15 @@ module _ (spellings : Spellings) (honest : Type 0) {From : Type 0} (devices_of :
     goes_on = goes_on_later old_panel mid_panel old mid table number calls.later;
     stays = record {
       table = inl refl;
-      fallen = λ is goes slot of_set fell.
-          let it = fell_is_it device old_panel mid_panel old mid (true_old is) (true_mid is) (calls.off is) slot fell in
-          absurd (flags_differ (sym fell.is_down ∙ (true_mid is).down slot ∙ calls.none_fell is refl slot ∙ sym ((true_old is).down slot) ∙ fell.was_up));
+      failure = λ is goes slot of_set failed.
+          let it = failed_is_it device old_panel mid_panel old mid (true_old is) (true_mid is) (calls.off is) slot failed in
+          absurd (flags_differ (sym failed.is_down ∙ (true_mid is).down slot ∙ calls.none_failed is refl slot ∙ sym ((true_old is).down slot) ∙ failed.was_up));
     };
     number = refl;
     moments = λ is from at. (done is from at).0;
     reached = λ is ok from at. (done is from at).1;
     runs = calls.runs;
-    carried = λ is ok. inl record { table = refl; front = calls.front is refl; down = calls.none_fell is refl };
+    carried = λ is ok. inl record { table = refl; front = calls.front is refl; down = calls.none_failed is refl };
     cause = λ refusal is. absurd (cc);
   }
 
@@ -126,7 +126,7 @@ module _ (spellings : Spellings) (honest : Type 0) {From : Type 0} (devices_of :
       → StepsOf honest Holding before after Was (view_of mid_panel mid table number) (Err Worn)
   step_worn calls moments = record {
     goes_on = goes_on_later old_panel mid_panel old mid table number calls.later;
-    stays = record { table = inl refl; fallen = λ is goes slot of_set fell. absurd (goes tt) };
+    stays = record { table = inl refl; failure = λ is goes slot of_set failed. absurd (goes tt) };
     number = refl;
     moments = moments;
     reached = λ is ok. absurd (cc);
@@ -135,7 +135,7 @@ module _ (spellings : Spellings) (honest : Type 0) {From : Type 0} (devices_of :
     cause = λ refusal is. inr (inl (cc, calls.cause stop.Worn refl));
   }
 
-  -- the device fell
+  -- the device failed
   module _ (new_panel : Panel) (new_table : Table) (new : History) (answer : Answer) (its_slots : HasItsSlots table old_panel) (counted : CountsOn table device)
       (calls : CallsOne honest device old_panel mid_panel old mid (Err (stop.Down device))) (marks : MarksOn honest device mid_panel new_panel table new_table mid new answer)
       (true_new : honest → IsTrueTo new_panel new) where
@@ -179,7 +179,7 @@ module _ (spellings : Spellings) (honest : Type 0) {From : Type 0} (devices_of :
         by_marks (inl left) = by_why left.why left.same_table
         by_marks (inr marked) = by_result marked.result marked.answered marked.publishes.cause
 
-    -- at Ok the slot is missing, and no further device fell
+    -- at Ok the slot is missing, and no further device failed
     gone_then : answer ≡ Ok tt → state_at new_table.states device ≡ Missing
     gone_then ok = by_without (missing.marked ok)
       where
@@ -199,14 +199,14 @@ module _ (spellings : Spellings) (honest : Type 0) {From : Type 0} (devices_of :
         by_marks (inl left) = by_why left.why
         by_marks (inr marked) = made_down (made honest table new_table device mid_panel new_panel mid new answer marked counted.of_set is ok) slot
 
-    fallen_then : honest → ¬ HasEnded answer → (slot : ℕ) → slot < slots_of table → Fell slot old_panel new_panel → state_at new_table.states slot ≡ Missing
-    fallen_then is open_still slot of_set fell = by_answer answer refl
+    failed_then : honest → ¬ HasEnded answer → (slot : ℕ) → slot < slots_of table → DeviceFailed slot old_panel new_panel → state_at new_table.states slot ≡ Missing
+    failed_then is open_still slot of_set failed = by_answer answer refl
       where
         by_answer : (a : Answer) → answer ≡ a → state_at new_table.states slot ≡ Missing
         by_answer (Err refusal) ended = absurd (open_still (subst HasEnded (sym ended) (ended_by Was Then refusal (marked_end refusal ended))))
         by_answer (Ok done) ok = elim (cases_eq slot device) [
           | inl same ↦ ap (state_at new_table.states) same ∙ gone_then ok
-          | inr apart ↦ absurd (flags_differ (sym fell.is_down ∙ (true_new is).down slot ∙ down_then is ok slot ∙ (calls.off is).others_down slot apart ∙ sym ((true_old is).down slot) ∙ fell.was_up))
+          | inr apart ↦ absurd (flags_differ (sym failed.is_down ∙ (true_new is).down slot ∙ down_then is ok slot ∙ (calls.off is).others_down slot apart ∙ sym ((true_old is).down slot) ∙ failed.was_up))
         ]
 
     -- what was down stays down
@@ -248,14 +248,14 @@ module _ (spellings : Spellings) (honest : Type 0) {From : Type 0} (devices_of :
                   (sector_of (seen new other) (place_of new_table)) (up_seen new other (place_of new_table) up);
             }
 
-    -- the device fell, by what was so of it, where one slot was lost at most
-    pub step_marked : (honest → (from : From) → before from table old → IsOneLoss (slots_of (base_of from)) (lost_of from) old
-        → Throughout (Holding from) old mid × HasFallenOnce (devices_of from) (base_of from) table (lost_of from) (list_of from) device mid)
+    -- the device failed, by what was so of it, where one slot was lost at most
+    pub step_marked : (honest → (from : From) → before from table old → IsSingleFailure (slots_of (base_of from)) (lost_of from) old
+        → Throughout (Holding from) old mid × HasFailedOnce (devices_of from) (base_of from) table (lost_of from) (list_of from) device mid)
         → (honest → (from : From) → before from table old → Throughout (StaysDown old) old new
-        → (IsOneLoss (slots_of (base_of from)) (lost_of from) old → HasFallenOnce (devices_of from) (base_of from) table (lost_of from) (list_of from) device mid
+        → (IsSingleFailure (slots_of (base_of from)) (lost_of from) old → HasFailedOnce (devices_of from) (base_of from) table (lost_of from) (list_of from) device mid
         × MarkedOn (devices_of from) (base_of from) table new_table (lost_of from) (list_of from) device mid new) → after from new_table new)
         → StepsOf honest Holding before after Was Then answer
-    step_marked fell then_on = record {
+    step_marked failed then_on = record {
       goes_on = goes;
       stays = record {
         table = elim missing.marked_or_not [
@@ -268,12 +268,12 @@ module _ (spellings : Spellings) (honest : Type 0) {From : Type 0} (devices_of :
             marked = marked;
           }
         ];
-        fallen = fallen_then;
+        failure = failed_then;
       };
       number = refl;
       moments = λ is from at. throughout_if_lost (base_of from) (devices_of from) (lost_of from) (list_of from) old new (runs is)
-          (λ was lost_at. throughout_on mid (fell is from at (was, lost_at)).0 new (by_marks is from at (was, lost_at)).0);
-      reached = λ is ok from at. then_on is from at (runs is) (λ loss. ((fell is from at loss).1, (by_marks is from at loss).1 ok));
+          (λ was lost_at. throughout_on mid (failed is from at (was, lost_at)).0 new (by_marks is from at (was, lost_at)).0);
+      reached = λ is ok from at. then_on is from at (runs is) (λ loss. ((failed is from at loss).1, (by_marks is from at loss).1 ok));
       runs = runs;
       carried = λ is ok. inr record {
         slot = device;
@@ -284,8 +284,8 @@ module _ (spellings : Spellings) (honest : Type 0) {From : Type 0} (devices_of :
       cause = marked_end;
     }
       where
-        by_marks : honest → (from : From) → before from table old → IsOneLoss (slots_of (base_of from)) (lost_of from) old
+        by_marks : honest → (from : From) → before from table old → IsSingleFailure (slots_of (base_of from)) (lost_of from) old
             → HoldsThroughout (base_of from) (devices_of from) (lost_of from) (list_of from) mid new
             × (answer ≡ Ok tt → MarkedOn (devices_of from) (base_of from) table new_table (lost_of from) (list_of from) device mid new)
-        by_marks is from at loss = fallen_marked spellings honest (devices_of from) (base_of from) table new_table (lost_of from) (list_of from) device mid_panel new_panel mid new answer
-            (fell is from at loss).1 is marks
+        by_marks is from at loss = failed_marked spellings honest (devices_of from) (base_of from) table new_table (lost_of from) (list_of from) device mid_panel new_panel mid new answer
+            (failed is from at loss).1 is marks

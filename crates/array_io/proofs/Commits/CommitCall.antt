@@ -39,7 +39,7 @@ use Rattle.array_io.specs.Believed.Holds.{HoldsIn, row_count}
 use Rattle.array_io.specs.Believed.Moments.{HoldsNow}
 use Rattle.array_io.specs.Steps.ReadingOn.{Between, KeepsFrom, KeepsList, KeepsOn}
 use Rattle.array_io.specs.Believed.Settled.{rows_by}
-use Rattle.array_io.specs.Believed.Views.{ArrayView, GoesOn, HasEnded, IsEndOf, RestsAfter, RestsOn, StaysButForFalls, view_of}
+use Rattle.array_io.specs.Believed.Views.{ArrayView, GoesOn, HasEnded, IsEndOf, RestsAfter, RestsOn, StaysButForFailures, view_of}
 use Rattle.array_io.specs.Steps.Writable.{IsWritable}
 use Rattle.array_io.proofs.Rest.AtRestImages.{LeavesSectors, whole_left}
 use Rattle.array_io.proofs.Rest.AtRestRows.{trusts_tells}
@@ -49,14 +49,14 @@ use Rattle.array_io.proofs.Reading.ReadCall.{sectors_of}
 use Rattle.array_io.proofs.Images.Spellings.{Spellings}
 use Rattle.array_io.proofs.Writes.Writable.{writable_at_rest, writable_rests}
 use Rattle.superblock.specs.NextTables.{slots_of}
-use Rattle.superblock.specs.Losses.{IsOneLoss}
-use Rattle.array_io.specs.Steps.Putting.{Awaited, Formed, HasSeal, HoldsAll, IfOneLoss, IsComing, IsPut, IsPutBefore, PutsFrom}
+use Rattle.superblock.specs.Losses.{IsSingleFailure}
+use Rattle.array_io.specs.Steps.Putting.{Awaited, Formed, HasSeal, HoldsAll, IfSingleFailure, IsComing, IsPut, IsPutBefore, PutsFrom}
 use Rattle.array_io.specs.Steps.PuttingSteps.{Brings, StepsJournals, StepsMembers, both_sealed}
 use Rattle.array_io.proofs.Calls.CallSteps.{end_after, goes_on_both, refused, stays_both, step_is_end, steps_more, two_or_worn}
 use Rattle.array_io.proofs.Commits.CommittingBegins.{IsFormedNext, commit_begins, commits_from}
 use Rattle.array_io.proofs.Commits.CommittingEnds.{for_list, sealed_now, sealed_then}
 use Rattle.array_io.proofs.Commits.PuttingSteps.{both_are_sealed, brings_both}
-use Rattle.array_io.proofs.Rest.LostAfter.{lost_out_after, one_loss_after}
+use Rattle.array_io.proofs.Rest.LostAfter.{lost_out_after, single_failure_after}
 use Rattle.array_io.specs.Steps.Bringing.{CountsOn}
 use Rattle.array_io.specs.Steps.EntryAtRest.{HasEntryAtRest}
 
@@ -96,14 +96,14 @@ ends_with old new counter refusal (inr is) end = subst (IsEndOf old new counter)
     by_why (inr none) = absurd none
 
 -- what stays doesn't depend on the last entry's number
-stays_numbered : (honest ended : Type 0) (old : ArrayView) (panel : Panel) (h : History) (table : Table) (number number' : ℕ) → StaysButForFalls honest old (view_of panel h table number) ended
-    → StaysButForFalls honest old (view_of panel h table number') ended
+stays_numbered : (honest ended : Type 0) (old : ArrayView) (panel : Panel) (h : History) (table : Table) (number number' : ℕ) → StaysButForFailures honest old (view_of panel h table number) ended
+    → StaysButForFailures honest old (view_of panel h table number') ended
 stays_numbered honest ended old panel h table number number' stays = record {
   table = elim stays.table [
     | inl same ↦ inl same
     | inr lost ↦ inr record { slot = lost.slot; of_set = lost.of_set; counted = lost.counted; is_down = lost.is_down; marked = lost.marked }
   ];
-  fallen = stays.fallen;
+  failure = stays.failure;
 }
 
 -- an entry that holds what changes holds of each row only sectors of the set's members, that with the parity among them
@@ -128,7 +128,7 @@ pub commit_worn : Spellings → (honest : Type 0) (sectors : Given) (number : �
     → Commits honest sectors (view_of panel h table number) (view_of panel h table number) (refused Worn)
 commit_worn spellings honest sectors number table panel h true_old worn = record {
   goes_on = goes_on_later panel panel h h table number (later_same panel);
-  stays = record { table = inl refl; fallen = λ is goes other of_set fell. absurd (flags_differ (sym fell.is_down ∙ fell.was_up)) };
+  stays = record { table = inl refl; failure = λ is goes other of_set failed. absurd (flags_differ (sym failed.is_down ∙ failed.was_up)) };
   number = λ ok. absurd (cc);
   moments = λ fair lost V rests. here (holds_more table panel.devices lost (V ∷ []) (V ∷ written V sectors ∷ []) h
       (λ other among. Contains-append_left (V ∷ []) (written V sectors ∷ []) other among)
@@ -278,7 +278,7 @@ module _ (spellings : Spellings) (honest : Type 0) (number : ℕ) (sectors : Giv
         record {
           goes_on = goes_on_both Was Mid New forming.goes_on one.goes_on;
           stays = stays_both honest Was Mid New (HasEnded (refused refusal)) forming.goes_on one.goes_on forming.stays
-              record { table = one.stays.table; fallen = λ fair. one.stays.fallen (more fair) };
+              record { table = one.stays.table; failure = λ fair. one.stays.failure (more fair) };
           number = λ ok. absurd (cc);
           moments = λ fair lost V rests. both_moments fair lost V rests h2 ((putting V).moments (more fair) (Putting lost V) (λ loss. coming fair lost V rests));
           rests = λ fair ok. absurd (cc);
@@ -314,13 +314,13 @@ module _ (spellings : Spellings) (honest : Type 0) (number : ℕ) (sectors : Giv
 
         -- each journal has it
         all_sealed : (journal : ℕ) → table2.geometry.members ≤ journal → CountsOn table2 journal → both_sealed members journal ≡ HasSeal
-        all_sealed journal behind counted = both_are_sealed members journal (omega (arith, same_members, behind)) (omega (arith, same_members, counted.of_set))
+        all_sealed journal beyond counted = both_are_sealed members journal (omega (arith, same_members, beyond)) (omega (arith, same_members, counted.of_set))
 
         putting : (V : List Bytes) → Brings still (IsComing (Formed (written V sectors)) seal body (λ k. Awaited)) (IsPut seal.number) Mid (New number) last
         putting V = brings_both still still2 more2 (IsComing (Formed (written V sectors)) seal body (λ k. Awaited)) (IsComing (Formed (written V sectors)) seal body (both_sealed members)) (IsPut seal.number)
             Mid (view_of panel2 h2 table2 number) (New number) last (sealing V)
-            (steps_more still2 HoldsAll (IfOneLoss (IsPutBefore 0 seal body)) (IfOneLoss (IsComing (Formed (written V sectors)) seal body (both_sealed members)))
-            (IfOneLoss (IsPut seal.number)) (IfOneLoss (IsPut seal.number)) (view_of panel2 h2 table2 number) (New number) last
+            (steps_more still2 HoldsAll (IfSingleFailure (IsPutBefore 0 seal body)) (IfSingleFailure (IsComing (Formed (written V sectors)) seal body (both_sealed members)))
+            (IfSingleFailure (IsPut seal.number)) (IfSingleFailure (IsPut seal.number)) (view_of panel2 h2 table2 number) (New number) last
             (λ from is loss. sealed_now (Formed (written V sectors)) seal body (both_sealed members) from table2 h2 (is loss) all_sealed) (λ fair done from is put. put) members_put)
 
         -- Where its rows could not be put on the members, the list is the one before or the one after.
@@ -331,16 +331,16 @@ module _ (spellings : Spellings) (honest : Type 0) (number : ℕ) (sectors : Giv
         goes : GoesOn Was (New number)
         goes = goes_on_both Was Mid (New number) forming.goes_on (putting []).goes_on
 
-        stays : StaysButForFalls honest Was (New number) (HasEnded last)
+        stays : StaysButForFailures honest Was (New number) (HasEnded last)
         stays = stays_both honest Was Mid (New number) (HasEnded last) forming.goes_on (putting []).goes_on forming.stays
-            record { table = (putting []).stays.table; fallen = λ fair. (putting []).stays.fallen (more fair) }
+            record { table = (putting []).stays.table; failure = λ fair. (putting []).stays.failure (more fair) }
 
         module _ (done : last ≡ Ok tt) (fair : honest) (lost : Option Lost) (V : List Bytes) (rests : RestsOn Was lost V) where
           not_ended : ¬ HasEnded last
           not_ended ended = subst HasEnded done ended
 
-          loss_then : IsOneLoss (slots_of table) lost h3
-          loss_then = one_loss_after spellings honest fair Was (New number) (HasEnded last) goes stays not_ended (true_old fair) (true_new fair) lost V rests
+          loss_then : IsSingleFailure (slots_of table) lost h3
+          loss_then = single_failure_after spellings honest fair Was (New number) (HasEnded last) goes stays not_ended (true_old fair) (true_new fair) lost V rests
 
           -- once it is safe on the journals, every case holds for the list after it, and so it does when its rows stand
           put_for_list : IsPut seal.number (for_list (Putting lost V) (written V sectors)) table3 h3
@@ -352,7 +352,7 @@ module _ (spellings : Spellings) (honest : Type 0) (number : ℕ) (sectors : Giv
           at_end = writable_rests spellings panel3 panel.devices (number + 1) table table3 lost (written V sectors) h3 (goes.later.devices) (record {
             from = put_for_list.writes;
             entry = subst (λ (n : ℕ). HasEntryAtRest panel.devices table3 n (readable h3)) its_number put_for_list.entry;
-            one_loss = loss_then;
+            single_failure = loss_then;
             lost_out = lost_out_after spellings honest fair Was (New number) (HasEnded last) goes stays not_ended (true_old fair) (true_new fair) lost V rests;
           }) (sectors_of panel3 h3 (true_new fair))
 
@@ -360,7 +360,7 @@ module _ (spellings : Spellings) (honest : Type 0) (number : ℕ) (sectors : Giv
         pub commit_done : last ≡ Ok tt → Commits honest sectors Was (New (number + 1)) (Ok tt)
         commit_done done = record {
           goes_on = record { later = goes.later; not_older = goes.not_older; number = omega arith; its_slots = goes.its_slots };
-          stays = stays_numbered honest (HasEnded accepted) Was panel3 h3 table3 number (number + 1) (subst (λ (a : Answer). StaysButForFalls honest Was (New number) (HasEnded a)) done stays);
+          stays = stays_numbered honest (HasEnded accepted) Was panel3 h3 table3 number (number + 1) (subst (λ (a : Answer). StaysButForFailures honest Was (New number) (HasEnded a)) done stays);
           number = λ answered. refl;
           moments = λ fair lost V rests. both_moments fair lost V rests h3 ((putting V).moments (more fair) (Putting lost V) (λ loss. coming fair lost V rests));
           rests = λ fair answered lost V rests. at_end done fair lost V rests;

@@ -59,7 +59,7 @@ module _ (spellings : Spellings) (panel : Panel) (devices number : ℕ) (base ta
   rests = writable_rests spellings panel devices number base table lost V h same_devices is leaves
 
   not_older : IsNotOlder base table
-  not_older = written_not_older spellings devices base table lost (V ∷ []) h is.from is.one_loss.0 is.one_loss.1
+  not_older = written_not_older spellings devices base table lost (V ∷ []) h is.from is.single_failure.0 is.single_failure.1
 
   members_are : table.geometry.members ≡ base.geometry.members
   members_are = ap (λ (g : Geometry). g.members) not_older.same_geometry
@@ -107,12 +107,12 @@ module _ (spellings : Spellings) (panel : Panel) (devices number : ℕ) (base ta
     }
 
     next_on : (journal : ℕ) → table.geometry.members ≤ journal → CountsOn table journal → IsNextOn table.id table.geometry (seen h journal) seal
-    next_on journal behind counted = record {
+    next_on journal beyond counted = record {
       id_long = table.id_long;
       belongs = formed.belongs;
       last = is.entry.last;
       is_last = subst (λ (c : Content). IsLastSealed table.id table.geometry c is.entry.last) (stands_there journal counted)
-          (is.entry.sealed journal record { behind_members = behind; of_set = counted.of_set; live = is.from.there journal counted.of_set counted.there });
+          (is.entry.sealed journal record { beyond_members = beyond; of_set = counted.of_set; live = is.from.there journal counted.of_set counted.there });
       number = formed.next ∙ ap (λ (n : ℕ). n + 1) (sym is.entry.numbered);
     }
 

@@ -52,7 +52,7 @@ for_list from V = record { devices = from.devices; base = from.base; lost = from
 module _ (spellings : Spellings) (seal : Seal) (body : List Bytes) (journals : ℕ → Progress) (from : PutsFrom) (table : Table) (h : History) (list_then : List Bytes) (is : IsComing (Formed list_then) seal body journals from table h)
     (sealed : (journal : ℕ) → table.geometry.members ≤ journal → CountsOn table journal → journals journal ≡ HasSeal) where
   has_entry : (journal : ℕ) → table.geometry.members ≤ journal → CountsOn table journal → HasThisEntry table.id table.geometry (seen h journal) seal body
-  has_entry journal behind counted = subst (λ (p : Progress). IsAt p table h journal seal body) (sealed journal behind counted) (is.on_journals journal behind counted)
+  has_entry journal beyond counted = subst (λ (p : Progress). IsAt p table h journal seal body) (sealed journal beyond counted) (is.on_journals journal beyond counted)
 
   -- an image in which nothing is put says it
 
@@ -79,7 +79,7 @@ module _ (spellings : Spellings) (seal : Seal) (body : List Bytes) (journals : �
 
     stands_sealed : StandsSealed from.devices table on.0 seal body before image
     stands_sealed =
-        let has = has_entry on.0 on.1.behind_members counted_on in
+        let has = has_entry on.0 on.1.beyond_members counted_on in
         record {
           was_live = on.1.live;
           has = record {
@@ -93,9 +93,9 @@ module _ (spellings : Spellings) (seal : Seal) (body : List Bytes) (journals : �
     says_then =
         let its = committed spellings seal body from table h (Formed list_then) journals is on.0 list_then is.may_stand in (
           rows_committed from.devices table Nothing (readable h) from.lists whole before image put alive is.may_stand.rows on.0 is.may_stand.sectors seal is.may_stand.values body
-              on.1.behind_members on.1.of_set its stands_sealed (list_then ∷ []) (subst (Contains (list_then ∷ [])) (sym is.may_stand.gives) (Contains-push [] list_then)),
+              on.1.beyond_members on.1.of_set its stands_sealed (list_then ∷ []) (subst (Contains (list_then ∷ [])) (sym is.may_stand.gives) (Contains-push [] list_then)),
           steps_committed from.devices table Nothing (readable h) from.lists whole before image put alive is.may_stand.rows on.0 is.may_stand.sectors seal is.may_stand.values body
-              on.1.behind_members on.1.of_set its stands_sealed,
+              on.1.beyond_members on.1.of_set its stands_sealed,
         )
 
   -- so the entry is safe, for that list alone, and no row of it was put yet
@@ -113,6 +113,6 @@ pub sealed_now : (origin : Origin) (seal : Seal) (body : List Bytes) (journals :
 sealed_now origin seal body journals from table h is sealed = record {
   writes = is.writes;
   long = is.long;
-  on_journals = λ journal behind counted. subst (λ (p : Progress). IsAt p table h journal seal body) (sealed journal behind counted) (is.on_journals journal behind counted);
+  on_journals = λ journal beyond counted. subst (λ (p : Progress). IsAt p table h journal seal body) (sealed journal beyond counted) (is.on_journals journal beyond counted);
   on_members = λ member i below. absurd (omega (arith, below));
 }

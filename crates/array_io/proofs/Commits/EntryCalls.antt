@@ -1,4 +1,4 @@
--- Device calls that write behind the superblocks of the slots that a table counts on.
+-- Device calls that write after the superblocks of the slots that a table counts on.
 use Rattle.std.proofs.Common.{◌≡◌, ◌⊎◌, inl, inr, ℕ, ◌≤◌, Bool, false, List, [], ◌∷◌, Option, sym, ◌∙◌, subst}
 use Rattle.std.proofs.lemmas.Bool.{cases_eq}
 use Rattle.sector_model.specs.Calls.{Call, Flush, Made, Read, Write}
@@ -62,7 +62,7 @@ calls_write table puts calls {old = old} {new = new} allowed made = throughout_m
     (throughout_kept (IsWritingOff table puts old) (all_kept table puts old calls allowed)
     (record { each = λ device at value may. inl may }, stays_off_none (CountsOn table) old) made)
 
--- nothing is pending where only one device was called, and what a stop leaves on it is what reads give
+-- nothing is pending where only one device was called, and what a crash leaves on it is what reads give
 pub none_pending_off : (device : ℕ) (old new : History) → NothingPending old → StaysOff (λ d. d ≡ device) old new
     → ((at : ℕ) (value : Bytes) → MayHold new device at value → value ≡ sector_of (seen new device) at) → NothingPending new
 none_pending_off device old new pending off flushed d at first second up may may' = elim (cases_eq d device) [

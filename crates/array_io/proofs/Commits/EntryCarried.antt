@@ -1,7 +1,7 @@
--- The last entry of a set goes on saying what the members hold while nothing is written behind the superblocks: over reads, and when a slot is marked missing.
+-- The last entry of a set goes on saying what the members hold while nothing is written after the superblocks: over reads, and when a slot is marked missing.
 use Rattle.std.proofs.Common.{◌≡◌, ◌≢◌, inl, inr, ℕ, ◌+◌, ◌<◌, ◌≤◌, ◌==◌, Bool, true, false, IsTrue, List, Option, Some, None, refl, sym, ◌∙◌, ap, subst, subst₂, arith}
 use Rattle.std.proofs.lemmas.Bool.{or_right}
-use Rattle.sector_model.specs.declared.event.Event.TheVariants.{Quiet, Wrote, Lost as LostWrite, Flushed, Fell}
+use Rattle.sector_model.specs.declared.event.Event.TheVariants.{Quiet, Wrote, Lost as LostWrite, Flushed, DeviceFailed}
 use Rattle.sector_model.specs.History.{After, Began, Bytes, History, Slots, disk_of, is_down, sector_of, seen}
 use Rattle.sector_model.specs.Moments.{Contents, Throughout, here, then_also}
 use Rattle.sector_model.specs.Readable.{readable}
@@ -18,7 +18,7 @@ use Rattle.superblock.specs.declared.table.Table.{Table}
 use Rattle.superblock.specs.Tables.{state_at}
 use Rattle.superblock.specs.Cases.{HasWholeSectors, Lost}
 use Rattle.superblock.specs.Counted.{Content}
-use Rattle.superblock.specs.Losses.{IsOneLoss}
+use Rattle.superblock.specs.Losses.{IsSingleFailure}
 use Rattle.superblock.specs.NextTables.{IsMarked, slots_of}
 use Rattle.stripe_journal.specs.LastEntry.{IsLastSealed, sector_in}
 use Rattle.degraded.proofs.Values.{value-own}
@@ -34,7 +34,7 @@ use Rattle.array_io.proofs.Images.EntryByRows.{HaveOwnSectors, entry_at_rest_in_
 use Rattle.array_io.proofs.Rest.LastAtRest.{HasOneLast}
 use Rattle.array_io.proofs.Images.LossBefore.{by_table}
 use Rattle.array_io.proofs.Marks.MarkingHolds.{missing_then, state_stays}
-use Rattle.array_io.proofs.Images.SameBehind.{AgreeBehind, sealed_behind, sector_behind}
+use Rattle.array_io.proofs.Images.SameBeyond.{AgreeBeyond, sealed_beyond, sector_beyond}
 use Rattle.array_io.proofs.Images.SayingTheSame.{SayTheSame, says_the_same, steps_the_same}
 use Rattle.array_io.proofs.Images.Spellings.{Spellings}
 use Rattle.array_io.proofs.Writes.Writing.{writing_none}
@@ -52,22 +52,22 @@ pub record CountsOnNoMore (old_table new_table : Table) : Type 0 where
 pub counts_on_the_same : (table : Table) → CountsOnNoMore table table
 counts_on_the_same table = record { same_id = refl; same_geometry = refl; counts = λ slot counted. counted; trusts_it = λ row member within is. is }
 
--- reads give the same behind the superblocks of each slot that the table counts on
+-- reads give the same after the superblocks of each slot that the table counts on
 pub record ReadsTheSame (table : Table) (old new : History) : Type 0 where
-  pub behind : (slot at : ℕ) → CountsOn table slot → SUPERBLOCK_PLACES ≤ at → sector_of (seen new slot) at ≡ sector_of (seen old slot) at
+  pub beyond : (slot at : ℕ) → CountsOn table slot → SUPERBLOCK_PLACES ≤ at → sector_of (seen new slot) at ≡ sector_of (seen old slot) at
 
 module _ (spellings : Spellings) (devices : ℕ) (old_table new_table : Table) (number : ℕ) (old new : History) (entry : HasEntryAtRest devices old_table number (readable old))
     (was_there : IsAllThere devices old_table old) (goes : CountsOnNoMore old_table new_table) (is_there : IsAllThere devices new_table new)
     (reads : ReadsTheSame new_table old new) where
-  -- behind the superblocks of a slot that counts stands what stood there
-  agree : (slot : ℕ) → CountsOn new_table slot → AgreeBehind (readable old slot) (readable new slot)
+  -- after the superblocks of a slot that counts stands what stood there
+  agree : (slot : ℕ) → CountsOn new_table slot → AgreeBeyond (readable old slot) (readable new slot)
   agree slot counted = record {
-    same = λ at behind.
+    same = λ at beyond.
         let was = goes.counts slot counted in
         let was_up = live_is_up spellings devices old_table old slot (was_there slot was.of_set was.there) in
         let is_up = live_is_up spellings devices new_table new slot (is_there slot counted.of_set counted.there) in
         ap (λ (c : Content). sector_of (disk_of c) at) (readable_up old slot was_up)
-        ∙ sym (reads.behind slot at counted behind)
+        ∙ sym (reads.beyond slot at counted beyond)
         ∙ sym (ap (λ (c : Content). sector_of (disk_of c) at) (readable_up new slot is_up));
   }
 
@@ -85,7 +85,7 @@ module _ (spellings : Spellings) (devices : ℕ) (old_table new_table : Table) (
   was_journal journal live =
       let was = goes.counts journal (journal_counts journal live) in
       record {
-        behind_members = subst (λ (n : ℕ). n ≤ journal) members_are live.behind_members;
+        beyond_members = subst (λ (n : ℕ). n ≤ journal) members_are live.beyond_members;
         of_set = was.of_set;
         live = was_there journal was.of_set was.there;
       }
@@ -94,7 +94,7 @@ module _ (spellings : Spellings) (devices : ℕ) (old_table new_table : Table) (
   sealed_now : (journal : ℕ) → IsLiveJournal devices new_table (readable new) journal → IsLastSealed new_table.id new_table.geometry (readable new journal) entry.last
   sealed_now journal live =
       subst₂ (λ (id : List ℕ) (g : Geometry). IsLastSealed id g (readable new journal) entry.last) (sym goes.same_id) (sym goes.same_geometry)
-      (sealed_behind old_table.id old_table.geometry (readable old journal) (readable new journal) (agree journal (journal_counts journal live)) entry.last
+      (sealed_beyond old_table.id old_table.geometry (readable old journal) (readable new journal) (agree journal (journal_counts journal live)) entry.last
       (entry.sealed journal (was_journal journal live)))
 
   one_last : HasOneLast devices new_table (readable new)
@@ -116,7 +116,7 @@ module _ (spellings : Spellings) (devices : ℕ) (old_table new_table : Table) (
     where
       stood : sector_in old_table.geometry.members (readable old journal) seal row member ≡ Some sector
       stood =
-          sector_behind old_table.geometry.members (readable old journal) (readable new journal) (agree journal (journal_counts journal live)) seal row member
+          sector_beyond old_table.geometry.members (readable old journal) (readable new journal) (agree journal (journal_counts journal live)) seal row member
           ∙ subst (λ (n : ℕ). sector_in n (readable new journal) seal row member ≡ Some sector) members_are stands
 
   -- so in a case that holds the entry says what the members hold
@@ -127,11 +127,11 @@ module _ (spellings : Spellings) (devices : ℕ) (old_table new_table : Table) (
 -- What the last entry says stays.
 pub entry_carried : Spellings → (devices : ℕ) (base old_table new_table : Table) (lost : Option Lost) (X : List (List Bytes)) (number : ℕ) (old new : History)
     → HasEntryAtRest devices old_table number (readable old) → IsAllThere devices old_table old → CountsOnNoMore old_table new_table
-    → WritesFrom devices base new_table lost X new → IsOneLoss (slots_of base) lost new → ReadsTheSame new_table old new → HasWholeSectors (readable new)
+    → WritesFrom devices base new_table lost X new → IsSingleFailure (slots_of base) lost new → ReadsTheSame new_table old new → HasWholeSectors (readable new)
     → HasEntryAtRest devices new_table number (readable new)
-entry_carried spellings devices base old_table new_table lost X number old new entry there goes from one_loss reads whole =
-    let by = by_table base devices new_table X (record { image = readable new; lost = one_loss.0 }) from.same_id (from.holds one_loss.0 (readable new) one_loss.1 (readable_left new))
-    ((from.chosen one_loss.0 one_loss.1).whole (readable new) (readable_left new)) in
+entry_carried spellings devices base old_table new_table lost X number old new entry there goes from single_failure reads whole =
+    let by = by_table base devices new_table X (record { image = readable new; lost = single_failure.0 }) from.same_id (from.holds single_failure.0 (readable new) single_failure.1 (readable_left new))
+    ((from.chosen single_failure.0 single_failure.1).whole (readable new) (readable_left new)) in
     carried_in_case spellings devices old_table new_table number old new entry there goes from.there reads X by.whole whole
 
 -- A table in which a slot is marked missing, all others being in sync, counts on no more.
@@ -194,22 +194,22 @@ nothing_keeps devices table reads X whole before image from = (
 -- what was down stays down while devices are read
 down_stays : (old new : History) → HasRead old new → (device : ℕ) → is_down old device ≡ true → is_down new device ≡ true
 down_stays old new read = throughout_last new (throughout_read (λ (h : History). (device : ℕ) → is_down old device ≡ true → is_down h device ≡ true)
-    (λ h before. before) (λ h fallen before device down. or_right (device == fallen) (is_down h device) (before device down)) read (λ device down. down))
+    (λ h before. before) (λ h failure before device down. or_right (device == failure) (is_down h device) (before device down)) read (λ device down. down))
 
 -- no device has gone down but of slots that the table counts on
 abbrev pub OthersStay : Table → (old new : History) → Type 0
 OthersStay table old new = (device : ℕ) → ¬ CountsOn table device → is_down new device ≡ is_down old device
 
--- so it was before the last fall
-stay_before : (table : Table) (old h : History) (fallen : ℕ) → HasRead old h → OthersStay table old (After (Fell fallen) h) → OthersStay table old h
-stay_before table old h fallen read stay device not = by_now (is_down h device) refl
+-- so it was before the last failure
+stay_before : (table : Table) (old h : History) (failure : ℕ) → HasRead old h → OthersStay table old (After (DeviceFailed failure) h) → OthersStay table old h
+stay_before table old h failure read stay device not = by_now (is_down h device) refl
   where
     by_old : (b : Bool) → is_down old device ≡ b → is_down h device ≡ false → is_down h device ≡ is_down old device
     by_old true was is = absurd (flags_differ (sym (down_stays old h read device was) ∙ is))
     by_old false was is = is ∙ sym was
 
     by_now : (b : Bool) → is_down h device ≡ b → is_down h device ≡ is_down old device
-    by_now true is = is ∙ sym (or_right (device == fallen) (is_down h device) is) ∙ stay device not
+    by_now true is = is ∙ sym (or_right (device == failure) (is_down h device) is) ∙ stay device not
     by_now false is = by_old (is_down old device) refl is
 
 reads_only : (table : Table) (puts : Contents) (old new : History) → OnlyRead old new → OthersStay table old new → Throughout (IsWriting table puts old) old new
@@ -222,11 +222,11 @@ reads_only table puts old (After Quiet h) (inr rest) stay =
 reads_only table puts old (After (Wrote device at value) h) is stay = subst (Throughout (IsWriting table puts old) old) is (here (writing_none table puts old))
 reads_only table puts old (After (LostWrite device at value) h) is stay = subst (Throughout (IsWriting table puts old) old) is (here (writing_none table puts old))
 reads_only table puts old (After (Flushed device) h) is stay = subst (Throughout (IsWriting table puts old) old) is (here (writing_none table puts old))
-reads_only table puts old (After (Fell device) h) (inl is) stay = subst (Throughout (IsWriting table puts old) old) is (here (writing_none table puts old))
-reads_only table puts old (After (Fell device) h) (inr rest) stay =
+reads_only table puts old (After (DeviceFailed device) h) (inl is) stay = subst (Throughout (IsWriting table puts old) old) is (here (writing_none table puts old))
+reads_only table puts old (After (DeviceFailed device) h) (inr rest) stay =
     let so_far = reads_only table puts old h rest (stay_before table old h device record { only = rest } stay) in
     let last = throughout_last h so_far in
-    then_also (Fell device) h so_far record {
+    then_also (DeviceFailed device) h so_far record {
       holds = last.holds;
       start = last.start;
       stays_down = λ d down. or_right (d == device) (is_down h d) (last.stays_down d down);

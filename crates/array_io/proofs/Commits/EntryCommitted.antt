@@ -16,7 +16,7 @@ use Rattle.stripe_journal.specs.Forms.{holds, rank}
 use Rattle.stripe_journal.specs.Seals.{row_at}
 use Rattle.stripe_journal.specs.Entries.{body_start}
 use Rattle.stripe_journal.specs.LastEntry.{Entry, IsGreatest, IsLastEntry, IsLastSealed, number_of, sector_in, sector_of_last}
-use Rattle.stripe_journal.specs.OneEntry.{AStopLeavesEither, HasThisEntry, IsNextOn}
+use Rattle.stripe_journal.specs.OneEntry.{ACrashLeavesEither, HasThisEntry, IsNextOn}
 use Rattle.stripe_journal.proofs.LastOfOne.{greatest_is_one, last_is_one}
 use Rattle.stripe_journal.proofs.Bodies.{place_lacking, place_of_no_row}
 use Rattle.stripe_journal.proofs.EntrySectors.{sector_held, sector_lacking, sector_of_no_row}
@@ -64,16 +64,16 @@ list_after table base sectors = written (logical_list table.geometry base) secto
 
 module _ (devices : ℕ) (table : Table) (puts : Contents) (reads : Slots) (X : List (List Bytes)) (whole before image : Slots)
     (from : IsWrittenFrom devices table puts reads X whole before image) (alive : HaveLiveAlike devices table image before)
-    (base : Rows) (target : ℕ) (sectors : List (ℕ × Bytes)) (seal : Seal) (values : List (List Bytes)) (body : List Bytes) (behind : table.geometry.members ≤ target) (of_set : target < slots_of table)
+    (base : Rows) (target : ℕ) (sectors : List (ℕ × Bytes)) (seal : Seal) (values : List (List Bytes)) (body : List Bytes) (beyond : table.geometry.members ≤ target) (of_set : target < slots_of table)
     (committed : IsCommitted table base reads target sectors seal values body) (sealed : StandsSealed devices table target seal body before image) where
   of_target : IsGreatest table.id table.geometry (image target) seal
   of_target = greatest_there table.id table.geometry (image target) seal sealed.has.last
 
   target_live : IsLiveJournal devices table image target
-  target_live = record { behind_members = behind; of_set = of_set; live = alive.back target sealed.was_live }
+  target_live = record { beyond_members = beyond; of_set = of_set; live = alive.back target sealed.was_live }
 
   was_journal : (journal : ℕ) → IsLiveJournal devices table image journal → IsLiveJournal devices table before journal
-  was_journal journal live = record { behind_members = live.behind_members; of_set = live.of_set; live = alive.live journal live.live }
+  was_journal journal live = record { beyond_members = live.beyond_members; of_set = live.of_set; live = alive.live journal live.live }
 
   -- what another live journal has
   other_is : (journal at : ℕ) → IsLiveJournal devices table image journal → journal ≢ target → sector_of (disk_of (image journal)) at ≡ sector_of (disk_of (reads journal)) at
@@ -101,7 +101,7 @@ module _ (devices : ℕ) (table : Table) (puts : Contents) (reads : Slots) (X : 
       → HasIt journal ⊎ ((journal ≢ target) × ((last : Option Seal) → IsLastSealed table.id table.geometry (image journal) last → seal.number ≡ number_of last + 1))
   has_or_before journal live = elim (cases_eq journal target) [
     | inl is ↦ inl (subst HasIt (sym is) record { last = of_target; has_body = sealed.has.has_body })
-    | inr apart ↦ elim (committed.others journal live.behind_members (journal_counts devices table image journal live) apart) [
+    | inr apart ↦ elim (committed.others journal live.beyond_members (journal_counts devices table image journal live) apart) [
       | inr has ↦ inl (record {
         last = same_greatest table.id table.geometry (image journal) (Some (disk_of (reads journal))) (λ place below. other_is journal (FIRST_SEAL + place) live apart) seal has.last;
         has_body = λ k within. other_is journal (body_start seal.number + k) live apart ∙ has.has_body k within;
@@ -195,7 +195,7 @@ module _ (devices : ℕ) (table : Table) (puts : Contents) (reads : Slots) (X : 
         let trusted = (are.trust row member within).0 counts in
         let counted : CountsOn table member = record { of_set = omega (arith, within); there = trusted.live.not_missing } in
         are.own_sector row member within
-        ∙ sealed.others member (FIRST_ROW + row) (λ same. absurd (omega (arith, same, within, behind)))
+        ∙ sealed.others member (FIRST_ROW + row) (λ same. absurd (omega (arith, same, within, beyond)))
         ∙ ap (λ (c : Content). sector_of (disk_of c) (FIRST_ROW + row)) (is_read devices table puts reads X whole before image from alive member counted (alive.live member trusted.live))
         ∙ committed.own row member below within lacks (table_trusts rows are row member within counts);
     whole = committed.whole_sectors;
@@ -235,11 +235,11 @@ module _ (devices : ℕ) (table : Table) (puts : Contents) (reads : Slots) (X : 
             refl,
             λ row member below. in_rows first has row member below ∙ sym (in_rows second has' row member below),
           )))
-      | inr number ↦ subst (λ (o : Option Seal). AreInStep table.geometry.members (image first) (image second) o b) (sym (is_seal first a has last)) (behind_first b (number.1 b last'))
+      | inr number ↦ subst (λ (o : Option Seal). AreInStep table.geometry.members (image first) (image second) o b) (sym (is_seal first a has last)) (past_first b (number.1 b last'))
     ]
     | inr number ↦ elim (has_or_before second live') [
-      | inl has' ↦ subst (λ (o : Option Seal). AreInStep table.geometry.members (image first) (image second) a o) (sym (is_seal second b has' last')) (behind_second a (number.1 a last))
-      | inr number' ↦ same_journal (two_journals table.geometry.members first target second live.behind_members live.of_set behind of_set live'.behind_members live'.of_set (λ is. number'.0 (sym is)))
+      | inl has' ↦ subst (λ (o : Option Seal). AreInStep table.geometry.members (image first) (image second) a o) (sym (is_seal second b has' last')) (past_second a (number.1 a last))
+      | inr number' ↦ same_journal (two_journals table.geometry.members first target second live.beyond_members live.of_set beyond of_set live'.beyond_members live'.of_set (λ is. number'.0 (sym is)))
           number.0
     ]
   ]
@@ -247,13 +247,13 @@ module _ (devices : ℕ) (table : Table) (puts : Contents) (reads : Slots) (X : 
       is_seal : (journal : ℕ) (o : Option Seal) → HasIt journal → IsLastSealed table.id table.geometry (image journal) o → o ≡ Some seal
       is_seal journal o has is = last_is_one table.id table.geometry (image journal) o (Some seal) table.id_long is has.last
 
-      behind_first : (o : Option Seal) → seal.number ≡ number_of o + 1 → AreInStep table.geometry.members (image first) (image second) (Some seal) o
-      behind_first None number = omega (arith, number)
-      behind_first (Some other) number = inr (inr (sym number))
+      past_first : (o : Option Seal) → seal.number ≡ number_of o + 1 → AreInStep table.geometry.members (image first) (image second) (Some seal) o
+      past_first None number = omega (arith, number)
+      past_first (Some other) number = inr (inr (sym number))
 
-      behind_second : (o : Option Seal) → seal.number ≡ number_of o + 1 → AreInStep table.geometry.members (image first) (image second) o (Some seal)
-      behind_second None number = omega (arith, number)
-      behind_second (Some other) number = inr (inl (sym number))
+      past_second : (o : Option Seal) → seal.number ≡ number_of o + 1 → AreInStep table.geometry.members (image first) (image second) o (Some seal)
+      past_second None number = omega (arith, number)
+      past_second (Some other) number = inr (inl (sym number))
 
       -- a journal is in step with itself
       with_itself : (one other : Option Seal) → one ≡ other → AreInStep table.geometry.members (image first) (image first) one other
@@ -272,7 +272,7 @@ module _ (devices : ℕ) (table : Table) (puts : Contents) (reads : Slots) (X : 
           (with_itself a b (last_is_one table.id table.geometry (image first) a b table.id_long last
           (subst (λ (j : ℕ). IsLastSealed table.id table.geometry (image j) b) (sym is) last')))
 
-module _ (law : AStopLeavesEither) (devices : ℕ) (table : Table) (puts : Contents) (reads : Slots) (X : List (List Bytes)) (whole before image : Slots)
+module _ (law : ACrashLeavesEither) (devices : ℕ) (table : Table) (puts : Contents) (reads : Slots) (X : List (List Bytes)) (whole before image : Slots)
     (from : IsWrittenFrom devices table puts reads X whole before image) (alive : HaveLiveAlike devices table image before)
     (base : Rows) (target : ℕ) (sectors : List (ℕ × Bytes)) (seal : Seal) (values : List (List Bytes)) (body : List Bytes) (next : IsSealedNext table puts reads target seal body)
     (committed : IsCommitted table base reads target sectors seal values body) where
@@ -285,7 +285,7 @@ module _ (law : AStopLeavesEither) (devices : ℕ) (table : Table) (puts : Conte
       steps_the_same devices table image before same from.holds.in_step,
     )
     | inr sealed ↦ (
-      rows_committed devices table puts reads X whole before image from alive base target sectors seal values body next.behind next.of_set committed sealed X' among,
-      steps_committed devices table puts reads X whole before image from alive base target sectors seal values body next.behind next.of_set committed sealed,
+      rows_committed devices table puts reads X whole before image from alive base target sectors seal values body next.beyond next.of_set committed sealed X' among,
+      steps_committed devices table puts reads X whole before image from alive base target sectors seal values body next.beyond next.of_set committed sealed,
     )
   ]

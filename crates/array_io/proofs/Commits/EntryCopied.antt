@@ -13,7 +13,7 @@ use Rattle.stripe_journal.specs.Body.{place_by_seal}
 use Rattle.stripe_journal.specs.Entries.{body_start}
 use Rattle.stripe_journal.specs.Forms.{holds, rank}
 use Rattle.stripe_journal.specs.LastEntry.{Entry, IsGreatest, IsLastEntry, IsLastSealed, number_of, sector_in, sector_of_last}
-use Rattle.stripe_journal.specs.OneEntry.{AStopLeavesEither}
+use Rattle.stripe_journal.specs.OneEntry.{ACrashLeavesEither}
 use Rattle.stripe_journal.proofs.Bodies.{is_placed}
 use Rattle.stripe_journal.proofs.EntrySectors.{same_sectors}
 use Rattle.stripe_journal.proofs.Masks.{rank_before}
@@ -30,7 +30,7 @@ use Rattle.array_io.proofs.Images.SayingTheSame.{HaveLiveAlike, HaveTrustAlike, 
 -- The entry is the last one of another journal.
 pub record IsCopiedFrom (table : Table) (reads : Slots) (source target : ℕ) (seal : Seal) (body : List Bytes) : Type 0 where
   pub apart : source ≢ target
-  pub behind : table.geometry.members ≤ source
+  pub beyond : table.geometry.members ≤ source
   pub counted : CountsOn table source
   pub says : IsGreatest table.id table.geometry (reads source) seal
   pub long : IsBodyLong table.geometry.members seal body
@@ -72,7 +72,7 @@ record HasTheSource (devices : ℕ) (table : Table) (reads : Slots) (X : List (L
   target_read : IsLive devices table target (other target) → other target ≡ reads target
   members : (member : ℕ) → member < table.geometry.members → other member ≡ before member
 
-module _ (law : AStopLeavesEither) (devices : ℕ) (table : Table) (puts : Contents) (reads : Slots) (X : List (List Bytes)) (whole before image : Slots)
+module _ (law : ACrashLeavesEither) (devices : ℕ) (table : Table) (puts : Contents) (reads : Slots) (X : List (List Bytes)) (whole before image : Slots)
     (from : IsWrittenFrom devices table puts reads X whole before image) (alive : HaveLiveAlike devices table image before)
     (source target : ℕ) (seal : Seal) (body : List Bytes) (next : IsSealedNext table puts reads target seal body) (copied : IsCopiedFrom table reads source target seal body) where
   -- such an image: the one before, or the whole one where the source is out
@@ -95,15 +95,15 @@ module _ (law : AStopLeavesEither) (devices : ℕ) (table : Table) (puts : Conte
         source_read = from.read source copied.counted;
         source_live = subst (IsLive devices table source) (sym (from.read source copied.counted)) (from.there source copied.counted);
         target_read = λ is. from.read target record { of_set = next.of_set; there = is.not_missing };
-        members = λ member within. sym (from.others member (λ is. absurd (omega (arith, within, is, out.0, copied.behind))));
+        members = λ member within. sym (from.others member (λ is. absurd (omega (arith, within, is, out.0, copied.beyond))));
       },
     )
   ]
 
   module _ (sealed : StandsSealed devices table target seal body before image) where
     which : (journal : ℕ) → table.geometry.members ≤ journal → journal < slots_of table → (journal ≡ source) ⊎ (journal ≡ target)
-    which journal behind of_set =
-        two_journals table.geometry.members journal source target behind of_set copied.behind copied.counted.of_set next.behind next.of_set copied.apart
+    which journal beyond of_set =
+        two_journals table.geometry.members journal source target beyond of_set copied.beyond copied.counted.of_set next.beyond next.of_set copied.apart
 
     -- what the source has in the image, where it is live there
     source_is : (at : ℕ) → IsLive devices table source (image source) → sector_of (disk_of (image source)) at ≡ sector_of (disk_of (reads source)) at
@@ -112,7 +112,7 @@ module _ (law : AStopLeavesEither) (devices : ℕ) (table : Table) (puts : Conte
 
     -- each live journal has the seal as its last
     has_seal : (journal : ℕ) → IsLiveJournal devices table image journal → IsGreatest table.id table.geometry (image journal) seal
-    has_seal journal live = elim (which journal live.behind_members live.of_set) [
+    has_seal journal live = elim (which journal live.beyond_members live.of_set) [
       | inl is ↦ subst (λ (j : ℕ). IsGreatest table.id table.geometry (image j) seal) (sym is)
           (same_greatest table.id table.geometry (image source) (reads source)
           (λ place below. source_is (FIRST_SEAL + place) (subst (λ (j : ℕ). IsLive devices table j (image j)) is live.live)) seal copied.says)
@@ -123,7 +123,7 @@ module _ (law : AStopLeavesEither) (devices : ℕ) (table : Table) (puts : Conte
     -- and its body
     has_body : (journal : ℕ) → IsLiveJournal devices table image journal → (k : ℕ) → k < length body
         → sector_of (disk_of (image journal)) (body_start seal.number + k) ≡ slice_index_or body k []
-    has_body journal live k within = elim (which journal live.behind_members live.of_set) [
+    has_body journal live k within = elim (which journal live.beyond_members live.of_set) [
       | inl is ↦ ap (λ (j : ℕ). sector_of (disk_of (image j)) (body_start seal.number + k)) is
           ∙ source_is (body_start seal.number + k) (subst (λ (j : ℕ). IsLive devices table j (image j)) is live.live)
           ∙ copied.same_body k within
@@ -163,13 +163,13 @@ module _ (law : AStopLeavesEither) (devices : ℕ) (table : Table) (puts : Conte
     latest : (other : Slots) → HasTheSource devices table reads X source target before other
         → IsLastEntry table.id table.geometry (IsLiveJournal devices table other) other (Some record { journal = source; seal = seal })
     latest other has = record {
-      on_live = record { behind_members = copied.behind; of_set = copied.counted.of_set; live = has.source_live };
+      on_live = record { beyond_members = copied.beyond; of_set = copied.counted.of_set; live = has.source_live };
       sealed = subst (λ (c : Content). IsGreatest table.id table.geometry c seal) (sym has.source_read) copied.says;
-      greatest = λ journal last live is. elim (which journal live.behind_members live.of_set) [
+      greatest = λ journal last live is. elim (which journal live.beyond_members live.of_set) [
         | inl same ↦ omega (arith, ap (λ (s : Seal). s.number) (on_source journal last is same))
         | inr same ↦ omega (arith, above last (on_target journal last live is same))
       ];
-      lowest = λ journal last live is equal. elim (which journal live.behind_members live.of_set) [
+      lowest = λ journal last live is equal. elim (which journal live.beyond_members live.of_set) [
         | inl same ↦ omega (arith, same)
         | inr same ↦ absurd (omega (arith, equal, above last (on_target journal last live is same)))
       ];
@@ -185,7 +185,7 @@ module _ (law : AStopLeavesEither) (devices : ℕ) (table : Table) (puts : Conte
             (ap other same ∙ has.target_read (subst (λ (j : ℕ). IsLive devices table j (other j)) same live.live)) is
 
     target_live : IsLiveJournal devices table image target
-    target_live = record { behind_members = next.behind; of_set = next.of_set; live = alive.back target sealed.was_live }
+    target_live = record { beyond_members = next.beyond; of_set = next.of_set; live = alive.back target sealed.was_live }
 
     tells : (other : Slots) → HasTheSource devices table reads X source target before other → (last : Option Entry)
         → IsLastEntry table.id table.geometry (IsLiveJournal devices table image) image last → TellsAs devices table image other last
@@ -201,7 +201,7 @@ module _ (law : AStopLeavesEither) (devices : ℕ) (table : Table) (puts : Conte
           ∙ its_sectors entry.journal is.on_live row member below
           ∙ sym (ap (λ (c : Content). sector_in table.geometry.members c seal row member) has.source_read);
       owns = λ row member below within none trusted.
-          sealed.others member (FIRST_ROW + row) (λ same. absurd (omega (arith, same, within, next.behind)))
+          sealed.others member (FIRST_ROW + row) (λ same. absurd (omega (arith, same, within, next.beyond)))
           ∙ ap (λ (c : Content). sector_of (disk_of c) (FIRST_ROW + row)) (sym (has.members member within));
     }
 

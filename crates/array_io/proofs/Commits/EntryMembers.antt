@@ -12,12 +12,12 @@ use Rattle.stripe_journal.specs.LastEntry.{IsGreatest}
 use Rattle.stripe_journal.specs.OneEntry.{StaysOff}
 use Rattle.array_io.specs.Steps.Bringing.{CountsOn}
 use Rattle.array_io.specs.Believed.Moments.{HoldsThroughout}
-use Rattle.array_io.specs.Steps.Writing.{HasFallenOnce, IsWriting, WritesFrom}
+use Rattle.array_io.specs.Steps.Writing.{HasFailedOnce, IsWriting, WritesFrom}
 use Rattle.array_io.proofs.Writes.Written.{KeepsRows}
 use Rattle.array_io.proofs.Commits.EntryCalls.{none_pending_off, writes_on}
 use Rattle.array_io.proofs.Commits.EntryPhases.{IsRowSector, rows_keep}
 use Rattle.array_io.proofs.Commits.EntrySteps.{HasIt, IsStepOf, counted_is_up, read_is_seen}
-use Rattle.array_io.proofs.Marks.FallenMarked.{fell_in_step}
+use Rattle.array_io.proofs.Marks.FailedMarked.{failed_in_step}
 use Rattle.array_io.proofs.Images.Spellings.{Spellings}
 use Rattle.array_io.proofs.Writes.Writing.{writing_throughout}
 use Rattle.array_io.proofs.Writes.WritingImages.{written_alive}
@@ -27,17 +27,17 @@ module _ (spellings : Spellings) (devices : ℕ) (base table : Table) (lost : Op
     (only : (device at : ℕ) (value : Bytes) → puts device at value → IsRowSector table.geometry.members seal device at)
     (says : (journal : ℕ) → table.geometry.members ≤ journal → CountsOn table journal → HasIt table old journal seal body) where
   last_there : (journal : ℕ) → table.geometry.members ≤ journal → CountsOn table journal → IsGreatest table.id table.geometry (readable old journal) seal
-  last_there journal behind counted = subst (λ (c : Content). IsGreatest table.id table.geometry c seal)
-      (sym (read_is_seen spellings devices base table lost X old from journal counted)) (says journal behind counted).last
+  last_there journal beyond counted = subst (λ (c : Content). IsGreatest table.id table.geometry c seal)
+      (sym (read_is_seen spellings devices base table lost X old from journal counted)) (says journal beyond counted).last
 
   rows_kept : KeepsRows devices table puts (readable old) X X
   rows_kept whole before image written = rows_keep devices table puts (readable old) X whole before image written
       (written_alive devices table puts before image written.put) seal only last_there
 
-  -- Where the member's device fell meanwhile, only that did.
-  pub member_fell : Throughout (IsWriting table puts old) old new → StaysOff (λ d. d ≡ member) old new → CountsOn table member → is_down new member ≡ true
-      → HasFallenOnce devices base table lost X member new
-  member_fell moments off counted fell = (fell_in_step spellings devices base table lost X X puts member old new from rows_kept moments off counted fell).0
+  -- Where the member's device failed meanwhile, only that did.
+  pub member_failed : Throughout (IsWriting table puts old) old new → StaysOff (λ d. d ≡ member) old new → CountsOn table member → is_down new member ≡ true
+      → HasFailedOnce devices base table lost X member new
+  member_failed moments off counted failed = (failed_in_step spellings devices base table lost X X puts member old new from rows_kept moments off counted failed).0
 
   -- The rows come onto the member: every case keeps holding, and once it is flushed the set may be written on.
   pub member_step : Throughout (IsWriting table puts old) old new → StaysOff (λ d. d ≡ member) old new

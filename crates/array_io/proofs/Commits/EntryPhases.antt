@@ -71,7 +71,7 @@ module _ (devices : ℕ) (table : Table) (puts : Contents) (reads : Slots) (X : 
   ]
 
   journal_at : (slot : ℕ) → table.geometry.members ≤ slot → slot < slots_of table → IsLive devices table slot (before slot) → IsLiveJournal devices table before slot
-  journal_at slot behind of_set live = record { behind_members = behind; of_set = of_set; live = live }
+  journal_at slot beyond of_set live = record { beyond_members = beyond; of_set = of_set; live = live }
 
   -- one of the two journals was live
   pub some_journal : (journal : ℕ) × IsLiveJournal devices table before journal
@@ -89,7 +89,7 @@ module _ (devices : ℕ) (table : Table) (puts : Contents) (reads : Slots) (X : 
   -- Sectors of a half of one journal were written, in which its last entry has no body.
   pub half_says : (journal number : ℕ) → table.geometry.members ≤ journal → ((device at : ℕ) (value : Bytes) → puts device at value → (device ≡ journal) × IsInHalf number at)
       → ((seal : Seal) → IsGreatest table.id table.geometry (reads journal) seal → seal.number % HALVES ≢ number % HALVES) → SayTheSame devices table image before
-  half_says journal number behind only apart = record {
+  half_says journal number beyond only apart = record {
     alive = alive;
     seals = λ j place below live. elim ((from.put j).each (FIRST_SEAL + place)) [
       | inl same ↦ same
@@ -106,7 +106,7 @@ module _ (devices : ℕ) (table : Table) (puts : Contents) (reads : Slots) (X : 
     ];
     owns = λ last is row member below within none trusted. elim ((from.put member).each (FIRST_ROW + row)) [
       | inl same ↦ same
-      | inr put ↦ absurd (omega (arith, behind, within, (only member (FIRST_ROW + row) (sector_of (disk_of (image member)) (FIRST_ROW + row)) put.1).0))
+      | inr put ↦ absurd (omega (arith, beyond, within, (only member (FIRST_ROW + row) (sector_of (disk_of (image member)) (FIRST_ROW + row)) put.1).0))
     ];
   }
 
@@ -130,11 +130,11 @@ module _ (devices : ℕ) (table : Table) (puts : Contents) (reads : Slots) (X : 
   }
     where
       no_member : (j : ℕ) → IsLiveJournal devices table before j → ¬ (j < table.geometry.members)
-      no_member j live below = absurd (omega (arith, below, live.behind_members))
+      no_member j live below = absurd (omega (arith, below, live.beyond_members))
 
       its_seal : (j : ℕ) → IsLiveJournal devices table before j → IsGreatest table.id table.geometry (before j) seal
       its_seal j live = subst (λ (c : Content). IsGreatest table.id table.geometry c seal) (sym (journal_read j live))
-          (says j live.behind_members (journal_counts devices table before j live))
+          (says j live.beyond_members (journal_counts devices table before j live))
 
       same_row : (row other : ℕ) → FIRST_ROW + row ≡ FIRST_ROW + other → row ≡ other
       same_row row other is = omega (arith, is)
@@ -157,8 +157,8 @@ module _ (devices : ℕ) (table : Table) (puts : Contents) (reads : Slots) (X : 
   pub half_keeps : (journal number : ℕ) → table.geometry.members ≤ journal → ((device at : ℕ) (value : Bytes) → puts device at value → (device ≡ journal) × IsInHalf number at)
       → ((seal : Seal) → IsGreatest table.id table.geometry (reads journal) seal → seal.number % HALVES ≢ number % HALVES)
       → HasRows devices table X (IsLiveJournal devices table image) image × AreJournalsInStep devices table image
-  half_keeps journal number behind only apart =
-      let same = half_says journal number behind only apart in (
+  half_keeps journal number beyond only apart =
+      let same = half_says journal number beyond only apart in (
         says_the_same devices table image before same X record { sound = from.holds.sound; listed = from.holds.listed },
         steps_the_same devices table image before same from.holds.in_step,
       )

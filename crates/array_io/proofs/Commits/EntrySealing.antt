@@ -13,7 +13,7 @@ use Rattle.stripe_journal.specs.declared.seal.Seal.{Seal}
 use Rattle.stripe_journal.specs.Body.{seal_place}
 use Rattle.stripe_journal.specs.Entries.{body_start}
 use Rattle.stripe_journal.specs.LastEntry.{IsGreatest}
-use Rattle.stripe_journal.specs.OneEntry.{AStopLeavesEither, HasThisEntry, IsNextOn, Sealed}
+use Rattle.stripe_journal.specs.OneEntry.{ACrashLeavesEither, HasThisEntry, IsNextOn, Sealed}
 use Rattle.stripe_journal.specs.Spelling.{seal_sector}
 use Rattle.array_io.specs.Steps.Bringing.{CountsOn}
 use Rattle.array_io.proofs.Writes.Written.{IsWrittenFrom}
@@ -23,7 +23,7 @@ use Rattle.array_io.proofs.Images.SayingTheSame.{HaveLiveAlike, SayTheSame}
 -- The seal is written in its place of one journal, on which its body stands and whose last entry is the one before.
 pub record IsSealedNext (table : Table) (puts : Contents) (reads : Slots) (target : ℕ) (seal : Seal) (body : List Bytes) : Type 0 where
   pub only : (device at : ℕ) (value : Bytes) → puts device at value → (device ≡ target) × (at ≡ seal_place seal.number) × (value ≡ seal_sector seal)
-  pub behind : table.geometry.members ≤ target
+  pub beyond : table.geometry.members ≤ target
   pub of_set : target < slots_of table
   pub next : IsNextOn table.id table.geometry (disk_of (reads target)) seal
   pub its_body : (k : ℕ) → k < length body → sector_of (disk_of (reads target)) (body_start seal.number + k) ≡ slice_index_or body k []
@@ -43,7 +43,7 @@ greatest_there id geometry None seal is = record {
   greatest = λ at other counts. is.greatest at other record { stands = counts.stands; belongs = counts.belongs };
 }
 
-module _ (law : AStopLeavesEither) (devices : ℕ) (table : Table) (puts : Contents) (reads : Slots) (X : List (List Bytes)) (whole before image : Slots)
+module _ (law : ACrashLeavesEither) (devices : ℕ) (table : Table) (puts : Contents) (reads : Slots) (X : List (List Bytes)) (whole before image : Slots)
     (from : IsWrittenFrom devices table puts reads X whole before image) (alive : HaveLiveAlike devices table image before)
     (target : ℕ) (seal : Seal) (body : List Bytes) (next : IsSealedNext table puts reads target seal body) where
   other_slots : (slot at : ℕ) → slot ≢ target → sector_of (disk_of (image slot)) at ≡ sector_of (disk_of (before slot)) at

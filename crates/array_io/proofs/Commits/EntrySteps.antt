@@ -17,18 +17,18 @@ use Rattle.stripe_journal.specs.declared.seal.Seal.{Seal}
 use Rattle.stripe_journal.specs.Body.{seal_place}
 use Rattle.stripe_journal.specs.Entries.{body_start}
 use Rattle.stripe_journal.specs.LastEntry.{IsGreatest}
-use Rattle.stripe_journal.specs.OneEntry.{AStopLeavesEither, HasEntryBefore, HasThisEntry, IsInHalf, IsNextOn, IsOn, MayStandOn, Sealed, Sealing, Staged, StaysOff, Writing}
+use Rattle.stripe_journal.specs.OneEntry.{ACrashLeavesEither, HasEntryBefore, HasThisEntry, IsInHalf, IsNextOn, IsOn, MayStandOn, Sealed, Sealing, Staged, StaysOff, Writing}
 use Rattle.stripe_journal.specs.Spelling.{seal_sector}
 use Rattle.stripe_journal.proofs.OneEntry.{other_half}
 use Rattle.stripe_journal.proofs.OneEntryCalls.{IsPutOn, body_put, made_down, seal_put, writing_before}
 use Rattle.array_io.specs.Steps.Bringing.{CountsOn}
 use Rattle.array_io.specs.Believed.Moments.{HoldsThroughout}
-use Rattle.array_io.specs.Steps.Writing.{HasFallenOnce, IsWriting, WritesFrom}
+use Rattle.array_io.specs.Steps.Writing.{HasFailedOnce, IsWriting, WritesFrom}
 use Rattle.array_io.proofs.Writes.Written.{KeepsRows}
 use Rattle.array_io.proofs.Laws.Beginning.{live_is_up}
 use Rattle.array_io.proofs.Commits.EntryCalls.{AllAllowed, calls_write, none_pending_off, writes_on}
 use Rattle.array_io.proofs.Commits.EntryPhases.{half_keeps}
-use Rattle.array_io.proofs.Marks.FallenMarked.{fell_in_step}
+use Rattle.array_io.proofs.Marks.FailedMarked.{failed_in_step}
 use Rattle.array_io.proofs.Images.Spellings.{Spellings}
 use Rattle.array_io.proofs.Writes.Writing.{writing_throughout}
 use Rattle.array_io.proofs.Writes.WritingImages.{written_alive}
@@ -63,20 +63,20 @@ read_is_seen spellings devices base table lost X h from slot counted = readable_
 
 -- a journal has room for its bodies
 journal_long : (table : Table) (journal : ℕ) (disk : List Bytes) (devices : ℕ) → table.geometry.members ≤ journal → IsLive devices table journal (Some disk) → JOURNAL_SECTORS ≤ length disk
-journal_long table journal disk devices behind live = by_test (nat_lt journal table.geometry.members) refl
+journal_long table journal disk devices beyond live = by_test (nat_lt journal table.geometry.members) refl
   where
     by_test : (b : Bool) → nat_lt journal table.geometry.members ≡ b → JOURNAL_SECTORS ≤ length disk
     by_test true is = absurd (below_not is)
       where
         below_not : ¬ (nat_lt journal table.geometry.members ≡ true)
-        below_not below = grind (arith, nat_tests, below, behind)
+        below_not below = grind (arith, nat_tests, below, beyond)
     by_test false is = subst (λ (b : Bool). (if b then FIRST_ROW + rows_of table.geometry.chunk table.geometry.stripes else JOURNAL_SECTORS) ≤ length disk) is live.long_enough
 
-module _ (law : AStopLeavesEither) (spellings : Spellings) (devices : ℕ) (base table : Table) (lost : Option Lost) (X : List (List Bytes)) (journal : ℕ) (seal : Seal) (body : List Bytes)
-    (behind : table.geometry.members ≤ journal) (counted : CountsOn table journal) (few : length body ≤ BODY_SECTORS) (answered : Bool) (old new : History)
+module _ (law : ACrashLeavesEither) (spellings : Spellings) (devices : ℕ) (base table : Table) (lost : Option Lost) (X : List (List Bytes)) (journal : ℕ) (seal : Seal) (body : List Bytes)
+    (beyond : table.geometry.members ≤ journal) (counted : CountsOn table journal) (few : length body ≤ BODY_SECTORS) (answered : Bool) (old new : History)
     (from : WritesFrom devices base table lost X old) where
   room : is_down old journal ≡ false → JOURNAL_SECTORS ≤ length (seen old journal)
-  room up = journal_long table journal (seen old journal) devices behind
+  room up = journal_long table journal (seen old journal) devices beyond
       (subst (IsLive devices table journal) (read_is_seen spellings devices base table lost X old from journal counted) (from.there journal counted.of_set counted.there))
 
   was_up : is_down old journal ≡ false
@@ -103,7 +103,7 @@ module _ (law : AStopLeavesEither) (spellings : Spellings) (devices : ℕ) (base
 
   body_keeps : MayPut table old journal seal → KeepsRows devices table PutsBody (readable old) X X
   body_keeps next whole before image written = half_keeps devices table PutsBody (readable old) X whole before image written
-      (written_alive devices table PutsBody before image written.put) journal seal.number behind (λ device at value put. put)
+      (written_alive devices table PutsBody before image written.put) journal seal.number beyond (λ device at value put. put)
       (λ last is. other_half table.id table.geometry (seen old journal) seal last next
       (subst (λ (c : Content). IsGreatest table.id table.geometry c last) (read_is_seen spellings devices base table lost X old from journal counted) is))
 
@@ -111,12 +111,12 @@ module _ (law : AStopLeavesEither) (spellings : Spellings) (devices : ℕ) (base
   body_writes made = calls_write table PutsBody (writes_from journal (body_start seal.number) body ++ Flush journal ∷ [])
       (body_allowed (body_start seal.number) body (omega arith) (omega (arith, few))) made
 
-  -- Where the journal's device fell meanwhile, only that did.
-  pub body_fell : MayPut table old journal seal → Made (writes_from journal (body_start seal.number) body ++ Flush journal ∷ []) answered old new
-      → is_down new journal ≡ true → HasFallenOnce devices base table lost X journal new
-  body_fell next made fell =
+  -- Where the journal's device failed meanwhile, only that did.
+  pub body_failed : MayPut table old journal seal → Made (writes_from journal (body_start seal.number) body ++ Flush journal ∷ []) answered old new
+      → is_down new journal ≡ true → HasFailedOnce devices base table lost X journal new
+  body_failed next made failed =
       let put = body_put journal (seen old journal) seal body old new few room (writing_before journal seal body old single) made in
-      (fell_in_step spellings devices base table lost X X PutsBody journal old new from (body_keeps next) (body_writes made) (throughout_last new put.0).1 counted fell).0
+      (failed_in_step spellings devices base table lost X X PutsBody journal old new from (body_keeps next) (body_writes made) (throughout_last new put.0).1 counted failed).0
 
   -- The body comes onto the journal: every case keeps holding, and at its end the body stands.
   pub body_step : MayPut table old journal seal → Made (writes_from journal (body_start seal.number) body ++ Flush journal ∷ []) answered old new
@@ -179,13 +179,13 @@ module _ (law : AStopLeavesEither) (spellings : Spellings) (devices : ℕ) (base
     };
   }
 
-  -- Where the journal's device fell meanwhile, only that did.
-  pub seal_fell : (X' : List (List Bytes)) → HasBody table old journal seal body → KeepsRows devices table PutsSeal (readable old) X X'
+  -- Where the journal's device failed meanwhile, only that did.
+  pub seal_failed : (X' : List (List Bytes)) → HasBody table old journal seal body → KeepsRows devices table PutsSeal (readable old) X X'
       → Made (Write journal (seal_place seal.number) (seal_sector seal) ∷ Flush journal ∷ []) answered old new → is_down new journal ≡ true
-      → HasFallenOnce devices base table lost X' journal new
-  seal_fell X' has keeps made fell =
+      → HasFailedOnce devices base table lost X' journal new
+  seal_failed X' has keeps made failed =
       let put = seal_put journal (seen old journal) seal body old new room (staged_on has) made in
-      (fell_in_step spellings devices base table lost X X' PutsSeal journal old new from keeps (seal_writes made) (throughout_last new put.0).1 counted fell).0
+      (failed_in_step spellings devices base table lost X X' PutsSeal journal old new from keeps (seal_writes made) (throughout_last new put.0).1 counted failed).0
 
   -- The seal comes onto a journal on which the body stands, where that keeps the rows of each image: then the entry is its last.
   pub seal_step : (X' : List (List Bytes)) → HasBody table old journal seal body → KeepsRows devices table PutsSeal (readable old) X X'

@@ -10,7 +10,7 @@ use Rattle.superblock.specs.declared.table.Table.{Table}
 use Rattle.superblock.specs.Tables.{state_at}
 use Rattle.superblock.specs.Cases.{HasWholeSectors}
 use Rattle.superblock.specs.Counted.{Content}
-use Rattle.superblock.specs.Losses.{IsOneLoss}
+use Rattle.superblock.specs.Losses.{IsSingleFailure}
 use Rattle.superblock.specs.NextTables.{slots_of}
 use Rattle.stripe_journal.specs.declared.seal.Seal.{Seal}
 use Rattle.stripe_journal.specs.Body.{place_by_seal}
@@ -32,7 +32,7 @@ use Rattle.array_io.specs.Steps.Putting.{IsPut, IsPutBefore, PutsFrom}
 
 -- Once the rows stand on all members that count, those hold what the entry says.
 module _ (spellings : Spellings) (seal : Seal) (body : List Bytes) (from : PutsFrom) (table : Table) (h : History) (is : IsPutBefore table.geometry.members seal body from table h)
-    (loss : IsOneLoss (slots_of from.base) from.lost h) (whole : HasWholeSectors (readable h)) where
+    (loss : IsSingleFailure (slots_of from.base) from.lost h) (whole : HasWholeSectors (readable h)) where
   on_journal : (journal : ℕ) → IsLiveJournal from.devices table (readable h) journal → CountsOn table journal
   on_journal journal live = record { of_set = live.of_set; there = live.live.not_missing }
 
@@ -44,7 +44,7 @@ module _ (spellings : Spellings) (seal : Seal) (body : List Bytes) (from : PutsF
   replayed_last = record {
     last = Some seal;
     sealed = λ journal live. subst (λ (c : Content). IsLastSealed table.id table.geometry c (Some seal)) (sym (read journal (on_journal journal live)))
-        (is.on_journals journal live.behind_members (on_journal journal live)).last;
+        (is.on_journals journal live.beyond_members (on_journal journal live)).last;
     there = is.writes.there;
   }
 
@@ -59,7 +59,7 @@ module _ (spellings : Spellings) (seal : Seal) (body : List Bytes) (from : PutsF
       let at = is_placed members seal row member place found in
       ap (λ (c : Content). sector_of (disk_of c) place) (read journal on)
       ∙ ap (sector_of (seen h journal)) at.place_is
-      ∙ (is.on_journals journal live.behind_members on).has_body (rank members seal.form at.i member) (in_the_body members seal body at.i member is.long at.within within at.held)
+      ∙ (is.on_journals journal live.beyond_members on).has_body (rank members seal.form at.i member) (in_the_body members seal body at.i member is.long at.within within at.held)
       ∙ sym (is.on_members member at.i within within at.within at.held (subst (λ (r : ℕ). trusts (state_at table.states member) r table.position ≡ true) (sym at.row_is) trusted))
       ∙ ap (λ (r : ℕ). sector_of (seen h member) (FIRST_ROW + r)) at.row_is
       ∙ sym (ap (λ (c : Content). sector_of (disk_of c) (FIRST_ROW + row)) (read member counts))
@@ -76,7 +76,7 @@ module _ (spellings : Spellings) (seal : Seal) (body : List Bytes) (from : PutsF
           same_Some sector (sector_of (disk_of (readable h journal)) place) (sym has_it ∙ ap (option_map (sector_of (disk_of (readable h journal)))) found)
           ∙ of_place journal live row member place within trusted found
 
-  -- what reads give is an image that a stop may leave, so it holds
+  -- what reads give is an image that a crash may leave, so it holds
   holds_now : HoldsIn from.devices table from.lists (readable h)
   holds_now = (by_table from.base from.devices table from.lists (record { image = readable h; lost = loss.0 }) is.writes.same_id
       (is.writes.holds loss.0 (readable h) loss.1 (readable_left h)) ((is.writes.chosen loss.0 loss.1).whole (readable h) (readable_left h))).whole

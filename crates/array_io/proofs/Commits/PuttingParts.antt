@@ -1,4 +1,4 @@
--- The parts of an entry on one slot: a body and a seal on a journal, the rows on a member. What each comes to, also where the slot's device falls.
+-- The parts of an entry on one slot: a body and a seal on a journal, the rows on a member. What each comes to, also where the slot's device fails.
 use Rattle.std.proofs.Common.{◌≡◌, ◌≢◌, ◌⊎◌, inl, inr, ℕ, ◌+◌, ◌<◌, ◌≤◌, Bool, true, false, List, [], ◌∷◌, ◌++◌, length, Some, Ok, Result, refl, sym, ◌∙◌, ap, subst, arith}
 use Rattle.std.specs.Prelude.{◌&&◌, Contains}
 use Rattle.sector_model.specs.declared.sector.Stop.{Stop}
@@ -17,7 +17,7 @@ use Rattle.stripe_journal.specs.Body.{seal_place}
 use Rattle.stripe_journal.specs.Entries.{body_start}
 use Rattle.stripe_journal.specs.Forms.{holds}
 use Rattle.stripe_journal.specs.LastEntry.{IsGreatest}
-use Rattle.stripe_journal.specs.OneEntry.{AStopLeavesEither, HasThisEntry, IsNextOn, StaysOff}
+use Rattle.stripe_journal.specs.OneEntry.{ACrashLeavesEither, HasThisEntry, IsNextOn, StaysOff}
 use Rattle.stripe_journal.specs.Seals.{row_at}
 use Rattle.stripe_journal.specs.Spelling.{seal_sector}
 use Rattle.stripe_journal.proofs.Masks.{before_few}
@@ -26,28 +26,28 @@ use Rattle.array_io.specs.Believed.Moments.{HoldsThroughout}
 use Rattle.array_io.specs.Steps.Bringing.{CountsOn}
 use Rattle.array_io.specs.Steps.Putting.{Awaited, Copied, Formed, HasBody, HasOrigin, HasSeal, HasSource, IsAt, IsComing, IsFormedOn, IsPutBefore, MayWrite, Origin, Progress, PutsFrom, in_body, reached}
 use Rattle.array_io.specs.Steps.PuttingRows.{HeldRows, IsRowOn, LeavesSeen, PutsMember, is_put}
-use Rattle.array_io.specs.Steps.Writing.{HasFallenOnce}
+use Rattle.array_io.specs.Steps.Writing.{HasFailedOnce}
 use Rattle.array_io.specs.Believed.Holds.{IsLiveJournal}
 use Rattle.array_io.specs.Laws.Core.{AreJournalsInStep, HasRows}
 use Rattle.array_io.proofs.Writes.Written.{KeepsRows}
 use Rattle.array_io.proofs.Rest.AtRestRows.{trusts_tells}
 use Rattle.array_io.proofs.Commits.EntryCommitted.{IsCommitted, committed_keeps}
 use Rattle.array_io.proofs.Commits.EntryCopied.{IsCopiedFrom, copied_keeps}
-use Rattle.array_io.proofs.Commits.EntryMembers.{member_fell, member_step}
+use Rattle.array_io.proofs.Commits.EntryMembers.{member_failed, member_step}
 use Rattle.array_io.proofs.Commits.EntryPhases.{IsRowSector}
 use Rattle.array_io.proofs.Commits.EntrySealing.{IsSealedNext}
-use Rattle.array_io.proofs.Commits.EntrySteps.{IsStepOf, body_fell, body_step, counted_is_up, read_is_seen, seal_fell, seal_step}
+use Rattle.array_io.proofs.Commits.EntrySteps.{IsStepOf, body_failed, body_step, counted_is_up, read_is_seen, seal_failed, seal_step}
 use Rattle.array_io.proofs.Commits.PuttingStates.{coming_still, marked_beside, marked_out, put_still, reached_beside, reached_here, step_beside}
-use Rattle.array_io.proofs.Marks.FallenMarked.{MarkedOn}
+use Rattle.array_io.proofs.Marks.FailedMarked.{MarkedOn}
 use Rattle.array_io.proofs.Images.Spellings.{Spellings}
 use Rattle.array_io.proofs.Writes.WritingImages.{written_alive}
 
--- What calls of one slot's device come to, from the state before them: all cases hold at each moment; answered, they lead to the state behind them; and where the device fell only that
+-- What calls of one slot's device come to, from the state before them: all cases hold at each moment; answered, they lead to the state after them; and where the device failed only that
 -- one did, and once its slot is marked missing what is said of it is free.
 pub record IsPartOf (after : PutsFrom → Table → History → Type 0) (from : PutsFrom) (slot : ℕ) (table : Table) (old mid : History) (answered : Bool) : Type 0 where
   pub moments : HoldsThroughout from.base from.devices from.lost from.lists old mid
   pub done : answered ≡ true → after from table mid
-  pub fell : is_down mid slot ≡ true → HasFallenOnce from.devices from.base table from.lost from.lists slot mid
+  pub failed : is_down mid slot ≡ true → HasFailedOnce from.devices from.base table from.lost from.lists slot mid
   pub marked : (new_table : Table) (new : History) → MarkedOn from.devices from.base table new_table from.lost from.lists slot mid new → MayWrite from new_table new → after from new_table new
 
 -- two tests that are both so
@@ -97,7 +97,7 @@ module _ (spellings : Spellings) (seal : Seal) (body : List Bytes) (from : PutsF
         let on : CountsOn table member = record { of_set = omega (arith, within); there = trusted.there } in
         ap (λ (c : Content). sector_of (disk_of c) (FIRST_ROW + row)) (read_there member on) ∙ formed.own row member below within tells none;
     whole_sectors = formed.whole_sectors;
-    others = λ k behind_k on apart. others_are k on (journals k) (is.on_journals k behind_k on);
+    others = λ k beyond_k on apart. others_are k on (journals k) (is.on_journals k beyond_k on);
   }
 
 module _ (spellings : Spellings) (seal : Seal) (body : List Bytes) (from : PutsFrom) (table : Table) (old mid : History) (answered : Bool) (slot : ℕ) (counted : CountsOn table slot)
@@ -105,7 +105,7 @@ module _ (spellings : Spellings) (seal : Seal) (body : List Bytes) (from : PutsF
   abbrev Step : Type 0
   Step = IsStepOf from.devices from.base table from.lost from.lists slot old mid
 
-  module _ (law : AStopLeavesEither) (origin : Origin) (journals : ℕ → Progress) (behind : table.geometry.members ≤ slot) (is : IsComing origin seal body journals from table old) where
+  module _ (law : ACrashLeavesEither) (origin : Origin) (journals : ℕ → Progress) (beyond : table.geometry.members ≤ slot) (is : IsComing origin seal body journals from table old) where
     -- the body is one of a journal
     few : length body ≤ BODY_SECTORS
     few = omega (arith, is.long, before_few table.geometry.members seal.form (length seal.rows.items) table.geometry.limits.members_most seal.allowed.rows_most)
@@ -114,18 +114,18 @@ module _ (spellings : Spellings) (seal : Seal) (body : List Bytes) (from : PutsF
     read = read_there spellings seal body from table old origin journals is
 
     stands : (progress : Progress) → journals slot ≡ progress → IsAt progress table old slot seal body
-    stands progress so = subst (λ (p : Progress). IsAt p table old slot seal body) so (is.on_journals slot behind counted)
+    stands progress so = subst (λ (p : Progress). IsAt p table old slot seal body) so (is.on_journals slot beyond counted)
 
     -- one step further there, or marked
     module _ (progress : Progress) (no_source : journals slot ≢ HasSeal) where
       stepped : Step → IsAt progress table mid slot seal body → IsComing origin seal body (reached journals slot progress) from table mid
-      stepped step at = coming_still slot seal body from table table old mid (step_beside from slot table old mid step) step.from origin journals (reached journals slot progress) behind is
+      stepped step at = coming_still slot seal body from table table old mid (step_beside from slot table old mid step) step.from origin journals (reached journals slot progress) beyond is
           (reached_beside journals slot progress) (inl no_source) (λ on. subst (λ (p : Progress). IsAt p table mid slot seal body) (sym (reached_here journals slot progress)) at)
 
       marked_on : (new_table : Table) (new : History) → MarkedOn from.devices from.base table new_table from.lost from.lists slot mid new → MayWrite from new_table new
           → IsComing origin seal body (reached journals slot progress) from new_table new
       marked_on new_table new marked writes = coming_still slot seal body from table new_table old new
-          (marked_beside spellings from slot table new_table old mid new counted off.others_seen marked writes) writes origin journals (reached journals slot progress) behind is
+          (marked_beside spellings from slot table new_table old mid new counted off.others_seen marked writes) writes origin journals (reached journals slot progress) beyond is
           (reached_beside journals slot progress) (inl no_source)
           (λ on. absurd (marked_out spellings from slot table new_table old mid new counted off.others_seen marked writes on))
 
@@ -135,11 +135,11 @@ module _ (spellings : Spellings) (seal : Seal) (body : List Bytes) (from : PutsF
     body_part awaited made =
         let next = stands Awaited awaited in
         let no_source : journals slot ≢ HasSeal = λ sealed. sealed_not_awaited (sym awaited ∙ sealed) in
-        let step = body_step law spellings from.devices from.base table from.lost from.lists slot seal body behind counted few answered old mid is.writes next made in
+        let step = body_step law spellings from.devices from.base table from.lost from.lists slot seal body beyond counted few answered old mid is.writes next made in
         record {
           moments = step.0;
           done = λ all. let done = step.1 all in stepped HasBody no_source done.0 (done.1.next, record { stands = done.1.stands });
-          fell = body_fell law spellings from.devices from.base table from.lost from.lists slot seal body behind counted few answered old mid is.writes next made;
+          failed = body_failed law spellings from.devices from.base table from.lost from.lists slot seal body beyond counted few answered old mid is.writes next made;
           marked = marked_on HasBody no_source;
         }
 
@@ -152,7 +152,7 @@ module _ (spellings : Spellings) (seal : Seal) (body : List Bytes) (from : PutsF
       sealed_next : IsSealedNext table PutsSeal (readable old) slot seal body
       sealed_next = record {
         only = λ device at value put. put;
-        behind = behind;
+        beyond = beyond;
         of_set = counted.of_set;
         next = subst (λ (c : Content). IsNextOn table.id table.geometry (disk_of c) seal) (sym (read slot counted)) (stands HasBody staged).0;
         its_body = λ k within. ap (λ (c : Content). sector_of (disk_of c) (body_start seal.number + k)) (read slot counted) ∙ (stands HasBody staged).1.stands k within;
@@ -161,10 +161,10 @@ module _ (spellings : Spellings) (seal : Seal) (body : List Bytes) (from : PutsF
       -- what the other journal has, where it has the entry
       copied : (has : HasSource journals table) → IsCopiedFrom table (readable old) has.source slot seal body
       copied has =
-          let there = subst (λ (p : Progress). IsAt p table old has.source seal body) has.sealed (is.on_journals has.source has.behind has.counted) in
+          let there = subst (λ (p : Progress). IsAt p table old has.source seal body) has.sealed (is.on_journals has.source has.beyond has.counted) in
           record {
             apart = λ same. sealed_not_body (sym staged ∙ ap journals (sym same) ∙ has.sealed);
-            behind = has.behind;
+            beyond = has.beyond;
             counted = has.counted;
             says = subst (λ (c : Content). IsGreatest table.id table.geometry c seal) (sym (read has.source has.counted)) there.last;
             long = is.long;
@@ -186,12 +186,12 @@ module _ (spellings : Spellings) (seal : Seal) (body : List Bytes) (from : PutsF
       seal_part made =
           let no_source : journals slot ≢ HasSeal = λ sealed. sealed_not_body (sym staged ∙ sealed) in
           let bodied = stands HasBody staged in
-          let step = seal_step law spellings from.devices from.base table from.lost from.lists slot seal body behind counted few answered old mid is.writes from.lists
+          let step = seal_step law spellings from.devices from.base table from.lost from.lists slot seal body beyond counted few answered old mid is.writes from.lists
           record { next = bodied.0; stands = bodied.1.stands } seal_keeps made in
           record {
             moments = step.0;
             done = λ all. stepped HasSeal no_source (step.1 all).0 (step.1 all).1;
-            fell = seal_fell law spellings from.devices from.base table from.lost from.lists slot seal body behind counted few answered old mid is.writes from.lists
+            failed = seal_failed law spellings from.devices from.base table from.lost from.lists slot seal body beyond counted few answered old mid is.writes from.lists
                 record { next = bodied.0; stands = bodied.1.stands } seal_keeps made;
             marked = marked_on HasSeal no_source;
           }
@@ -220,7 +220,7 @@ module _ (spellings : Spellings) (seal : Seal) (body : List Bytes) (from : PutsF
       ),
     )
 
-    -- a stop left there what reads gave
+    -- a crash left there what reads gave
     leaves_seen : LeavesSeen old slot
     leaves_seen at value may =
         let up = counted_is_up spellings from.devices from.base table from.lost from.lists old is.writes slot counted in
@@ -229,7 +229,7 @@ module _ (spellings : Spellings) (seal : Seal) (body : List Bytes) (from : PutsF
     step : HoldsThroughout from.base from.devices from.lost from.lists old mid × (result ≡ Ok tt → Step)
     step =
         let both = member_step spellings from.devices from.base table from.lost from.lists slot seal body PutsRows old mid is.writes only is.on_journals (puts.moments fair) (puts.off fair) in
-        (both.0, λ ok. both.1 (puts.flushed fair ok leaves_seen) (puts.none_fell fair ok))
+        (both.0, λ ok. both.1 (puts.flushed fair ok leaves_seen) (puts.none_failed fair ok))
 
     pub rows_part : (answered ≡ true → result ≡ Ok tt) → IsPartOf (IsPutBefore (slot + 1) seal body) from slot table old mid answered
     rows_part ok_if = record {
@@ -245,7 +245,7 @@ module _ (spellings : Spellings) (seal : Seal) (body : List Bytes) (from : PutsF
           let put : is_put table of slot i ≡ true = both_so (of.held i slot) _ (held_are i below ∙ held)
           (subst (λ (r : List ℕ). trusts (state_at table.states slot) (row_at r i) table.position ≡ true) (sym rows) trusted) in
           ap (λ (r : List ℕ). sector_of (seen mid slot) (FIRST_ROW + row_at r i)) (sym rows) ∙ puts.written fair ok i there put ∙ values_are i below held);
-      fell = member_fell spellings from.devices from.base table from.lost from.lists slot seal body PutsRows old mid is.writes only is.on_journals (puts.moments fair) (puts.off fair) counted;
+      failed = member_failed spellings from.devices from.base table from.lost from.lists slot seal body PutsRows old mid is.writes only is.on_journals (puts.moments fair) (puts.off fair) counted;
       marked = λ new_table new marked writes.
           put_still slot seal body from table new_table old new (marked_beside spellings from slot table new_table old mid new counted off.others_seen marked writes) writes slot (slot + 1) is within
           (λ k apart below. omega (arith, apart, below))

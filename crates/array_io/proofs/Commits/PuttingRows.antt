@@ -4,7 +4,7 @@ use Rattle.std.specs.Prelude.{Result, Ok, Err, IfErr, OnOk, is_ok}
 use Rattle.std.specs.List.Sorted.{IsStrictlyIncreasing}
 use Rattle.std.proofs.lemmas.Bool.{cases_eq, cases_lt, false≢true}
 use Rattle.sector_model.specs.declared.event.Event.{Event}
-use Rattle.sector_model.specs.declared.event.Event.TheVariants.{Quiet, Lost, Fell}
+use Rattle.sector_model.specs.declared.event.Event.TheVariants.{Quiet, Lost, DeviceFailed}
 use Rattle.sector_model.specs.declared.sector.Stop.{Stop}
 use Rattle.sector_model.specs.declared.sector.Stop.TheVariants.{Down, Worn}
 use Rattle.sector_model.specs.Bank.{IsCauseOf, IsLater, IsTrueTo, Panel, after_flush, after_try, after_write, fault_at}
@@ -176,7 +176,7 @@ module _ (table : Table) (of : HeldRows) (member : ℕ) where
     where
       keeps : (answered : Bool) (h : History) → IsElsewhere old h → IsElsewhere old (after_call (Flush member) answered h)
       keeps true h before at none = before at none
-      keeps false h before at none = ap (λ (l : List Bytes). sector_of l at) (seen_fault member (Fell member) h (λ d. refl) member) ∙ before at none
+      keeps false h before at none = ap (λ (l : List Bytes). sector_of l at) (seen_fault member (DeviceFailed member) h (λ d. refl) member) ∙ before at none
 
   calls_elsewhere : (old : History) (n : ℕ) → n ≤ length of.rows → AllKeep (IsElsewhere old) (calls_below n)
   calls_elsewhere old zero most = tt
@@ -256,7 +256,7 @@ module _ (table : Table) (of : HeldRows) (member : ℕ) where
     moments = λ honest. (give honest).moments;
     off = λ honest. (give honest).off;
     elsewhere = λ honest. (give honest).elsewhere;
-    none_fell = λ honest ok. absurd (cc);
+    none_failed = λ honest ok. absurd (cc);
     written = λ honest ok. absurd (cc);
     flushed = λ honest ok. absurd (cc);
   }
@@ -279,7 +279,7 @@ module _ (table : Table) (of : HeldRows) (member : ℕ) where
     moments = λ honest. (give honest).moments;
     off = λ honest. (give honest).off;
     elsewhere = λ honest. (give honest).elsewhere;
-    none_fell = λ honest ok. made_down (whole honest ok);
+    none_failed = λ honest ok. made_down (whole honest ok);
     written = λ honest ok i below trusted.
         ap (λ (h : History). sector_of (seen h member) (FIRST_ROW + row_at of.rows i)) (made_all (whole honest ok) ∙ after_both (calls_below (length of.rows)) (Flush member ∷ []) old)
         ∙ rows_written old can.rising (λ j within. row_within first old table of.rows j member (first_true honest) can within on (was_up honest ok)) (length of.rows) (omega arith) i below trusted;
@@ -315,7 +315,7 @@ module _ (table : Table) (of : HeldRows) (member : ℕ) where
       others_seen = λ device apart. refl;
     };
     elsewhere = λ honest at apart. refl;
-    none_fell = λ honest ok device. refl;
+    none_failed = λ honest ok device. refl;
     written = λ honest ok i below put. absurd (false≢true (sym (none i below) ∙ put));
     flushed = λ honest ok before. before;
   }

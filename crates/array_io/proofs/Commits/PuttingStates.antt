@@ -1,4 +1,4 @@
--- How far an entry is on a set, and that it stays so elsewhere: over a step on one slot, when its device falls and the slot is marked missing, and where it is passed over.
+-- How far an entry is on a set, and that it stays so elsewhere: over a step on one slot, when its device fails and the slot is marked missing, and where it is passed over.
 use Rattle.std.proofs.Common.{◌≡◌, ◌≢◌, ◌⊎◌, inl, inr, ℕ, ◌+◌, ◌<◌, ◌≤◌, ◌==◌, Bool, true, false, List, [], length, None, Some, refl, sym, ◌∙◌, ap, subst, subst₂, arith}
 use Rattle.std.specs.Prelude.{if◌then◌else◌, slice_index_or}
 use Rattle.std.proofs.lemmas.Bool.{cases_eq, eq-eqb, eqb-true, false≢true}
@@ -25,7 +25,7 @@ use Rattle.array_io.proofs.Rest.AtRestRows.{trusts_tells}
 use Rattle.array_io.proofs.Laws.Beginning.{live_is_up}
 use Rattle.array_io.proofs.Commits.EntryCarried.{CountsOnNoMore, counts_on_the_same, marked_goes_on}
 use Rattle.array_io.proofs.Commits.EntrySteps.{IsStepOf}
-use Rattle.array_io.proofs.Marks.FallenMarked.{MarkedOn}
+use Rattle.array_io.proofs.Marks.FailedMarked.{MarkedOn}
 use Rattle.array_io.proofs.Marks.MarkingHolds.{missing_then, state_stays}
 use Rattle.array_io.proofs.Images.SayingTheSame.{same_greatest, same_sealed}
 use Rattle.array_io.proofs.Images.Spellings.{Spellings}
@@ -45,11 +45,11 @@ reached_beside journals journal progress k apart = on_reached journals journal k
 pub reached_here : (journals : ℕ → Progress) (journal : ℕ) (progress : Progress) → reached journals journal progress journal ≡ progress
 reached_here journals journal progress = on_reached journals journal journal progress (λ (p : Progress). p ≡ progress) (λ same. refl) (λ apart. absurd (apart refl))
 
--- How far the entry is on a journal stays, where that has the same sectors behind the superblocks, by a table of the same set.
+-- How far the entry is on a journal stays, where that has the same sectors after the superblocks, by a table of the same set.
 module _ (old_table new_table : Table) (old new : History) (journal : ℕ) (seal : Seal) (body : List Bytes) (same_id : new_table.id ≡ old_table.id) (same_geometry : new_table.geometry ≡ old_table.geometry)
     (same : (at : ℕ) → SUPERBLOCK_PLACES ≤ at → sector_of (seen new journal) at ≡ sector_of (seen old journal) at) where
-  next_behind : IsNextOn old_table.id old_table.geometry (seen old journal) seal → IsNextOn new_table.id new_table.geometry (seen new journal) seal
-  next_behind next = subst₂ (λ (id : List ℕ) (g : Geometry). IsNextOn id g (seen new journal) seal) (sym same_id) (sym same_geometry) here
+  next_beyond : IsNextOn old_table.id old_table.geometry (seen old journal) seal → IsNextOn new_table.id new_table.geometry (seen new journal) seal
+  next_beyond next = subst₂ (λ (id : List ℕ) (g : Geometry). IsNextOn id g (seen new journal) seal) (sym same_id) (sym same_geometry) here
     where
       here : IsNextOn old_table.id old_table.geometry (seen new journal) seal
       here = record {
@@ -60,11 +60,11 @@ module _ (old_table new_table : Table) (old new : History) (journal : ℕ) (seal
         number = next.number;
       }
 
-  body_behind : StandsBody old journal seal body → StandsBody new journal seal body
-  body_behind stood = record { stands = λ k within. same (body_start seal.number + k) (omega arith) ∙ stood.stands k within }
+  body_beyond : StandsBody old journal seal body → StandsBody new journal seal body
+  body_beyond stood = record { stands = λ k within. same (body_start seal.number + k) (omega arith) ∙ stood.stands k within }
 
-  pub entry_behind : HasThisEntry old_table.id old_table.geometry (seen old journal) seal body → HasThisEntry new_table.id new_table.geometry (seen new journal) seal body
-  entry_behind has = subst₂ (λ (id : List ℕ) (g : Geometry). HasThisEntry id g (seen new journal) seal body) (sym same_id) (sym same_geometry) here
+  pub entry_beyond : HasThisEntry old_table.id old_table.geometry (seen old journal) seal body → HasThisEntry new_table.id new_table.geometry (seen new journal) seal body
+  entry_beyond has = subst₂ (λ (id : List ℕ) (g : Geometry). HasThisEntry id g (seen new journal) seal body) (sym same_id) (sym same_geometry) here
     where
       here : HasThisEntry old_table.id old_table.geometry (seen new journal) seal body
       here = record {
@@ -72,12 +72,12 @@ module _ (old_table new_table : Table) (old new : History) (journal : ℕ) (seal
         has_body = λ k within. same (body_start seal.number + k) (omega arith) ∙ has.has_body k within;
       }
 
-  at_behind : (progress : Progress) → IsAt progress old_table old journal seal body → IsAt progress new_table new journal seal body
-  at_behind Awaited at = next_behind at
-  at_behind HasBody at = (next_behind at.0, body_behind at.1)
-  at_behind HasSeal at = entry_behind at
+  at_beyond : (progress : Progress) → IsAt progress old_table old journal seal body → IsAt progress new_table new journal seal body
+  at_beyond Awaited at = next_beyond at
+  at_beyond HasBody at = (next_beyond at.0, body_beyond at.1)
+  at_beyond HasSeal at = entry_beyond at
 
--- Beside one slot all is as it was: the table counts on no more, and on what it counted, and behind the superblocks stands what stood there.
+-- Beside one slot all is as it was: the table counts on no more, and on what it counted, and after the superblocks stands what stood there.
 pub record IsBeside (slot : ℕ) (old_table new_table : Table) (old new : History) : Type 0 where
   pub goes : CountsOnNoMore old_table new_table
   pub counts : (other : ℕ) → other ≢ slot → CountsOn old_table other → CountsOn new_table other
@@ -88,14 +88,14 @@ pub step_beside : (from : PutsFrom) (slot : ℕ) (table : Table) (old new : Hist
 step_beside from slot table old new step = record {
   goes = counts_on_the_same table;
   counts = λ other apart counted. counted;
-  same = λ other at apart counted behind. ap (λ (disk : List Bytes). sector_of disk at) (step.others other apart);
+  same = λ other at apart counted beyond. ap (λ (disk : List Bytes). sector_of disk at) (step.others other apart);
 }
 
 -- where nothing was done
 pub nothing_beside : (slot : ℕ) (table : Table) (h : History) → IsBeside slot table table h h
-nothing_beside slot table h = record { goes = counts_on_the_same table; counts = λ other apart counted. counted; same = λ other at apart counted behind. refl }
+nothing_beside slot table h = record { goes = counts_on_the_same table; counts = λ other apart counted. counted; same = λ other at apart counted beyond. refl }
 
--- Where its device fell in calls of it alone, and it was marked missing; then the table doesn't count on it.
+-- Where its device failed in calls of it alone, and it was marked missing; then the table doesn't count on it.
 module _ (spellings : Spellings) (from : PutsFrom) (slot : ℕ) (table new_table : Table) (old mid new : History) (counted : CountsOn table slot)
     (others : (other : ℕ) → other ≢ slot → seen mid other ≡ seen old other)
     (marked : MarkedOn from.devices from.base table new_table from.lost from.lists slot mid new) (writes : MayWrite from new_table new) where
@@ -109,7 +109,7 @@ module _ (spellings : Spellings) (from : PutsFrom) (slot : ℕ) (table new_table
       of_set = subst (λ (g : Geometry). other < g.members + 2) (sym marked.marked.same_geometry) on.of_set;
       there = λ gone. on.there (sym (state_stays table new_table slot marked.marked other apart) ∙ gone);
     };
-    same = λ other at apart on behind. marked.behind other at (live_is_up spellings from.devices new_table new other (writes.there other on.of_set on.there)) behind
+    same = λ other at apart on beyond. marked.beyond other at (live_is_up spellings from.devices new_table new other (writes.there other on.of_set on.there)) beyond
         ∙ ap (λ (disk : List Bytes). sector_of disk at) (others other apart);
   }
 
@@ -123,8 +123,8 @@ module _ (slot : ℕ) (seal : Seal) (body : List Bytes) (from : PutsFrom) (table
   long_still : IsBodyLong table.geometry.members seal body → IsBodyLong new_table.geometry.members seal body
   long_still = subst (λ (n : ℕ). IsBodyLong n seal body) (sym members_are)
 
-  behind_then : (journal : ℕ) → new_table.geometry.members ≤ journal → table.geometry.members ≤ journal
-  behind_then journal = subst (λ (n : ℕ). n ≤ journal) members_are
+  beyond_then : (journal : ℕ) → new_table.geometry.members ≤ journal → table.geometry.members ≤ journal
+  beyond_then journal = subst (λ (n : ℕ). n ≤ journal) members_are
 
   -- a member that the table trusts in a row is one on which it counts
   trusted_counts : (row member : ℕ) → member < new_table.geometry.members → trusts (state_at new_table.states member) row new_table.position ≡ true → CountsOn new_table member
@@ -170,11 +170,11 @@ module _ (slot : ℕ) (seal : Seal) (body : List Bytes) (from : PutsFrom) (table
   coming_still origin journals journals' is_journal is same_journals no_source here = record {
     writes = writes;
     long = long_still is.long;
-    on_journals = λ journal behind counted. elim (cases_eq journal slot) [
+    on_journals = λ journal beyond counted. elim (cases_eq journal slot) [
       | inl is_it ↦ subst (λ (j : ℕ). IsAt (journals' j) new_table new j seal body) (sym is_it) (here (subst (CountsOn new_table) is_it counted))
       | inr apart ↦ subst (λ (p : Progress). IsAt p new_table new journal seal body) (sym (same_journals journal apart))
-          (at_behind table new_table old new journal seal body beside.goes.same_id beside.goes.same_geometry (λ at. beside.same journal at apart counted) (journals journal)
-          (is.on_journals journal (behind_then journal behind) (beside.goes.counts journal counted)))
+          (at_beyond table new_table old new journal seal body beside.goes.same_id beside.goes.same_geometry (λ at. beside.same journal at apart counted) (journals journal)
+          (is.on_journals journal (beyond_then journal beyond) (beside.goes.counts journal counted)))
     ];
     may_stand = stands_still origin is.may_stand;
   }
@@ -189,7 +189,7 @@ module _ (slot : ℕ) (seal : Seal) (body : List Bytes) (from : PutsFrom) (table
       stands_still (Formed list_then) formed = formed_still list_then is_journal formed
       stands_still Copied has = record {
         source = has.source;
-        behind = subst (λ (n : ℕ). n ≤ has.source) (sym members_are) has.behind;
+        beyond = subst (λ (n : ℕ). n ≤ has.source) (sym members_are) has.beyond;
         counted = beside.counts has.source (apart has) has.counted;
         sealed = same_journals has.source (apart has) ∙ has.sealed;
       }
@@ -203,10 +203,10 @@ module _ (slot : ℕ) (seal : Seal) (body : List Bytes) (from : PutsFrom) (table
   put_still n n' is is_member fewer here = record {
     writes = writes;
     long = long_still is.long;
-    on_journals = λ journal behind counted.
-        entry_behind table new_table old new journal seal body beside.goes.same_id beside.goes.same_geometry
-        (λ at. beside.same journal at (λ same. absurd (omega (arith, same, is_member, behind_then journal behind))) counted)
-        (is.on_journals journal (behind_then journal behind) (beside.goes.counts journal counted));
+    on_journals = λ journal beyond counted.
+        entry_beyond table new_table old new journal seal body beside.goes.same_id beside.goes.same_geometry
+        (λ at. beside.same journal at (λ same. absurd (omega (arith, same, is_member, beyond_then journal beyond))) counted)
+        (is.on_journals journal (beyond_then journal beyond) (beside.goes.counts journal counted));
     on_members = λ member i below within inside held trusted. elim (cases_eq member slot) [
       | inl same ↦ subst (λ (k : ℕ). sector_of (seen new k) (FIRST_ROW + row_at seal.rows.items i) ≡ in_body new_table.geometry.members seal body i k) (sym same)
           (here (subst (CountsOn new_table) same (trusted_counts (row_at seal.rows.items i) member within trusted)) i inside

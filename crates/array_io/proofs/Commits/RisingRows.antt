@@ -14,9 +14,9 @@ pub record GoesTo (rows : List ℕ) (row place : ℕ) : Type 0 where
   pub below : (i : ℕ) → i < place → row_at rows i < row
   pub reached : place < length rows → row ≤ row_at rows place
 
--- a row behind the new one
+-- a row after the new one
 above : (rows : List ℕ) (row place k : ℕ) → place ≤ length rows → place < k → row_at (insert rows place row) k ≡ row_at rows (k - 1)
-above rows row place k within behind =
+above rows row place k within beyond =
     let next : k ≡ (k - 1) + 1 = omega arith in
     ap (λ (n : ℕ). get_or (insert rows place row) n 0) next ∙ get_or-insert_above rows place row 0 (k - 1) (omega arith) within
 
@@ -45,7 +45,7 @@ only_new rows row place i within inside =
       | inl before ↦ inl (record { place = i; within = omega arith; is = sym (get_or-insert_below rows place row 0 i before within) })
       | inr from ↦ elim (cases_eq i place) [
         | inl same ↦ inr (ap (λ (n : ℕ). get_or (insert rows place row) n 0) same ∙ get_or-insert_at rows place row 0 within)
-        | inr behind ↦ inl (record { place = i - 1; within = omega (arith, long, inside); is = sym (above rows row place i within (omega arith)) })
+        | inr beyond ↦ inl (record { place = i - 1; within = omega (arith, long, inside); is = sym (above rows row place i within (omega arith)) })
       ]
     ]
 

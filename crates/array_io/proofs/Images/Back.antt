@@ -44,7 +44,7 @@ trust_or_not devices table image row member (inl live) = by_state (state_at tabl
         differ e = cc
     by_state Rebuilding is = elim (cases_lt row table.position) [
       | inl below ↦ inl (record { live = live; rebuilt = λ rebuilding. below })
-      | inr behind ↦ inr (λ trusted. absurd (omega (arith, trusted.rebuilt is, behind)))
+      | inr beyond ↦ inr (λ trusted. absurd (omega (arith, trusted.rebuilt is, beyond)))
     ]
 
 -- what is settled, as a test
@@ -75,7 +75,7 @@ SameJournals devices table image slot content =
 -- where the slot is no member nothing changes
 before_journal : (devices : ℕ) (table : Table) (image : Slots) (slot : ℕ) (content : Content) (after : Rows) → table.geometry.members ≤ slot
     → SameJournals devices table image slot content → AreRowsOf devices table (with_slot image slot content) after → RowsBefore devices table image slot after
-before_journal devices table image slot content after behind journals are = record {
+before_journal devices table image slot content after beyond journals are = record {
   before = after;
   are = record {
     width = are.width;
@@ -94,7 +94,7 @@ before_journal devices table image slot content after behind journals are = reco
 }
   where
     other : (member : ℕ) → member < table.geometry.members → member ≢ slot
-    other member within is = absurd (omega (arith, within, behind, is))
+    other member within is = absurd (omega (arith, within, beyond, is))
 
 -- where it is a member its own sectors count as they did
 before_member : (devices : ℕ) (table : Table) (X : List (List Bytes)) (image : Slots) (slot : ℕ) (content : Content) (after : Rows)
@@ -147,7 +147,7 @@ rows_before : (devices : ℕ) (table : Table) (X : List (List Bytes)) (image : S
     → SameJournals devices table image slot content → AreRowsOf devices table (with_slot image slot content) after → RowsBefore devices table image slot after
 rows_before devices table X image slot content after may out journals are = elim (cases_lt slot table.geometry.members) [
   | inl within ↦ before_member devices table X image slot content after may within out journals are
-  | inr behind ↦ before_journal devices table image slot content after behind journals are
+  | inr beyond ↦ before_journal devices table image slot content after beyond journals are
 ]
 
 -- a live journal is another slot, and was live before
@@ -160,7 +160,7 @@ journal_before : (devices : ℕ) (table : Table) (image : Slots) (slot : ℕ) (c
     → IsLiveJournal devices table (with_slot image slot content) journal → JournalBefore devices table image slot content journal
 journal_before devices table image slot content journal out after = record {
   apart = apart;
-  live = record { behind_members = after.behind_members; of_set = after.of_set; live = subst (IsLive devices table journal) (put_elsewhere image slot content journal apart) after.live };
+  live = record { beyond_members = after.beyond_members; of_set = after.of_set; live = subst (IsLive devices table journal) (put_elsewhere image slot content journal apart) after.live };
   same = sym (put_elsewhere image slot content journal apart);
 }
   where
@@ -172,7 +172,7 @@ same_journals : (devices : ℕ) (table : Table) (image : Slots) (slot : ℕ) (co
 same_journals devices table image slot content out = record {
   there = λ k live. let j = journal_before devices table image slot content k out live in (j.live, j.apart);
   back = λ k live. record {
-    behind_members = live.0.behind_members;
+    beyond_members = live.0.beyond_members;
     of_set = live.0.of_set;
     live = subst (IsLive devices table k) (sym (put_elsewhere image slot content k live.1)) live.0.live;
   };

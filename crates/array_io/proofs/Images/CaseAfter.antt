@@ -1,4 +1,4 @@
--- Each case now holds where the one before it did: each of its images was put, slot by slot, from one that a stop might
+-- Each case now holds where the one before it did: each of its images was put, slot by slot, from one that a crash might
 -- have left before. Stated once, over what may be put where, and over the step of tables: the same one, or the next.
 use Rattle.std.proofs.Common.{◌≡◌, ◌≢◌, ◌⊎◌, inl, inr, ℕ, ◌+◌, ◌<◌, true, List, ◌++◌, option_to_list, Option, Some, None, refl, sym, ◌∙◌, ap, subst}
 use Rattle.std.proofs.Math.Path.{fun_ext}
@@ -54,7 +54,7 @@ of_case_chosen devices table case all image (inr weak) =
     subst (λ (i : Slots). IsChosen table.id devices i table) (sym weak.is)
     (all.weakened weak.slot weak.content weak.out weak.stands)
 
--- and is what each image is that a stop may leave, and each weakened one
+-- and is what each image is that a crash may leave, and each weakened one
 pub of_case_each : (devices : ℕ) (table : Table) (h : History) (lost : Option Lost) (P : Slots → Type 0)
     → InEachImage devices table h lost P → (image : Slots) → MayLeave h image → (one : Slots)
     → IsOfCase devices table (record { image = image; lost = lost }) one → P one
@@ -261,7 +261,7 @@ stands_not_live spellings devices table lost back slot content out (inr (inr awa
 
 -- a moment after another
 
--- From where it begins: the cases that a stop may leave hold for X, and their images choose the table.
+-- From where it begins: the cases that a crash may leave hold for X, and their images choose the table.
 pub record HoldsFrom (devices : ℕ) (base table : Table) (lost : Option Lost) (X : List (List Bytes))
     (old : History) : Type 0 where
   pub same_id : table.id ≡ base.id

@@ -40,7 +40,7 @@ pub record IsAsNew (devices : ℕ) (table : Table) (slot : ℕ) (content : Conte
 one_or_none : (table : Table) (slot : ℕ) → ((superblock : Superblock) × (superblock.table ≡ table) × (superblock.role ≡ slot)) ⊎ ((superblock : Superblock) → superblock.table ≡ table → superblock.role ≢ slot)
 one_or_none table slot = elim (cases_lt slot (table.geometry.members + 2)) [
   | inl in_set ↦ by_state (state_at table.states slot) refl in_set
-  | inr behind ↦ inr (λ superblock carried is. absurd (omega (arith, superblock.of_set, ap (λ (t : Table). t.geometry.members) carried, is, behind)))
+  | inr beyond ↦ inr (λ superblock carried is. absurd (omega (arith, superblock.of_set, ap (λ (t : Table). t.geometry.members) carried, is, beyond)))
 ]
   where
     there : slot < table.geometry.members + 2 → state_at table.states slot ≢ Missing → ((superblock : Superblock) × (superblock.table ≡ table) × (superblock.role ≡ slot))
@@ -95,7 +95,7 @@ chosen_with spellings devices table image slot content chosen known =
         | inl new ↦ by_own new below
         | inr not_new ↦ by_same (λ at superblock counts equal. absurd (not_new (record { place = at; superblock = superblock; counts = counts; equal = equal })))
       ]
-      | inr behind ↦ by_same (λ at superblock counts equal. behind)
+      | inr beyond ↦ by_same (λ at superblock counts equal. beyond)
     ]
   where
     room : table.geometry.members + 2 ≤ devices

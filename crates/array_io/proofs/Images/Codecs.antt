@@ -14,16 +14,16 @@ use Rattle.stripe_journal.proofs.Seals.{same_seal}
 use Rattle.stripe_journal.proofs.Spellings.{length-first_mark, length-seal_bytes, length-seal_sector, seal_begins, sector_says}
 use Rattle.array_io.proofs.Images.Spellings.{Spellings}
 
--- what stands behind the id
-behind_id : ℕ → List ℕ → Form → List ℕ
-behind_id number rows form = drop (length (first_mark form)) (seal_bytes [] number rows form)
+-- what stands after the id
+after_id : ℕ → List ℕ → Form → List ℕ
+after_id number rows form = drop (length (first_mark form)) (seal_bytes [] number rows form)
 
 -- the second of nine parts, between the first and the rest
 second_part : (m i a b c d e f g : List ℕ) → m ++ i ++ a ++ b ++ c ++ d ++ e ++ f ++ g ≡ m ++ (i ++ drop (length m) (m ++ [] ++ a ++ b ++ c ++ d ++ e ++ f ++ g))
 second_part m i a b c d e f g = simp (append_assoc, drop-append_seam)
 
-seal_bytes_are : (id : List ℕ) (number : ℕ) (rows : List ℕ) (form : Form) → seal_bytes id number rows form ≡ first_mark form ++ (id ++ behind_id number rows form)
-unfolding seal_bytes behind_id
+seal_bytes_are : (id : List ℕ) (number : ℕ) (rows : List ℕ) (form : Form) → seal_bytes id number rows form ≡ first_mark form ++ (id ++ after_id number rows form)
+unfolding seal_bytes after_id
 seal_bytes_are id number rows form = second_part (first_mark form) id _ _ _ _ _ _ _
 
 -- equal lists with fronts of one length have equal fronts and rests
@@ -48,18 +48,18 @@ one_seal first second same =
       length-seal_sector second,
     )
 
-    behind : Seal → List ℕ
-    behind seal = behind_id seal.number seal.rows.items seal.form
+    beyond : Seal → List ℕ
+    beyond seal = after_id seal.number seal.rows.items seal.form
 
-    spelled : (seal : Seal) → seal_sector seal ≡ first_mark seal.form ++ (seal.id ++ behind seal)
+    spelled : (seal : Seal) → seal_sector seal ≡ first_mark seal.form ++ (seal.id ++ beyond seal)
     spelled seal = seal_bytes_are seal.id seal.number seal.rows.items seal.form
 
-    marks : (first_mark first.form ≡ first_mark second.form) × (first.id ++ behind first ≡ second.id ++ behind second)
-    marks = same_front (first_mark first.form) (first_mark second.form) (first.id ++ behind first) (second.id ++ behind second)
+    marks : (first_mark first.form ≡ first_mark second.form) × (first.id ++ beyond first ≡ second.id ++ beyond second)
+    marks = same_front (first_mark first.form) (first_mark second.form) (first.id ++ beyond first) (second.id ++ beyond second)
         (length-first_mark first.form ∙ sym (length-first_mark second.form)) (sym (spelled first) ∙ same ∙ spelled second)
 
-    parts : (first.id ≡ second.id) × (behind first ≡ behind second)
-    parts = same_front first.id second.id (behind first) (behind second) lengths marks.1
+    parts : (first.id ≡ second.id) × (beyond first ≡ beyond second)
+    parts = same_front first.id second.id (beyond first) (beyond second) lengths marks.1
 
     -- the same seals with an id of 16 bytes
     id : List ℕ
@@ -74,7 +74,7 @@ one_seal first second same =
     equal : sector ≡ seal_bytes id second.number second.rows.items second.form
     equal =
         seal_bytes_are id first.number first.rows.items first.form
-        ∙ ap (λ (mark : List ℕ). mark ++ (id ++ behind first)) marks.0
+        ∙ ap (λ (mark : List ℕ). mark ++ (id ++ beyond first)) marks.0
         ∙ ap (λ (r : List ℕ). first_mark second.form ++ (id ++ r)) parts.1
         ∙ sym (seal_bytes_are id second.number second.rows.items second.form)
 

@@ -55,7 +55,7 @@ latest_is_one spellings id geometry journals image first second one two =
     let above : first.seal.number ≤ second.seal.number = two.greatest first.journal first.seal one.on_live one.sealed in
     let equal : first.seal.number ≡ second.seal.number = omega arith in
     let before : first.journal ≤ second.journal = one.lowest second.journal second.seal two.on_live two.sealed (sym equal) in
-    let behind : second.journal ≤ first.journal = two.lowest first.journal first.seal one.on_live one.sealed equal in
+    let beyond : second.journal ≤ first.journal = two.lowest first.journal first.seal one.on_live one.sealed equal in
     let journals_equal : first.journal ≡ second.journal = omega arith in
     same_entry first second journals_equal
     (seal_is_one spellings id geometry (image first.journal) first.seal second.seal one.sealed

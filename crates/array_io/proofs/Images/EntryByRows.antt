@@ -43,7 +43,7 @@ pub sector_whole : (devices : ℕ) (table : Table) (image : Slots) → HasWholeS
 sector_whole devices table image whole journal seal live row member sector within has =
     let at = in_its_place (sector_of (disk_of (image journal))) (place_by_seal table.geometry.members seal row member) sector has in
     let body = bodies_within table.geometry.members seal row member at.0 table.geometry.limits.members_most within at.1 in
-    let least = cond_above journal table.geometry.members (FIRST_ROW + row_count table) JOURNAL_SECTORS JOURNAL_SECTORS live.behind_members refl in
+    let least = cond_above journal table.geometry.members (FIRST_ROW + row_count table) JOURNAL_SECTORS JOURNAL_SECTORS live.beyond_members refl in
     ap length (sym at.2) ∙ whole journal at.0 (omega (arith, body.1, least, live.live.long_enough))
 
 -- In an image that holds, with one last seal on all live journals, the rows by its last entry are sound.

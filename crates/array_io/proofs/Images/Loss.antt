@@ -123,21 +123,21 @@ one_member_may_go spellings devices table image member whole without within sect
     other = with_slot image member None
 
     apart : (slot : ℕ) → table.geometry.members ≤ slot → slot ≢ member
-    apart slot behind is = absurd (omega (arith, is, behind, within))
+    apart slot beyond is = absurd (omega (arith, is, beyond, within))
 
     journals : HaveSameJournals (IsLiveJournal devices table image) (IsLiveJournal devices table other) image other
     journals = record {
       there = λ slot j. record {
-        behind_members = j.behind_members;
+        beyond_members = j.beyond_members;
         of_set = j.of_set;
-        live = subst (IsLive devices table slot) (sym (put_elsewhere image member None slot (apart slot j.behind_members))) j.live;
+        live = subst (IsLive devices table slot) (sym (put_elsewhere image member None slot (apart slot j.beyond_members))) j.live;
       };
       back = λ slot j. record {
-        behind_members = j.behind_members;
+        beyond_members = j.beyond_members;
         of_set = j.of_set;
-        live = subst (IsLive devices table slot) (put_elsewhere image member None slot (apart slot j.behind_members)) j.live;
+        live = subst (IsLive devices table slot) (put_elsewhere image member None slot (apart slot j.beyond_members)) j.live;
       };
-      same = λ slot j. sym (put_elsewhere image member None slot (apart slot j.behind_members));
+      same = λ slot j. sym (put_elsewhere image member None slot (apart slot j.beyond_members));
     }
 
     last : one.last ≡ two.last

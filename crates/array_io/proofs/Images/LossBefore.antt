@@ -29,7 +29,7 @@ pub record WasLost (slots : ℕ) (lost : Option Lost) (old h : History) (after :
   pub away : away_of after ≡ away_of before
   pub out : (slot : ℕ) → MayBeOut after slot → MayBeOut before slot
   pub in_set : IsLostIn slots after
-  -- a device that fell since is that of the lost slot
+  -- a device that failed since is that of the lost slot
   pub gone : (slot : ℕ) → slot < slots → is_down old slot ≡ false → is_down h slot ≡ true → IsTheLost after slot
   pub kept : (one : Lost) → after ≡ Some one → (before ≡ Some one) ⊎ (one.away ≡ [])
 
@@ -41,10 +41,10 @@ up_before old h stays d up = by_state (is_down old d) refl
     by_state true was = absurd (differ (sym (stays d was) ∙ up))
     by_state false was = refl
 
-one_fell : (slots : ℕ) (h : History) (lost slot : ℕ)
+one_failed : (slots : ℕ) (h : History) (lost slot : ℕ)
     → ((other : ℕ) → other < slots → other ≢ lost → is_down h other ≡ false)
     → slot < slots → is_down h slot ≡ true → slot ≡ lost
-one_fell slots h lost slot up within down = elim (cases_eq slot lost) [
+one_failed slots h lost slot up within down = elim (cases_eq slot lost) [
   | inl same ↦ same
   | inr apart ↦ absurd (differ (sym down ∙ up slot within apart))
 ]
@@ -61,22 +61,22 @@ was_lost slots None old h after stays (inl (none, up)) = record {
   gone = λ slot within was_up down. absurd (differ (sym down ∙ up slot within));
   kept = λ one is. absurd (cc);
 }
-was_lost slots None old h after stays (inr fallen) = by_state (is_down old fallen.slot) refl
+was_lost slots None old h after stays (inr failure) = by_state (is_down old failure.slot) refl
   where
-    others : (other : ℕ) → other < slots → other ≢ fallen.slot → is_down old other ≡ false
-    others other within apart = up_before old h stays other (fallen.others other within apart)
+    others : (other : ℕ) → other < slots → other ≢ failure.slot → is_down old other ≡ false
+    others other within apart = up_before old h stays other (failure.others other within apart)
 
     gone : (slot : ℕ) → slot < slots → is_down old slot ≡ false → is_down h slot ≡ true → IsTheLost after slot
-    gone slot within up down = subst (λ (o : Option Lost). IsTheLost o slot) (sym fallen.lost)
-        (one_fell slots h fallen.slot slot fallen.others within down)
+    gone slot within up down = subst (λ (o : Option Lost). IsTheLost o slot) (sym failure.lost)
+        (one_failed slots h failure.slot slot failure.others within down)
 
     in_set : IsLostIn slots after
-    in_set = subst (IsLostIn slots) (sym fallen.lost) fallen.of_set
+    in_set = subst (IsLostIn slots) (sym failure.lost) failure.of_set
 
-    by_state : (b : Bool) → is_down old fallen.slot ≡ b → WasLost slots None old h after
+    by_state : (b : Bool) → is_down old failure.slot ≡ b → WasLost slots None old h after
     by_state true down = record {
       before = after;
-      was = inr record { slot = fallen.slot; of_set = fallen.of_set; fell = down; others = others; lost = fallen.lost };
+      was = inr record { slot = failure.slot; of_set = failure.of_set; failed = down; others = others; lost = failure.lost };
       away = refl;
       out = λ slot may. may;
       in_set = in_set;
@@ -87,16 +87,16 @@ was_lost slots None old h after stays (inr fallen) = by_state (is_down old falle
       before = None;
       was = inl (
         refl,
-        λ other within. elim (cases_eq other fallen.slot) [
+        λ other within. elim (cases_eq other failure.slot) [
           | inl same ↦ ap (is_down old) same ∙ up
           | inr apart ↦ others other within apart
         ],
       );
-      away = ap away_of fallen.lost;
+      away = ap away_of failure.lost;
       out = λ slot may. tt;
       in_set = in_set;
       gone = gone;
-      kept = λ one is. inr (ap away_of (sym is ∙ fallen.lost));
+      kept = λ one is. inr (ap away_of (sym is ∙ failure.lost));
     }
 was_lost slots (Some lost) old h after stays (of_set, is, up) = record {
   before = after;
@@ -105,7 +105,7 @@ was_lost slots (Some lost) old h after stays (of_set, is, up) = record {
   out = λ slot may. may;
   in_set = subst (IsLostIn slots) (sym is) of_set;
   gone = λ slot within was_up down.
-      subst (λ (o : Option Lost). IsTheLost o slot) (sym is) (one_fell slots h lost.slot slot up within down);
+      subst (λ (o : Option Lost). IsTheLost o slot) (sym is) (one_failed slots h lost.slot slot up within down);
   kept = λ one same. inl same;
 }
 

@@ -40,7 +40,7 @@ pub record SayTheSame (devices : ℕ) (table : Table) (image other : Slots) : Ty
 -- a live journal of one image is one of the other
 journal_of : (devices : ℕ) (table : Table) (image other : Slots) → ((slot : ℕ) → IsLive devices table slot (image slot) → IsLive devices table slot (other slot))
     → (journal : ℕ) → IsLiveJournal devices table image journal → IsLiveJournal devices table other journal
-journal_of devices table image other live journal is = record { behind_members = is.behind_members; of_set = is.of_set; live = live journal is.live }
+journal_of devices table image other live journal is = record { beyond_members = is.beyond_members; of_set = is.of_set; live = live journal is.live }
 
 -- contents with the same seals
 abbrev pub HaveSameSeals : Content → Content → Type 0

@@ -33,7 +33,7 @@ live_there devices table image other same slot live = subst (IsLive devices tabl
 journal_there : (devices : ℕ) (table : Table) (image other : Slots) → HaveSameLive devices table image other → (slot : ℕ)
     → IsLiveJournal devices table image slot → IsLiveJournal devices table other slot
 journal_there devices table image other same slot journal = record {
-  behind_members = journal.behind_members;
+  beyond_members = journal.beyond_members;
   of_set = journal.of_set;
   live = live_there devices table image other same slot journal.live;
 }

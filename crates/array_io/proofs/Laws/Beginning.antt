@@ -41,9 +41,9 @@ holds_at : (base : Table) (devices : ℕ) (image : Slots) (h : History) (before 
     → Holds base devices record { image = image; lost = after } X
 holds_at base devices image h None after X holds (inl (none, up)) =
     subst (λ (l : Option Lost). Holds base devices record { image = image; lost = l } X) (sym none) holds
-holds_at base devices image h None after X holds (inr fallen) =
-    subst (λ (l : Option Lost). Holds base devices record { image = image; lost = l } X) (sym fallen.lost)
-    (slot_may_go base devices image X holds fallen.slot fallen.of_set)
+holds_at base devices image h None after X holds (inr failure) =
+    subst (λ (l : Option Lost). Holds base devices record { image = image; lost = l } X) (sym failure.lost)
+    (slot_may_go base devices image X holds failure.slot failure.of_set)
 holds_at base devices image h (Some lost) after X holds (of_set, same, up) =
     subst (λ (l : Option Lost). Holds base devices record { image = image; lost = l } X) (sym same) holds
 
@@ -55,7 +55,7 @@ a_run_begins base devices image lost X holds = record {
       (subst (λ (i : Slots). Holds base devices record { image = i; lost = lost } X) (sym (began_left image left may)) holds) is;
 }
 
--- each case that a stop may leave of a settled array holds, whichever slot is then lost
+-- each case that a crash may leave of a settled array holds, whichever slot is then lost
 pub holds_at_rest : (devices : ℕ) (table : Table) (number : ℕ) (h : History) (lost : Option Lost) (V : List Bytes)
     → IsSettled devices table number h lost V → HoldsNow table devices lost (V ∷ []) h
 holds_at_rest devices table number h lost V settled after image is may = holds_at table devices image h lost after (V ∷ []) (settled.holds image may) is
@@ -107,8 +107,8 @@ lost_at_rest spellings devices table number h (Some lost) V settled =
 pub one_lost_at_rest : Spellings → (devices : ℕ) (table : Table) (number : ℕ) (h : History) (lost after : Option Lost) (V : List Bytes)
     → IsSettled devices table number h lost V → IsLostAt (slots_of table) lost h after → after ≡ lost
 one_lost_at_rest spellings devices table number h None after V settled (inl (none, up)) = none
-one_lost_at_rest spellings devices table number h None after V settled (inr fallen) =
-    absurd (differ (sym fallen.fell ∙ up_at_rest spellings devices table number h None V settled fallen.slot fallen.of_set tt))
+one_lost_at_rest spellings devices table number h None after V settled (inr failure) =
+    absurd (differ (sym failure.failed ∙ up_at_rest spellings devices table number h None V settled failure.slot failure.of_set tt))
   where
     differ : true ≡ false → ⊥
     differ is = cc

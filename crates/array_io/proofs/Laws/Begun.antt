@@ -1,4 +1,4 @@
--- What holds when a run stops holds when the next begins.
+-- What holds when a run crashes holds when the next begins.
 use Rattle.std.proofs.Common.{◌≡◌, ◌≢◌, inl, inr, ℕ, ◌<◌, ◌≤◌, List, [], ◌∷◌, ◌++◌, subst, sym, ap, ◌∙◌, arith}
 use Rattle.std.proofs.lemmas.List.Elements.{Contains-append_left, Contains-append_right, Contains-append_cases, Contains-push, Contains-push_cases}
 use Rattle.std.specs.Prelude.{refl, Option, Some, None, Contains, option_to_list}
@@ -11,9 +11,9 @@ use Rattle.superblock.specs.NextTables.{slots_of}
 use Rattle.superblock.specs.Cases.{Case, Lost, MayBeOut, MayStand, away_of, with_slot}
 use Rattle.array_io.specs.Believed.Holds.{AllButOneStale, Holds, HoldsIn, OneCounts, devices_of}
 use Rattle.array_io.specs.Laws.Starts.{IsFound, Starts}
-use Rattle.array_io.specs.Laws.Law.{AStopThenAStart}
+use Rattle.array_io.specs.Laws.Law.{ACrashThenAStart}
 use Rattle.array_io.proofs.Images.Put.{put_same, put_there, put_twice}
-use Rattle.array_io.proofs.Images.Behind.{holds_behind, table_behind}
+use Rattle.array_io.proofs.Images.Beyond.{holds_beyond, table_beyond}
 use Rattle.array_io.proofs.Images.Live.{one_to_front}
 
 pub between : (a b : ℕ) → a ≤ b → b ≤ a → a ≡ b
@@ -171,19 +171,19 @@ as_begun case image lost images losts = λ i. record { image = images i; lost = 
 begun_by : (base : Table) (devices : ℕ) (old new : Case) (X : List (List Bytes)) (holds : Holds base devices old X)
     → Starts devices holds.table old new → Holds base devices new X
 begun_by base devices old new X holds starts =
-    let behind = holds_behind base devices old X holds starts.image starts.differs in
+    let beyond = holds_beyond base devices old X holds starts.image starts.differs in
     elim starts.begins [
-      | inl same ↦ subst (λ (case : Case). Holds base devices case X) (sym same) behind
+      | inl same ↦ subst (λ (case : Case). Holds base devices case X) (sym same) beyond
       | inr begins ↦ subst (λ (case : Case). Holds base devices case X)
           (sym (as_begun new (with_slot starts.image begins.slot begins.content) (Some record { slot = begins.slot; away = begins.away }) begins.image begins.lost))
-          (begun base devices record { image = starts.image; lost = old.lost } X behind begins.slot begins.content begins.away
-          (subst (λ (t : Table). begins.slot < slots_of t) (sym (table_behind base devices old X holds starts.image starts.differs)) begins.of_set) begins.may_be_out
+          (begun base devices record { image = starts.image; lost = old.lost } X beyond begins.slot begins.content begins.away
+          (subst (λ (t : Table). begins.slot < slots_of t) (sym (table_beyond base devices old X holds starts.image starts.differs)) begins.of_set) begins.may_be_out
           (subst (λ (t : Table). IsFound devices t begins.slot (devices_of record { image = starts.image; lost = old.lost } begins.slot) begins.content begins.away)
-          (sym (table_behind base devices old X holds starts.image starts.differs)) begins.found))
+          (sym (table_beyond base devices old X holds starts.image starts.differs)) begins.found))
     ]
 
-pub a_stop_then_a_start : AStopThenAStart
-a_stop_then_a_start base devices table old new X holds chosen starts =
+pub a_crash_then_a_start : ACrashThenAStart
+a_crash_then_a_start base devices table old new X holds chosen starts =
     let one = chosen_is_one devices holds.table X old.image holds.whole table
     (subst (λ (i : List ℕ). IsChosen i devices old.image table) (sym holds.not_older.same_id) chosen) in
     begun_by base devices old new X holds (subst (λ (t : Table). Starts devices t old new) one starts)

@@ -7,7 +7,7 @@ use Rattle.superblock.specs.Counted.{Content, IsStale}
 use Rattle.superblock.specs.NextTables.{slots_of}
 use Rattle.array_io.specs.Believed.DeviceRules.{HasAnother, IsReplacement, IsSameInSet, MayBeFound, Replaced}
 use Rattle.array_io.specs.Laws.Law.{AreReplacedStale, AStartIsOneOf}
-use Rattle.array_io.specs.Laws.Starts.{BeginsWith, DiffersBehind, IsFound}
+use Rattle.array_io.specs.Laws.Starts.{BeginsWith, DiffersBeyond, IsFound}
 
 -- a replacement is stale
 replacement_stale : (devices : ℕ) (table : Table) (replaced : List Replaced) (slot : ℕ) (content : Content) → AreReplacedStale devices table replaced
@@ -40,14 +40,14 @@ begins_with devices table replaced old new all has = record {
   found = is_found devices table replaced has.slot _ has.content has.away all has.found;
 }
 
-differs_behind : (devices : ℕ) (table : Table) (old new : Slots) → IsSameInSet table.id devices (slots_of table) old new → DiffersBehind devices table old new
-differs_behind devices table old new same = record { of_set = same.of_set; behind = same.behind }
+differs_beyond : (devices : ℕ) (table : Table) (old new : Slots) → IsSameInSet table.id devices (slots_of table) old new → DiffersBeyond devices table old new
+differs_beyond devices table old new same = record { of_set = same.of_set; beyond = same.beyond }
 
 -- the law
 pub a_start_is_one_of : AStartIsOneOf
 a_start_is_one_of devices table replaced old new all may = record {
   image = may.image;
-  differs = differs_behind devices table old.image may.image may.same;
+  differs = differs_beyond devices table old.image may.image may.same;
   begins = elim may.begins [
     | inl same ↦ inl same
     | inr another ↦ inr (begins_with devices table replaced (record { image = may.image; lost = old.lost }) new all another)

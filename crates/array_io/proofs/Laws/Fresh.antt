@@ -59,7 +59,7 @@ counted_is_own spellings devices table image fresh slot place superblock counts 
     is_table = by_place spellings table slot (image slot) place superblock (fresh.cleared_places slot of_set) (fresh.superblocks slot of_set) counts.stands
         (subst (λ (p : ℕ). (p ≡ 0) ⊎ (p ≡ 1)) counts.own_place (halves superblock.table.generation));
   }
-  | inr behind ↦ absurd (fresh.alone slot place superblock behind counts)
+  | inr beyond ↦ absurd (fresh.alone slot place superblock beyond counts)
 ]
 
 -- a slot of the set has the table's superblock in place 1
@@ -190,7 +190,7 @@ pub no_seal : Spellings → (devices : ℕ) (table : Table) (image : Slots) → 
     → IsLiveJournal devices table image journal → ¬ journals.Counts table.id table.geometry (image journal) place seal
 no_seal spellings devices table image fresh journal place seal live counts =
     let below : place < HALVES = omega (arith, counts.belongs.own_place) in
-    spellings.zero_no_seal seal (sym (fresh.cleared_seals journal place live.behind_members live.of_set below) ∙ counts.stands)
+    spellings.zero_no_seal seal (sym (fresh.cleared_seals journal place live.beyond_members live.of_set below) ∙ counts.stands)
 
 -- the rows come from the members' own sectors alone
 pub record AreOwn (table : Table) (image : Slots) (rows : Rows) : Type 0 where
@@ -277,7 +277,7 @@ live_or_not : Spellings → (devices : ℕ) (table : Table) (image : Slots) → 
     → IsLive devices table slot (image slot) ⊎ ¬ IsLive devices table slot (image slot)
 live_or_not spellings devices table image fresh slot = elim (cases_lt slot (table.geometry.members + 2)) [
   | inl of_set ↦ inl (fresh_live spellings devices table image fresh slot of_set)
-  | inr behind ↦ inr (λ live. live.not_missing (table.allowed.behind_missing slot behind))
+  | inr beyond ↦ inr (λ live. live.not_missing (table.allowed.missing_beyond slot beyond))
 ]
 
 pub no_device : (disk : List Bytes) → Contains [] disk → ⊥

@@ -47,7 +47,7 @@ stands_for_nothing spellings devices table slot content (inr (inl stale)) =
     record { known = stale_known devices table slot content stale; out = stale_is_out devices table slot content stale }
 stands_for_nothing spellings devices table slot content (inr (inr away)) = absurd (no_device away.disk away.listed)
 
--- each image that a stop may leave when the run begins is the one that it began with
+-- each image that a crash may leave when the run begins is the one that it began with
 each_began : (devices : ℕ) (table : Table) (image : Slots) (P : Slots → Type 0) → P image
     → ((slot : ℕ) (content : Content) → MayStand devices table None slot content → P (with_slot image slot content)) → InEachImage devices table (Began image) None P
 each_began devices table image P whole weakened = record {
@@ -66,7 +66,7 @@ number_with spellings devices table image fresh slot content out journal last li
       (subst (λ (k : ℕ). IsLive devices table k (with_slot image slot content k)) same live.live)))
   | inr apart ↦ let stays = put_elsewhere image slot content journal apart in
       no_number last (no_last_seal spellings devices table image fresh journal last
-      record { behind_members = live.behind_members; of_set = live.of_set; live = subst (IsLive devices table journal) stays live.live }
+      record { beyond_members = live.beyond_members; of_set = live.of_set; live = subst (IsLive devices table journal) stays live.live }
       (subst (λ (c : Content). IsLastSealed table.id table.geometry c last) stays is))
 ]
 

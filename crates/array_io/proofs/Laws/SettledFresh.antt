@@ -1,4 +1,4 @@
--- A run of which each image that a stop may leave is that of a set that was just made is settled on zeros.
+-- A run of which each image that a crash may leave is that of a set that was just made is settled on zeros.
 use Rattle.std.proofs.Common.{◌≡◌, ℕ, None, replicate, refl}
 use Rattle.sector_model.specs.History.{History, MayLeave, Slots}
 use Rattle.sector_model.specs.Readable.{NothingPending, readable}
@@ -21,7 +21,7 @@ use Rattle.array_io.proofs.Laws.SettledBegins.{no_number, none_lost, number_with
 pub zeros_are : replicate 512 0 ≡ zero_sector
 zeros_are = zero_sector-replicate 512 refl
 
--- each image that a stop now may leave is that of a set that was just made, and nothing is pending
+-- each image that a crash now may leave is that of a set that was just made, and nothing is pending
 pub record IsFreshNow (devices : ℕ) (table : Table) (h : History) : Type 0 where
   pub nothing_pending : NothingPending h
   pub each : (image : Slots) → MayLeave h image → IsFresh devices table image

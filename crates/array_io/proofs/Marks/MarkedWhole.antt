@@ -66,14 +66,14 @@ some_lost a is = cc
 lost_then : (slots : ℕ) (lost after : Option Lost) (h : History) (slot : ℕ) → IsLostAt slots lost h after → IsTheLost after slot → IsLostThen lost h after slot
 lost_then slots lost None h slot lost_at is = absurd is
 lost_then slots None (Some one) h slot (inl (none, up)) is = absurd (some_lost one none)
-lost_then slots None (Some one) h slot (inr fallen) is =
-    let same : one ≡ alone fallen.slot = same_lost one (alone fallen.slot) fallen.lost in
-    let here : fallen.slot ≡ slot = sym (is ∙ ap (λ (l : Lost). l.slot) same) in
+lost_then slots None (Some one) h slot (inr failure) is =
+    let same : one ≡ alone failure.slot = same_lost one (alone failure.slot) failure.lost in
+    let here : failure.slot ≡ slot = sym (is ∙ ap (λ (l : Lost). l.slot) same) in
     record {
       one = one;
       is = refl;
       own = sym is;
-      by = inr (refl, same ∙ ap alone here, subst (λ (k : ℕ). is_down h k ≡ true) here fallen.fell);
+      by = inr (refl, same ∙ ap alone here, subst (λ (k : ℕ). is_down h k ≡ true) here failure.failed);
     }
 lost_then slots (Some lost) (Some one) h slot (of_set, same, up) is = record { one = one; is = refl; own = sym is; by = inl (sym same) }
 
@@ -103,20 +103,20 @@ lost_later : (slots : ℕ) (lost : Option Lost) (one : Lost) (slot : ℕ) (h lat
     → IsLostBy lost h slot one → StaysDown h later → IsLostAt slots lost later after → IsLostAt slots (Some one) later after
 lost_later slots lost one slot h later after own of_set (inl same) stays lost_at = subst (λ (l : Option Lost). IsLostAt slots l later after) same lost_at
 lost_later slots lost one slot h later after own of_set (inr (none, is_alone, down)) stays lost_at =
-    by_fall (subst (λ (l : Option Lost). IsLostAt slots l later after) none lost_at)
+    by_failure (subst (λ (l : Option Lost). IsLostAt slots l later after) none lost_at)
   where
-    by_fall : IsLostAt slots None later after → IsLostAt slots (Some one) later after
-    by_fall (inl (is_none, up)) = absurd (differ (sym (stays slot down) ∙ up slot of_set))
-    by_fall (inr fallen) = elim (cases_eq slot fallen.slot) [
-      | inr apart ↦ absurd (differ (sym (stays slot down) ∙ fallen.others slot of_set apart))
+    by_failure : IsLostAt slots None later after → IsLostAt slots (Some one) later after
+    by_failure (inl (is_none, up)) = absurd (differ (sym (stays slot down) ∙ up slot of_set))
+    by_failure (inr failure) = elim (cases_eq slot failure.slot) [
+      | inr apart ↦ absurd (differ (sym (stays slot down) ∙ failure.others slot of_set apart))
       | inl same ↦ (
         subst (λ (k : ℕ). k < slots) (sym own) of_set,
-        fallen.lost ∙ sym (ap (λ (l : Lost). Some l) (is_alone ∙ ap alone same)),
-        λ other within apart. fallen.others other within (λ is. apart (is ∙ sym same ∙ sym own)),
+        failure.lost ∙ sym (ap (λ (l : Lost). Some l) (is_alone ∙ ap alone same)),
+        λ other within apart. failure.others other within (λ is. apart (is ∙ sym same ∙ sym own)),
       )
     ]
 
--- From what a slot is marked missing: it is the lost one, and each image that a stop may leave is held by the old table.
+-- From what a slot is marked missing: it is the lost one, and each image that a crash may leave is held by the old table.
 pub record MarksFrom (base table new_table : Table) (devices slot : ℕ) (lost : Option Lost) (X : List (List Bytes)) (one : Lost) (h : History) : Type 0 where
   pub not_older : IsNotOlder base table
   pub marked : IsMarked table slot new_table
@@ -193,7 +193,7 @@ module _ (spellings : Spellings) (honest : Type 0) (devices : ℕ) (base table n
   marks_chosen is_honest ok =
       (published_chosen spellings honest devices table new_table slot one old_panel new_panel old new result published gives is_honest ok).whole (readable new) (readable_left new)
 
--- what a stop may leave of a device is what reads of it give
+-- what a crash may leave of a device is what reads of it give
 abbrev pub IsFlushed : History → ℕ → Type 0
 IsFlushed h device = (at : ℕ) (value : Bytes) → MayHold h device at value → value ≡ sector_of (seen h device) at
 

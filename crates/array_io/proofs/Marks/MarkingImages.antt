@@ -20,13 +20,13 @@ use Rattle.array_io.proofs.Laws.Beginning.{state_in_sync}
 no_number : (y : ℕ) → ¬ Contains [] y
 no_number y (k, below, is) = omega (arith, below)
 
-behind_first : (x y : ℕ) (xs : List ℕ) (p : ℕ → Bool) → Contains xs y × (p y ≡ true) → Contains (x ∷ xs) y × (p y ≡ true)
-behind_first x y xs p (has, passes) = (Contains-append_right (x ∷ []) xs y has, passes)
+past_first : (x y : ℕ) (xs : List ℕ) (p : ℕ → Bool) → Contains xs y × (p y ≡ true) → Contains (x ∷ xs) y × (p y ≡ true)
+past_first x y xs p (has, passes) = (Contains-append_right (x ∷ []) xs y has, passes)
 
 -- what a filter leaves was there, and passes
 filter_has : (p : ℕ → Bool) (xs : List ℕ) (y : ℕ) → Contains (filter p xs) y → Contains xs y × (p y ≡ true)
 filter_has p [] y has = absurd (no_number y has)
-filter_has p (x ∷ xs) y has = by_case (λ later. behind_first x y xs p (filter_has p xs y later)) (p x) refl has
+filter_has p (x ∷ xs) y has = by_case (λ later. past_first x y xs p (filter_has p xs y later)) (p x) refl has
   where
     by_case : (Contains (filter p xs) y → Contains (x ∷ xs) y × (p y ≡ true)) → (b : Bool) → p x ≡ b → Contains (cond b (x ∷ filter p xs) (filter p xs)) y
         → Contains (x ∷ xs) y × (p y ≡ true)
@@ -92,5 +92,5 @@ gets_or_not table slot = elim (cases_lt slot (slots_of table)) [
     | inl in_sync ↦ inl (gets_it table slot of_set in_sync)
     | inr out ↦ inr (λ gets. out (gets_is table slot gets).1)
   ]
-  | inr behind ↦ inr (λ gets. omega (arith, behind, (gets_is table slot gets).0))
+  | inr beyond ↦ inr (λ gets. omega (arith, beyond, (gets_is table slot gets).0))
 ]

@@ -13,7 +13,7 @@ not_below a b le = grind (arith, nat_tests)
 is_below : (a b : ℕ) → a + 1 ≤ b → nat_lt a b ≡ true
 is_below a b le = grind (arith, nat_tests)
 
--- a run cut behind its last call is the whole run
+-- a run cut after its last call is the whole run
 pub cut_whole : (t : ℕ) (h : History) → calls_of h ≤ t → cut_at t h ≡ h
 cut_whole t (Began start) le = refl
 cut_whole t (After e h) le = ap (λ (b : Bool). cond b (cut_at t h) (After e h)) (not_below t (calls_of h + 1) le)

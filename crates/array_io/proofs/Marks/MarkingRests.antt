@@ -36,7 +36,7 @@ use Rattle.array_io.proofs.Laws.Begun.{chosen_is_one, one_at_most}
 use Rattle.array_io.proofs.Marks.MarkingHolds.{missing_then, state_stays}
 use Rattle.array_io.proofs.Images.Put.{put_elsewhere}
 use Rattle.array_io.proofs.Images.Rows.{alike, sound_alike}
-use Rattle.array_io.proofs.Images.SameBehind.{AgreeBehind, sealed_behind}
+use Rattle.array_io.proofs.Images.SameBeyond.{AgreeBeyond, sealed_beyond}
 
 -- A settled array of which one slot, with all others in sync, is marked missing: the new table is published, and safe on each other device.
 pub record HasMarked (devices : ℕ) (old_table new_table : Table) (slot number : ℕ) (lost : Option Lost) (V : List Bytes) (sectors : ℕ → Bytes) (old new : History) : Type 0 where
@@ -91,25 +91,25 @@ module _ (devices : ℕ) (old_table new_table : Table) (slot number : ℕ) (lost
   below_two : place_of new_table < SUPERBLOCK_PLACES
   below_two = omega arith
 
-  held_behind : (device at : ℕ) (value : Bytes) → SUPERBLOCK_PLACES ≤ at → MayHold new device at value → MayHold old device at value
-  held_behind device at value behind may = elim (has.in_publish.holds device at value may) [
+  held_beyond : (device at : ℕ) (value : Bytes) → SUPERBLOCK_PLACES ≤ at → MayHold new device at value → MayHold old device at value
+  held_beyond device at value beyond may = elim (has.in_publish.holds device at value may) [
     | inl before ↦ before
-    | inr is_new ↦ absurd (omega (arith, behind, is_new.in_place, below_two))
+    | inr is_new ↦ absurd (omega (arith, beyond, is_new.in_place, below_two))
   ]
 
-  -- of a device that is up, each sector behind the superblocks has what reads gave
-  one_behind : (device at : ℕ) (value : Bytes) → is_down new device ≡ false → SUPERBLOCK_PLACES ≤ at → MayHold new device at value → value ≡ sector_of (seen old device) at
-  one_behind device at value up behind may =
-      has.rests.nothing_pending device at value (sector_of (seen old device) at) (was_up device up) (held_behind device at value behind may)
+  -- of a device that is up, each sector after the superblocks has what reads gave
+  one_beyond : (device at : ℕ) (value : Bytes) → is_down new device ≡ false → SUPERBLOCK_PLACES ≤ at → MayHold new device at value → value ≡ sector_of (seen old device) at
+  one_beyond device at value up beyond may =
+      has.rests.nothing_pending device at value (sector_of (seen old device) at) (was_up device up) (held_beyond device at value beyond may)
       (up_seen old device at (was_up device up))
 
-  seen_behind : (device at : ℕ) → is_down new device ≡ false → SUPERBLOCK_PLACES ≤ at → sector_of (seen new device) at ≡ sector_of (seen old device) at
-  seen_behind device at up behind = one_behind device at (sector_of (seen new device) at) up behind (up_seen new device at up)
+  seen_beyond : (device at : ℕ) → is_down new device ≡ false → SUPERBLOCK_PLACES ≤ at → sector_of (seen new device) at ≡ sector_of (seen old device) at
+  seen_beyond device at up beyond = one_beyond device at (sector_of (seen new device) at) up beyond (up_seen new device at up)
 
-  readable_behind : (device at : ℕ) → is_down new device ≡ false → SUPERBLOCK_PLACES ≤ at → sector_of (disk_of (readable new device)) at ≡ sector_of (disk_of (readable old device)) at
-  readable_behind device at up behind =
+  readable_beyond : (device at : ℕ) → is_down new device ≡ false → SUPERBLOCK_PLACES ≤ at → sector_of (disk_of (readable new device)) at ≡ sector_of (disk_of (readable old device)) at
+  readable_beyond device at up beyond =
       ap (λ (c : Content). sector_of (disk_of c) at) (readable_up new device up)
-      ∙ seen_behind device at up behind
+      ∙ seen_beyond device at up beyond
       ∙ sym (ap (λ (c : Content). sector_of (disk_of c) at) (readable_up old device (was_up device up)))
 
   -- a sector has one value where it gets the superblock, or had one
@@ -190,7 +190,7 @@ module _ (devices : ℕ) (old_table new_table : Table) (slot number : ℕ) (lost
 
   own_stays : (row member : ℕ) → member < old_table.geometry.members → member ≢ slot
       → sector_of (disk_of (readable new member)) (FIRST_ROW + row) ≡ sector_of (disk_of (readable old member)) (FIRST_ROW + row)
-  own_stays row member within apart = readable_behind member (FIRST_ROW + row) (has.up member (in_set member within) apart) (omega arith)
+  own_stays row member within apart = readable_beyond member (FIRST_ROW + row) (has.up member (in_set member within) apart) (omega arith)
 
   width : new_table.geometry.members ≡ old_table.geometry.members
   width = ap (λ (g : Geometry). g.members) has.marked.same_geometry
@@ -244,31 +244,31 @@ module _ (devices : ℕ) (old_table new_table : Table) (slot number : ℕ) (lost
 
   -- live journals have the array's number
 
-  journal_behind : (image : Slots) → MayLeave new image → (other : ℕ) → is_down new other ≡ false → AgreeBehind (image other) (readable old other)
-  journal_behind image may other up = record {
-    same = λ a behind.
+  journal_beyond : (image : Slots) → MayLeave new image → (other : ℕ) → is_down new other ≡ false → AgreeBeyond (image other) (readable old other)
+  journal_beyond image may other up = record {
+    same = λ a beyond.
         let there = is_there new other image up may in
         ap (λ (c : Content). sector_of (disk_of c) a) there.1
-        ∙ one_behind other a (sector_of there.0 a) up behind ((subst (λ (c : Content). SlotMayHold new other c) there.1 (may other)).2 a)
+        ∙ one_beyond other a (sector_of there.0 a) up beyond ((subst (λ (c : Content). SlotMayHold new other c) there.1 (may other)).2 a)
         ∙ sym (ap (λ (c : Content). sector_of (disk_of c) a) (readable_up old other (was_up other up)));
   }
 
   number_there : (image : Slots) → MayLeave new image → (journal : ℕ) (last : Option Seal) → new_table.geometry.members ≤ journal → journal < new_table.geometry.members + 2 → journal ≢ slot
       → IsLastSealed new_table.id new_table.geometry (image journal) last → number_of last ≡ number
-  number_there image may journal last behind of_set apart sealed =
+  number_there image may journal last beyond of_set apart sealed =
       let of_old : journal < slots_of old_table = subst (λ (n : ℕ). journal < n) set_is of_set in
       let up = has.up journal of_old apart in
       has.rests.numbered.whole (readable old) (readable_left old) journal last
-      (record { behind_members = subst (λ (n : ℕ). n ≤ journal) width behind; of_set = of_old; live = has.rests.there journal of_old (was_there journal of_old apart) })
-      (sealed_behind old_table.id old_table.geometry (image journal) (readable old journal) (journal_behind image may journal up) last
+      (record { beyond_members = subst (λ (n : ℕ). n ≤ journal) width beyond; of_set = of_old; live = has.rests.there journal of_old (was_there journal of_old apart) })
+      (sealed_beyond old_table.id old_table.geometry (image journal) (readable old journal) (journal_beyond image may journal up) last
       (subst₂ (λ (id : List ℕ) (g : Geometry). IsLastSealed id g (image journal) last) has.marked.same_id has.marked.same_geometry sealed))
 
   numbered : (of_lost : Lost) → of_lost.slot ≡ slot → InEachImage devices new_table new (Some of_lost) (HaveNumber devices new_table number)
   numbered of_lost own = record {
-    whole = λ image may journal last live sealed. number_there image may journal last live.behind_members live.of_set (apart_if journal live.live.not_missing) sealed;
+    whole = λ image may journal last live sealed. number_there image may journal last live.beyond_members live.of_set (apart_if journal live.live.not_missing) sealed;
     weakened = λ image other content may out stands journal last live sealed.
         let apart = apart_if journal live.live.not_missing in
-        number_there image may journal last live.behind_members live.of_set apart
+        number_there image may journal last live.beyond_members live.of_set apart
         (subst (λ (c : Content). IsLastSealed new_table.id new_table.geometry c last) (put_elsewhere image other content journal (λ is. apart (is ∙ out ∙ own))) sealed);
   }
 

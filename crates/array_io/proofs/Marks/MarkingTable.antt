@@ -28,7 +28,7 @@ not_rebuilding table slot of_set others k d below = elim (cases_eq k slot) [
     by_place : k ≢ slot → is_rebuilding (state_at table.states k) ≡ false
     by_place apart = elim (cases_lt k (slots_of table)) [
       | inl of_set' ↦ ap is_rebuilding (others k of_set' apart)
-      | inr behind ↦ ap is_rebuilding (table.allowed.behind_missing k behind)
+      | inr beyond ↦ ap is_rebuilding (table.allowed.missing_beyond k beyond)
     ]
 
 -- it has no position

@@ -31,7 +31,7 @@ sealed_live devices table image slot content (Some seal) is live last =
 -- one of the two journals
 which_journal : (devices : ℕ) (table : Table) (image : Slots) (slot : ℕ) → IsLiveJournal devices table image slot
     → (slot ≡ table.geometry.members) ⊎ (slot ≡ table.geometry.members + 1)
-which_journal devices table image slot live = let behind = live.behind_members in let within = live.of_set in
+which_journal devices table image slot live = let beyond = live.beyond_members in let within = live.of_set in
     elim (cases_eq slot table.geometry.members) [
       | inl lower ↦ inl lower
       | inr upper ↦ inr (omega arith)
@@ -69,9 +69,9 @@ pub lower_is_last : (devices : ℕ) (table : Table) (image : Slots) (lower : Sea
     → NumberMost upper lower.number
     → IsLastEntry table.id table.geometry (IsLiveJournal devices table image) image (Some record { journal = table.geometry.members; seal = lower })
 lower_is_last devices table image lower upper is_lower is_upper below =
-    let live : IsLiveJournal devices table image table.geometry.members = record { behind_members = omega arith; of_set = omega arith; live = is_lower.0 } in
+    let live : IsLiveJournal devices table image table.geometry.members = record { beyond_members = omega arith; of_set = omega arith; live = is_lower.0 } in
     let greatest = journals_most devices table image lower.number (Some lower) upper is_lower is_upper (omega arith) below in
-    record { on_live = live; sealed = is_lower.1; greatest = greatest; lowest = λ other s is_live _ _. is_live.behind_members }
+    record { on_live = live; sealed = is_lower.1; greatest = greatest; lowest = λ other s is_live _ _. is_live.beyond_members }
 
 -- the upper journal has it
 pub upper_is_last : (devices : ℕ) (table : Table) (image : Slots) (lower : Option Seal) (upper : Seal)
@@ -79,7 +79,7 @@ pub upper_is_last : (devices : ℕ) (table : Table) (image : Slots) (lower : Opt
     → ((s : Seal) → lower ≡ Some s → s.number < upper.number)
     → IsLastEntry table.id table.geometry (IsLiveJournal devices table image) image (Some record { journal = table.geometry.members + 1; seal = upper })
 upper_is_last devices table image None upper is_lower is_upper above =
-    let live : IsLiveJournal devices table image (table.geometry.members + 1) = record { behind_members = omega arith; of_set = omega arith; live = is_upper.0 } in
+    let live : IsLiveJournal devices table image (table.geometry.members + 1) = record { beyond_members = omega arith; of_set = omega arith; live = is_upper.0 } in
     let greatest = journals_most devices table image upper.number None (Some upper) is_lower is_upper tt (omega arith) in
     record {
       on_live = live;
@@ -93,7 +93,7 @@ upper_is_last devices table image None upper is_lower is_upper above =
     }
 upper_is_last devices table image (Some low) upper is_lower is_upper above =
     let less : low.number < upper.number = above low refl in
-    let live : IsLiveJournal devices table image (table.geometry.members + 1) = record { behind_members = omega arith; of_set = omega arith; live = is_upper.0 } in
+    let live : IsLiveJournal devices table image (table.geometry.members + 1) = record { beyond_members = omega arith; of_set = omega arith; live = is_upper.0 } in
     let greatest = journals_most devices table image upper.number (Some low) (Some upper) is_lower is_upper (omega arith) (omega arith) in
     record {
       on_live = live;

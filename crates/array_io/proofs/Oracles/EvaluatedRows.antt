@@ -104,7 +104,7 @@ pub entry_sector : (devices : ℕ) (table : Table) (image : Slots) (found : Opti
 entry_sector devices table image found last row member at sector is has within there reads =
     let latest : HasLastEntry devices table image (Some last) = subst (λ (o : Option LastEntry). HasLastEntry devices table image o) is has in
     let long = latest.on_live.live.long_enough in
-    let least = cond_above last.journal table.geometry.members (FIRST_ROW + row_count table) JOURNAL_SECTORS JOURNAL_SECTORS latest.on_live.behind_members refl in
+    let least = cond_above last.journal table.geometry.members (FIRST_ROW + row_count table) JOURNAL_SECTORS JOURNAL_SECTORS latest.on_live.beyond_members refl in
     let body = bodies_within table.geometry.members last.seal row member at table.geometry.limits.members_most within (sym there) in
     let read : sector ≡ sector_of (disk_of (image last.journal)) at = reads (omega (arith, body.1)) in
     ap Some read

@@ -13,7 +13,7 @@ use Rattle.layout_map.specs.declared.geometry.Geometry.{Geometry}
 use Rattle.degraded.specs.RowValue.{value}
 use Rattle.array_io.specs.Steps.CallSteps.{StepsOf}
 use Rattle.array_io.specs.Steps.MarkingOn.{IsWhyLeft, MarksOn}
-use Rattle.array_io.specs.Steps.ReadingOn.{Between, IsFallMarked, KeepsList, KeepsOn, ReadsOrMarks}
+use Rattle.array_io.specs.Steps.ReadingOn.{Between, IsFailureMarked, KeepsList, KeepsOn, ReadsOrFailsSlot}
 use Rattle.array_io.specs.Believed.Settled.{rows_by}
 use Rattle.array_io.specs.Believed.Views.{HasItsSlots, view_of}
 use Rattle.array_io.proofs.Calls.CallSteps.{steps_both}
@@ -24,7 +24,7 @@ use Rattle.array_io.proofs.Writes.Writable.{same_readable}
 
 module _ (spellings : Spellings) (honest : Type 0) (devices number : ℕ) (table new_table : Table) (member row : ℕ) (old_panel new_panel : Panel) (old new : History) (to : Bytes)
     (result : Result Bool Refusal) (true_old : honest → IsTrueTo old_panel old) (true_new : honest → IsTrueTo new_panel new) (its : HasItsSlots table old_panel)
-    (reads : ReadsOrMarks honest table new_table member row old_panel new_panel old new to result) where
+    (reads : ReadsOrFailsSlot honest table new_table member row old_panel new_panel old new to result) where
   -- a try is a step
   pub try_step : StepsOf honest (KeepsList devices) (Between devices number) (Between devices number)
       (view_of old_panel old table number) (view_of new_panel new new_table number) (answer_of_read result)
@@ -46,7 +46,7 @@ module _ (spellings : Spellings) (honest : Type 0) (devices number : ℕ) (table
   ]
 
   -- where a slot was marked it is missing
-  pub try_marked : result ≡ Ok false → IsFallMarked honest table new_table old_panel new_panel old new (Ok tt)
+  pub try_marked : result ≡ Ok false → IsFailureMarked honest table new_table old_panel new_panel old new (Ok tt)
   try_marked marked = elim reads [
     | inl is ↦ absurd (cc)
     | inr rest ↦ elim rest [
@@ -63,7 +63,7 @@ none_differ e = cc
 
 -- two slots can't be marked in one call
 pub not_marked_twice : (honest still : Type 0) (table mid_table new_table : Table) (old_panel mid_panel new_panel : Panel) (old mid new : History)
-    → IsFallMarked honest table mid_table old_panel mid_panel old mid (Ok tt) → IsFallMarked still mid_table new_table mid_panel new_panel mid new (Ok tt) → ⊥
+    → IsFailureMarked honest table mid_table old_panel mid_panel old mid (Ok tt) → IsFailureMarked still mid_table new_table mid_panel new_panel mid new (Ok tt) → ⊥
 not_marked_twice honest still table mid_table new_table old_panel mid_panel new_panel old mid new first second = by_marks first.marks
   where
     by_second : state_at mid_table.states first.slot ≡ Missing → first.slot < slots_of mid_table
@@ -96,7 +96,7 @@ was_read result (inr (refusal, refused)) ok = absurd (differ (sym (ap answer_of_
 
 module _ (spellings : Spellings) (honest : Type 0) (member row : ℕ) (table mid_table : Table) (old_panel mid_panel : Panel) (old mid : History) (to : Bytes)
     (result : Result Bool Refusal) (true_old : honest → IsTrueTo old_panel old) (true_mid : honest → IsTrueTo mid_panel mid)
-    (its : HasItsSlots table old_panel) (reads : ReadsOrMarks honest table mid_table member row old_panel mid_panel old mid to result) where
+    (its : HasItsSlots table old_panel) (reads : ReadsOrFailsSlot honest table mid_table member row old_panel mid_panel old mid to result) where
   -- a try keeps the list
   pub first_try : KeepsOn honest table mid_table old_panel mid_panel old mid (answer_of_read result)
   first_try devices number = try_step spellings honest devices number table mid_table member row old_panel mid_panel old mid to result true_old true_mid its reads
@@ -109,7 +109,7 @@ module _ (spellings : Spellings) (honest : Type 0) (member row : ℕ) (table mid
 
   -- a slot was marked, and a second try followed
   module _ (still : Type 0) (more : honest → still) (new_table : Table) (new_panel : Panel) (new : History) (then_to : Bytes) (second : Result Bool Refusal)
-      (still_its : HasItsSlots mid_table mid_panel) (reads_then : ReadsOrMarks still mid_table new_table member row mid_panel new_panel mid new then_to second)
+      (still_its : HasItsSlots mid_table mid_panel) (reads_then : ReadsOrFailsSlot still mid_table new_table member row mid_panel new_panel mid new then_to second)
       (true_mid_still : still → IsTrueTo mid_panel mid) (true_new_still : still → IsTrueTo new_panel new) where
     -- both keep the list
     pub both_tries : result ≡ Ok false → KeepsOn honest table new_table old_panel new_panel old new (answer_of_read second)

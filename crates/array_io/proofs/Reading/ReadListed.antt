@@ -41,7 +41,7 @@ flags_differ e = cc
 pub keeps_none : Spellings → (honest : Type 0) (table : Table) (panel : Panel) (h : History) → (honest → IsTrueTo panel h) → KeepsOn honest table table panel panel h h (Ok tt)
 keeps_none spellings honest table panel h true_to devices number = record {
   goes_on = goes_on_later panel panel h h table number (later_same panel);
-  stays = record { table = inl refl; fallen = λ fair goes slot of_set fell. absurd (flags_differ (sym fell.is_down ∙ fell.was_up)) };
+  stays = record { table = inl refl; failure = λ fair goes slot of_set failed. absurd (flags_differ (sym failed.is_down ∙ failed.was_up)) };
   number = refl;
   moments = λ fair from at. quiet_moments spellings honest devices number table panel panel h h true_to true_to from at (read_none h) (λ d. refl);
   reached = λ fair ok from at. at;

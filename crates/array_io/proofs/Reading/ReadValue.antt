@@ -1,4 +1,4 @@
--- What `read_member` did of an array's members is a value that was read, a fall, or the end of the count.
+-- What `read_member` did of an array's members is a value that was read, a failure, or the end of the count.
 use Rattle.std.proofs.Common.{◌≡◌, ◌≢◌, ◌⊎◌, inl, inr, ℕ, ◌<◌, ◌≤◌, refl, sym, ◌∙◌, subst, arith}
 use Rattle.std.specs.Prelude.{Option, None, Ok, Err, Result}
 use Rattle.sector_model.specs.declared.sector.Stop.{Stop}
@@ -18,14 +18,14 @@ use Rattle.stripe_journal.specs.OneEntry.{StaysOff}
 use Rattle.array_io.specs.Believed.ArrayCalls.{Answer}
 use Rattle.array_io.specs.Steps.Bringing.{CountsOn}
 use Rattle.array_io.specs.Steps.MarkingOn.{MarksOn}
-use Rattle.array_io.specs.Steps.ReadingOn.{IsFallMarked, IsReadWorn, IsValueRead}
+use Rattle.array_io.specs.Steps.ReadingOn.{IsFailureMarked, IsReadWorn, IsValueRead}
 use Rattle.array_io.specs.Steps.Writing.{IsWriting}
 use Rattle.array_io.proofs.Calls.DeviceReads.{reads_run}
 use Rattle.array_io.proofs.Rest.AtRestRows.{trusts_tells}
 use Rattle.array_io.proofs.Commits.EntryCarried.{Nothing, reads_write}
 use Rattle.array_io.proofs.Reading.LiveRows.{ReadsBy, live_value}
 
--- reads in which one device at most fell leave the others as they were
+-- reads in which one device at most failed leave the others as they were
 pub reads_off : (table : Table) (slot : ℕ) (old new : History) → CountsOn table slot → HasRead old new → ((d : ℕ) → d ≢ slot → is_down new d ≡ is_down old d) → StaysOff (λ d. d ≡ slot) old new
 reads_off table slot old new counted read down = record {
   start = writing.start;
@@ -92,9 +92,9 @@ module _ (honest : Type 0) (table : Table) (slots : LiveSlots) (member row : ℕ
   }
 
   module _ (device : ℕ) (is : ReadsMember honest slots member row old_panel mid_panel old mid to (Err (stop.Down device))) where
-    -- the device that fell is one that the table counts on
-    pub fell_counted : CountsOn table device
-    fell_counted =
+    -- the device that failed is one that the table counts on
+    pub failed_counted : CountsOn table device
+    failed_counted =
         let named = is.named device refl in
         let within : device < table.geometry.members = omega (arith, named.0, width) in
         record {
@@ -103,19 +103,19 @@ module _ (honest : Type 0) (table : Table) (slots : LiveSlots) (member row : ℕ
         }
 
     -- and its slot is marked missing, or that is refused
-    pub fall_marked : (new_table : Table) (new_panel : Panel) (new : History) (answer : Answer) → (honest → IsTrueTo mid_panel mid)
-        → MarksOn honest device mid_panel new_panel table new_table mid new answer → IsFallMarked honest table new_table old_panel new_panel old new answer
-    fall_marked new_table new_panel new answer true_mid marks = record {
+    pub failure_marked : (new_table : Table) (new_panel : Panel) (new : History) (answer : Answer) → (honest → IsTrueTo mid_panel mid)
+        → MarksOn honest device mid_panel new_panel table new_table mid new answer → IsFailureMarked honest table new_table old_panel new_panel old new answer
+    failure_marked new_table new_panel new answer true_mid marks = record {
       slot = device;
-      counted = fell_counted;
+      counted = failed_counted;
       mid_panel = mid_panel;
       mid = mid;
       calls = record {
         later = is.later;
         cause = is.cause;
         named = λ other same. cc;
-        off = λ fair. reads_off table device old mid fell_counted (is.reads fair) (λ d apart. is.stays fair d (λ same. apart (cc)));
-        none_fell = λ fair ok. absurd (cc);
+        off = λ fair. reads_off table device old mid failed_counted (is.reads fair) (λ d apart. is.stays fair d (λ same. apart (cc)));
+        none_failed = λ fair ok. absurd (cc);
         runs = λ fair. reads_run (is.reads fair);
         front = λ fair ok. absurd (cc);
       };

@@ -1,4 +1,4 @@
--- A whole sector is read as reads give it, also of an array that is not settled, where no device falls.
+-- A whole sector is read as reads give it, also of an array that is not settled, where no device fails.
 use Rattle.std.proofs.Common.{◌≡◌, ◌≢◌, inl, inr, ℕ, ◌+◌, ◌*◌, ◌/◌, ◌%◌, ◌<◌, ◌≤◌, Bool, true, false, List, [], ◌∷◌, ◌++◌, length, get_or, Option, None, refl, sym, ◌∙◌, ap, subst, arith}
 use Rattle.std.specs.Prelude.{OnOk, Ok, Err, Result, is_ok, map}
 use Rattle.std.proofs.lemmas.Bool.{cases_eq, cases_lt}
@@ -25,8 +25,8 @@ use Rattle.degraded.specs.RowValue.{Rows, logical_list, value}
 use Rattle.degraded.proofs.Values.{value-agree, value-own}
 use Rattle.array_io.specs.Believed.ArrayCalls.{Answer}
 use Rattle.array_io.specs.Steps.MarkingOn.{IsWhyLeft, answer_of}
-use Rattle.array_io.specs.Steps.ReadingOn.{IsFallMarked, IsValueRead, ReadsOrMarks}
-use Rattle.array_io.specs.Believed.ReadWhole.{NoneFell, ReadsValue, ReadsWhole, SectorsStay, ValuesStay, list_read}
+use Rattle.array_io.specs.Steps.ReadingOn.{IsFailureMarked, IsValueRead, ReadsOrFailsSlot}
+use Rattle.array_io.specs.Believed.ReadWhole.{NoDeviceFailed, ReadsValue, ReadsWhole, SectorsStay, ValuesStay, list_read}
 use Rattle.array_io.specs.Believed.Settled.{rows_by, trusts}
 use Rattle.array_io.specs.Believed.Views.{ArrayView, view_of}
 use Rattle.array_io.proofs.Commits.FormedRows.{length-logical_list, sector_of_logical_list}
@@ -62,20 +62,20 @@ below_publish table sectors =
     (map (λ slot. Write slot (place_of table) (sectors slot)) (first_slots table None)) (map (λ slot. Flush slot) (first_slots table None))
     (below_writes 2 (place_of table) sectors (first_slots table None) (omega arith)) (below_flushes 2 (first_slots table None))) tt
 
--- they leave the sectors behind
-seen_behind : (n : ℕ) (calls : List Call) (old new : History) (device at : ℕ) → WriteBelow n calls → Performs calls true old new → n ≤ at → sector_of (seen new device) at ≡ sector_of (seen old device) at
-seen_behind n [] old new device at below (all, is) behind = ap (λ (h : History). sector_of (seen h device) at) is
-seen_behind n (call ∷ calls) old new device at below (inl (none, is)) behind = absurd (cc)
-seen_behind n (Read other place ∷ calls) old new device at below (inr (up, rest)) behind = seen_behind n calls (after_call (Read other place) true old) new device at below rest behind
-seen_behind n (Write other place bytes ∷ calls) old new device at below (inr (up, rest)) behind =
-    seen_behind n calls (after_call (Write other place bytes) true old) new device at below.1 rest behind
-    ∙ seen_elsewhere other place bytes old device at (λ same is. omega (arith, below.0, behind, is))
-seen_behind n (Flush other ∷ calls) old new device at below (inr (up, rest)) behind = seen_behind n calls (after_call (Flush other) true old) new device at below rest behind
+-- they leave the sectors beyond
+seen_beyond : (n : ℕ) (calls : List Call) (old new : History) (device at : ℕ) → WriteBelow n calls → Performs calls true old new → n ≤ at → sector_of (seen new device) at ≡ sector_of (seen old device) at
+seen_beyond n [] old new device at below (all, is) beyond = ap (λ (h : History). sector_of (seen h device) at) is
+seen_beyond n (call ∷ calls) old new device at below (inl (none, is)) beyond = absurd (cc)
+seen_beyond n (Read other place ∷ calls) old new device at below (inr (up, rest)) beyond = seen_beyond n calls (after_call (Read other place) true old) new device at below rest beyond
+seen_beyond n (Write other place bytes ∷ calls) old new device at below (inr (up, rest)) beyond =
+    seen_beyond n calls (after_call (Write other place bytes) true old) new device at below.1 rest beyond
+    ∙ seen_elsewhere other place bytes old device at (λ same is. omega (arith, below.0, beyond, is))
+seen_beyond n (Flush other ∷ calls) old new device at below (inr (up, rest)) beyond = seen_beyond n calls (after_call (Flush other) true old) new device at below rest beyond
 
--- what reads give behind the superblocks, of devices that are as up as before
-own_behind : (old new : History) (device at : ℕ) → is_down new device ≡ is_down old device → sector_of (seen new device) at ≡ sector_of (seen old device) at
+-- what reads give after the superblocks, of devices that are as up as before
+own_beyond : (old new : History) (device at : ℕ) → is_down new device ≡ is_down old device → sector_of (seen new device) at ≡ sector_of (seen old device) at
     → sector_of (disk_of (readable new device)) at ≡ sector_of (disk_of (readable old device)) at
-own_behind old new device at down same = by_state (is_down old device) refl
+own_beyond old new device at down same = by_state (is_down old device) refl
   where
     by_state : (b : Bool) → is_down old device ≡ b → sector_of (disk_of (readable new device)) at ≡ sector_of (disk_of (readable old device)) at
     by_state true is = ap (λ (c : Option (List Bytes)). sector_of (disk_of c) at) (readable_down new device (down ∙ is) ∙ sym (readable_down old device is))
@@ -147,10 +147,10 @@ module _ (slot : ℕ) (table new_table : Table) (old new : History) (has : HasMa
 differ : ¬ (true ≡ false)
 differ is = cc
 
-module _ (honest : Type 0) (table new_table : Table) (old_panel new_panel : Panel) (old new : History) (is : IsFallMarked honest table new_table old_panel new_panel old new (Ok tt))
+module _ (honest : Type 0) (table new_table : Table) (old_panel new_panel : Panel) (old new : History) (is : IsFailureMarked honest table new_table old_panel new_panel old new (Ok tt))
     (true_old : honest → IsTrueTo old_panel old) (of_bank : slots_of table ≤ old_panel.devices) where
-  fell_already : honest → NoneFell old_panel new_panel → is_down old is.slot ≡ true
-  fell_already fair none = sym ((true_old fair).down is.slot) ∙ by_state (old_panel.down is.slot) refl
+  failed_already : honest → NoDeviceFailed old_panel new_panel → is_down old is.slot ≡ true
+  failed_already fair none = sym ((true_old fair).down is.slot) ∙ by_state (old_panel.down is.slot) refl
     where
       down_then : new_panel.down is.slot ≡ true
       down_then = elim is.marks [
@@ -165,9 +165,9 @@ module _ (honest : Type 0) (table new_table : Table) (old_panel new_panel : Pane
   down_in_mid : honest → is_down is.mid is.slot ≡ true
   down_in_mid fair = sym ((is.true_mid fair).down is.slot) ∙ is.calls.cause (stop.Down is.slot) refl
 
-  same_before : honest → NoneFell old_panel new_panel → readable is.mid ≡ readable old
+  same_before : honest → NoDeviceFailed old_panel new_panel → readable is.mid ≡ readable old
   same_before fair none = same_readable old is.mid (is.reads fair) (λ d. elim (cases_eq d is.slot) [
-    | inl same ↦ ap (is_down is.mid) same ∙ down_in_mid fair ∙ sym (ap (is_down old) same ∙ fell_already fair none)
+    | inl same ↦ ap (is_down is.mid) same ∙ down_in_mid fair ∙ sym (ap (is_down old) same ∙ failed_already fair none)
     | inr apart ↦ (is.calls.off fair).others_down d apart
   ])
 
@@ -187,20 +187,20 @@ module _ (honest : Type 0) (table new_table : Table) (old_panel new_panel : Pane
           others = marked.others;
           marked = marked.marked;
           down = down_in_mid fair;
-          own = λ device at behind. own_behind is.mid new device at (all_answered_down calls is.mid new device made.performed)
-              (seen_behind 2 calls is.mid new device at (below_publish new_table marked.publishes.sectors) made.performed behind);
+          own = λ device at beyond. own_beyond is.mid new device at (all_answered_down calls is.mid new device made.performed)
+              (seen_beyond 2 calls is.mid new device at (below_publish new_table marked.publishes.sectors) made.performed beyond);
         }
   ]
 
-  -- where no device fell in it, a try that marked a slot changes no whole value
-  fall_stays : honest → NoneFell old_panel new_panel → ValuesStay table new_table old new
-  fall_stays fair none = subst (λ (i : Slots). (row member : ℕ) → member < table.geometry.members → length (value (rows_by table i) row member) ≡ 512
+  -- where no device failed in it, a try that marked a slot changes no whole value
+  failure_stays : honest → NoDeviceFailed old_panel new_panel → ValuesStay table new_table old new
+  failure_stays fair none = subst (λ (i : Slots). (row member : ℕ) → member < table.geometry.members → length (value (rows_by table i) row member) ≡ 512
       → value (rows_by new_table (readable new)) row member ≡ value (rows_by table i) row member) (same_before fair none)
       (values_stay is.slot table new_table is.mid new (has_marked fair))
 
 -- a try that answered the value read it
 value_read : (honest : Type 0) (table new_table : Table) (member row : ℕ) (old_panel new_panel : Panel) (old new : History) (to : Bytes) (result : Result Bool Refusal)
-    → ReadsOrMarks honest table new_table member row old_panel new_panel old new to result → result ≡ Ok true → (new_table ≡ table) × IsValueRead honest table member row old_panel new_panel old new to
+    → ReadsOrFailsSlot honest table new_table member row old_panel new_panel old new to result → result ≡ Ok true → (new_table ≡ table) × IsValueRead honest table member row old_panel new_panel old new to
 value_read honest table new_table member row old_panel new_panel old new to result reads read = elim reads [
   | inl is ↦ (is.1, is.2)
   | inr rest ↦ elim rest [
@@ -214,7 +214,7 @@ value_read honest table new_table member row old_panel new_panel old new to resu
 
 -- the value was read by the first try
 pub first_whole : (honest : Type 0) (table new_table : Table) (member row : ℕ) (old_panel new_panel : Panel) (old new : History) (to : Bytes) (result : Result Bool Refusal)
-    → ReadsOrMarks honest table new_table member row old_panel new_panel old new to result → result ≡ Ok true → honest → ReadsValue table new_table member row old new to
+    → ReadsOrFailsSlot honest table new_table member row old_panel new_panel old new to result → result ≡ Ok true → honest → ReadsValue table new_table member row old new to
 first_whole honest table new_table member row old_panel new_panel old new to result reads read fair =
     let is = value_read honest table new_table member row old_panel new_panel old new to result reads read in
     record {
@@ -223,9 +223,9 @@ first_whole honest table new_table member row old_panel new_panel old new to res
           ∙ ap (λ (i : Slots). value (rows_by table i) r m) (same_readable old new (is.1.reads fair) (is.1.stays fair));
     }
 
--- none fell in the first part of a run in which none fell
-none_fell_before : (old mid new : Panel) → IsLater mid new → NoneFell old new → NoneFell old mid
-none_fell_before old mid new later none slot of_bank up = by_state (mid.down slot) refl
+-- none failed in the first part of a run in which none failed
+none_failed_before : (old mid new : Panel) → IsLater mid new → NoDeviceFailed old new → NoDeviceFailed old mid
+none_failed_before old mid new later none slot of_bank up = by_state (mid.down slot) refl
   where
     by_state : (b : Bool) → mid.down slot ≡ b → mid.down slot ≡ false
     by_state true down = absurd (differ (sym (later.down slot down) ∙ none slot of_bank up))
@@ -233,13 +233,13 @@ none_fell_before old mid new later none slot of_bank up = by_state (mid.down slo
 
 -- it was read by the second
 pub second_whole : (honest still : Type 0) → (honest → still) → (table mid_table new_table : Table) (member row : ℕ) (old_panel mid_panel new_panel : Panel) (old mid new : History) (to : Bytes)
-    (second : Result Bool Refusal) → IsFallMarked honest table mid_table old_panel mid_panel old mid (Ok tt) → (honest → IsTrueTo old_panel old) → slots_of table ≤ old_panel.devices
-    → member < table.geometry.members → ReadsOrMarks still mid_table new_table member row mid_panel new_panel mid new to second → second ≡ Ok true → honest → NoneFell old_panel new_panel
+    (second : Result Bool Refusal) → IsFailureMarked honest table mid_table old_panel mid_panel old mid (Ok tt) → (honest → IsTrueTo old_panel old) → slots_of table ≤ old_panel.devices
+    → member < table.geometry.members → ReadsOrFailsSlot still mid_table new_table member row mid_panel new_panel mid new to second → second ≡ Ok true → honest → NoDeviceFailed old_panel new_panel
     → ReadsValue table new_table member row old new to
 second_whole honest still more table mid_table new_table member row old_panel mid_panel new_panel old mid new to second is true_old of_bank below reads read fair none =
     let was = value_read still mid_table new_table member row mid_panel new_panel mid new to second reads read in
     let now = first_whole still mid_table new_table member row mid_panel new_panel mid new to second reads read (more fair) in
-    let first = fall_stays honest table mid_table old_panel mid_panel old mid is true_old of_bank fair (none_fell_before old_panel mid_panel new_panel was.1.later none) in
+    let first = failure_stays honest table mid_table old_panel mid_panel old mid is true_old of_bank fair (none_failed_before old_panel mid_panel new_panel was.1.later none) in
     record {
       given = λ whole. now.given (ap length (first row member below whole) ∙ whole) ∙ first row member below whole;
       stays = λ r m within whole. now.stays r m (subst (λ (g : Geometry). m < g.members) (sym same) within) (ap length (first r m within whole) ∙ whole) ∙ first r m within whole;
@@ -296,8 +296,8 @@ module _ (table new_table : Table) (member row : ℕ) (old_panel new_panel : Pan
 -- the same of an answer
 pub whole_if : (old_panel new_panel : Panel) (table new_table : Table) (member row : ℕ) (old new : History) (number new_number : ℕ) (to : Bytes) → new_table.geometry ≡ table.geometry → (logical : ℕ)
     → logical < data_sectors_of table.geometry.members table.geometry.chunk table.geometry.stripes → IsPlace table.geometry.members table.geometry.chunk logical member row → (answer : Answer)
-    → OnOk answer (NoneFell old_panel new_panel → ReadsValue table new_table member row old new to)
-    → OnOk answer (NoneFell old_panel new_panel → ReadsWhole logical (view_of old_panel old table number) (view_of new_panel new new_table new_number) to)
+    → OnOk answer (NoDeviceFailed old_panel new_panel → ReadsValue table new_table member row old new to)
+    → OnOk answer (NoDeviceFailed old_panel new_panel → ReadsWhole logical (view_of old_panel old table number) (view_of new_panel new new_table new_number) to)
 whole_if old_panel new_panel table new_table member row old new number new_number to same logical below place (Ok done) read =
     λ none. reads_whole table new_table member row old_panel new_panel old new number new_number to same (read none) logical below place
 whole_if old_panel new_panel table new_table member row old new number new_number to same logical below place (Err refusal) read = read

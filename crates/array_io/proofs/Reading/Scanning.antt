@@ -21,13 +21,13 @@ use Rattle.degraded.proofs.Values.{value-own}
 use Rattle.array_io.specs.Believed.ArrayCalls.{Answer}
 use Rattle.array_io.specs.Steps.CallSteps.{StepsOf}
 use Rattle.array_io.specs.Steps.MarkingOn.{IsWhyLeft, MarksOn}
-use Rattle.array_io.specs.Steps.ReadingOn.{Between, IsFallMarked, IsReadWorn, IsValueRead, KeepsList, ReadsOrMarks}
-use Rattle.array_io.specs.Steps.Scanning.{HasScanned, ScansOrMarks}
+use Rattle.array_io.specs.Steps.ReadingOn.{Between, IsFailureMarked, IsReadWorn, IsValueRead, KeepsList, ReadsOrFailsSlot}
+use Rattle.array_io.specs.Steps.Scanning.{HasScanned, ScansOrFailsSlot}
 use Rattle.array_io.specs.Believed.Settled.{rows_by, trusts}
 use Rattle.array_io.specs.Believed.Views.{HasItsSlots, view_of}
 use Rattle.array_io.proofs.Marks.MarkingHolds.{missing_then}
 use Rattle.array_io.proofs.Calls.DeviceReads.{reads_front, reads_run}
-use Rattle.array_io.proofs.Reading.ReadSteps.{fall_step, scan_step, worn_step}
+use Rattle.array_io.proofs.Reading.ReadSteps.{failure_step, scan_step, worn_step}
 use Rattle.array_io.proofs.Reading.ReadValue.{marks_as, reads_off}
 use Rattle.array_io.proofs.Images.Spellings.{Spellings}
 
@@ -61,10 +61,10 @@ scanned_both {honest} {still} {old_panel} {mid_panel} {new_panel} more first sec
 module _ (honest still : Type 0) (more : honest → still) (table new_table : Table)
     (old_panel mid_panel new_panel : Panel) (old mid new : History)
     (first : HasScanned honest old_panel mid_panel old mid) where
-  -- a device fell behind what was read
-  fall_behind : (answer : Answer) → IsFallMarked still table new_table mid_panel new_panel mid new answer
-      → IsFallMarked honest table new_table old_panel new_panel old new answer
-  fall_behind answer is = record {
+  -- a device failed after what was read
+  failure_after : (answer : Answer) → IsFailureMarked still table new_table mid_panel new_panel mid new answer
+      → IsFailureMarked honest table new_table old_panel new_panel old new answer
+  failure_after answer is = record {
     slot = is.slot;
     counted = is.counted;
     mid_panel = is.mid_panel;
@@ -75,7 +75,7 @@ module _ (honest still : Type 0) (more : honest → still) (table new_table : Ta
       named = is.calls.named;
       off = λ fair. reads_off table is.slot old is.mid is.counted (reads fair)
           (λ d apart. (is.calls.off (more fair)).others_down d apart ∙ first.stays fair d);
-      none_fell = λ fair ok. absurd (cc);
+      none_failed = λ fair ok. absurd (cc);
       runs = λ fair. reads_run (reads fair);
       front = λ fair ok. reads_front (reads fair);
     };
@@ -87,9 +87,9 @@ module _ (honest still : Type 0) (more : honest → still) (table new_table : Ta
       reads : honest → HasRead old is.mid
       reads fair = read_both (first.reads fair) (is.reads (more fair))
 
-  -- the count ended behind it
-  worn_behind : IsReadWorn still mid_panel new_panel mid new → IsReadWorn honest old_panel new_panel old new
-  worn_behind is = record {
+  -- the count ended after it
+  worn_after : IsReadWorn still mid_panel new_panel mid new → IsReadWorn honest old_panel new_panel old new
+  worn_after is = record {
     later = later_both old_panel mid_panel new_panel first.later is.later;
     worn = is.worn;
     reads = λ fair. read_both (first.reads fair) (is.reads (more fair));
@@ -97,12 +97,12 @@ module _ (honest still : Type 0) (more : honest → still) (table new_table : Ta
   }
 
   -- what was read, and then the rest
-  pub scanned_then : (result : Result Bool Refusal) → ScansOrMarks still table new_table mid_panel new_panel mid new
-      result → ScansOrMarks honest table new_table old_panel new_panel old new result
+  pub scanned_then : (result : Result Bool Refusal) → ScansOrFailsSlot still table new_table mid_panel new_panel mid new
+      result → ScansOrFailsSlot honest table new_table old_panel new_panel old new result
   scanned_then result (inl is) = inl (is.0, is.1, scanned_both more first is.2)
-  scanned_then result (inr (inl is)) = inr (inl (is.0, fall_behind (Ok tt) is.1))
-  scanned_then result (inr (inr (inl is))) = inr (inr (inl (is.0, is.1, fall_behind (Err is.0) is.2)))
-  scanned_then result (inr (inr (inr is))) = inr (inr (inr (is.0, is.1, worn_behind is.2)))
+  scanned_then result (inr (inl is)) = inr (inl (is.0, failure_after (Ok tt) is.1))
+  scanned_then result (inr (inr (inl is))) = inr (inr (inl (is.0, is.1, failure_after (Err is.0) is.2)))
+  scanned_then result (inr (inr (inr is))) = inr (inr (inr (is.0, is.1, worn_after is.2)))
 
 -- one value was read
 value_scanned : {honest : Type 0} {table : Table} {member row : ℕ} {old_panel new_panel : Panel} {old new : History}
@@ -124,16 +124,16 @@ module _ (spellings : Spellings) (honest : Type 0) (devices number : ℕ) (table
       (view_of old_panel old table number) (view_of new_panel new t number) answer
 
   -- all of it is a step
-  pub scans_step : ScansOrMarks honest table new_table old_panel new_panel old new result → IsStep new_table
+  pub scans_step : ScansOrFailsSlot honest table new_table old_panel new_panel old new result → IsStep new_table
       (answer_of_read result)
   scans_step (inl is) = subst (λ (r : Result Bool Refusal). IsStep new_table (answer_of_read r)) (sym is.0)
       (subst (λ (t : Table). IsStep t (Ok tt)) (sym is.1) (scan_step spellings honest devices number table old_panel
       new_panel old new true_old true_new is.2))
   scans_step (inr (inl is)) = subst (λ (r : Result Bool Refusal). IsStep new_table (answer_of_read r)) (sym is.0)
-      (fall_step spellings honest devices number table old_panel new_panel old new true_old true_new new_table (Ok tt)
+      (failure_step spellings honest devices number table old_panel new_panel old new true_old true_new new_table (Ok tt)
       its is.1)
   scans_step (inr (inr (inl is))) = subst (λ (r : Result Bool Refusal). IsStep new_table (answer_of_read r)) (sym is.1)
-      (fall_step spellings honest devices number table old_panel new_panel old new true_old true_new new_table
+      (failure_step spellings honest devices number table old_panel new_panel old new true_old true_new new_table
       (Err is.0) its is.2)
   scans_step (inr (inr (inr is))) = subst (λ (r : Result Bool Refusal). IsStep new_table (answer_of_read r)) (sym is.0)
       (subst (λ (t : Table). IsStep t (Err Worn)) (sym is.1)
@@ -142,13 +142,13 @@ module _ (spellings : Spellings) (honest : Type 0) (devices number : ℕ) (table
 module _ {honest : Type 0} {table new_table : Table} {member row : ℕ} {old_panel new_panel : Panel} {old new : History}
     {to : Bytes} where
   -- one value is read
-  pub value_scans : {result : Result Bool Refusal} → ReadsOrMarks honest table new_table member row old_panel new_panel
+  pub value_scans : {result : Result Bool Refusal} → ReadsOrFailsSlot honest table new_table member row old_panel new_panel
       old new to result
-      → ScansOrMarks honest table new_table old_panel new_panel old new result
+      → ScansOrFailsSlot honest table new_table old_panel new_panel old new result
   value_scans (inl is) = inl (is.0, is.1, value_scanned is.2)
   value_scans (inr rest) = inr rest
 
-  was_read : {result : Result Bool Refusal} → ReadsOrMarks honest table new_table member row old_panel new_panel old
+  was_read : {result : Result Bool Refusal} → ReadsOrFailsSlot honest table new_table member row old_panel new_panel old
       new to result → result ≡ Ok true
       → (new_table ≡ table) × IsValueRead honest table member row old_panel new_panel old new to
   was_read (inl is) read = (is.1, is.2)
@@ -158,14 +158,14 @@ module _ {honest : Type 0} {table new_table : Table} {member row : ℕ} {old_pan
 
   -- of a complete set it is the member's own sector
   pub own_read : {result : Result Bool Refusal} → IsComplete table → member < table.geometry.members
-      → ReadsOrMarks honest table new_table member row old_panel new_panel old new to result → result ≡ Ok true → honest
+      → ReadsOrFailsSlot honest table new_table member row old_panel new_panel old new to result → result ≡ Ok true → honest
       → to ≡ sector_of (disk_of (readable old member)) (FIRST_ROW + row)
   own_read complete within reads read fair = (was_read reads read).1.gives fair ∙ own_value table (readable old)
       complete row member within
 
 module _ (honest : Type 0) (table new_table : Table) (old_panel new_panel : Panel) (old new : History) where
   -- where all was read the table is the same
-  pub all_scanned : {result : Result Bool Refusal} → ScansOrMarks honest table new_table old_panel new_panel old new
+  pub all_scanned : {result : Result Bool Refusal} → ScansOrFailsSlot honest table new_table old_panel new_panel old new
       result → result ≡ Ok true
       → (new_table ≡ table) × HasScanned honest old_panel new_panel old new
   all_scanned (inl is) read = (is.1, is.2)
@@ -174,13 +174,13 @@ module _ (honest : Type 0) (table new_table : Table) (old_panel new_panel : Pane
   all_scanned (inr (inr (inr is))) read = absurd (cc)
 
   -- where it was not, though no refusal was answered, a slot was marked missing
-  pub fall_scanned : {result : Result Bool Refusal} → ScansOrMarks honest table new_table old_panel new_panel old new
+  pub failure_scanned : {result : Result Bool Refusal} → ScansOrFailsSlot honest table new_table old_panel new_panel old new
       result → result ≡ Ok false
-      → IsFallMarked honest table new_table old_panel new_panel old new (Ok tt)
-  fall_scanned (inl is) marked = absurd (cc)
-  fall_scanned (inr (inl is)) marked = is.1
-  fall_scanned (inr (inr (inl is))) marked = absurd (cc)
-  fall_scanned (inr (inr (inr is))) marked = absurd (cc)
+      → IsFailureMarked honest table new_table old_panel new_panel old new (Ok tt)
+  failure_scanned (inl is) marked = absurd (cc)
+  failure_scanned (inr (inl is)) marked = is.1
+  failure_scanned (inr (inr (inl is))) marked = absurd (cc)
+  failure_scanned (inr (inr (inr is))) marked = absurd (cc)
 
   differ : ¬ (Missing ≡ InSync)
   differ e = cc
@@ -192,7 +192,7 @@ module _ (honest : Type 0) (table new_table : Table) (old_panel new_panel : Pane
   left_or_marked slot answer there (inr (inr is)) ok = absurd (cc)
 
   -- a slot that was marked leaves no complete set
-  pub none_complete : IsFallMarked honest table new_table old_panel new_panel old new (Ok tt) → ¬ IsComplete new_table
+  pub none_complete : IsFailureMarked honest table new_table old_panel new_panel old new (Ok tt) → ¬ IsComplete new_table
   none_complete is complete = by_marks is.marks
     where
       by_marks : MarksOn honest is.slot is.mid_panel new_panel table new_table is.mid new (Ok tt) → ⊥
@@ -201,18 +201,18 @@ module _ (honest : Type 0) (table new_table : Table) (old_panel new_panel : Pane
           ∙ complete.in_sync is.slot (subst (λ (n : ℕ). is.slot < n + 2)
           (sym (ap (λ g. g.members) marked.marked.same_geometry)) is.counted.of_set))
 
-  -- where the table stays, a device that fell was not marked, and nothing was called but reads
-  reads_of_fall : (answer : Answer) → IsFallMarked honest table new_table old_panel new_panel old new answer
+  -- where the table stays, a device that failed was not marked, and nothing was called but reads
+  reads_of_failure : (answer : Answer) → IsFailureMarked honest table new_table old_panel new_panel old new answer
       → new_table ≡ table → honest → HasRead old new
-  reads_of_fall answer is same fair = by_marks is.marks
+  reads_of_failure answer is same fair = by_marks is.marks
     where
       by_marks : MarksOn honest is.slot is.mid_panel new_panel table new_table is.mid new answer → HasRead old new
       by_marks (inl left) = subst (HasRead old) (sym left.same_history) (is.reads fair)
       by_marks (inr marked) = absurd (omega (arith, marked.marked.generation, ap (λ (t : Table). t.generation) same))
 
-  pub reads_alone : {result : Result Bool Refusal} → ScansOrMarks honest table new_table old_panel new_panel old new
+  pub reads_alone : {result : Result Bool Refusal} → ScansOrFailsSlot honest table new_table old_panel new_panel old new
       result → new_table ≡ table → honest → HasRead old new
   reads_alone (inl is) same fair = is.2.reads fair
-  reads_alone (inr (inl is)) same fair = reads_of_fall (Ok tt) is.1 same fair
-  reads_alone (inr (inr (inl is))) same fair = reads_of_fall (Err is.0) is.2 same fair
+  reads_alone (inr (inl is)) same fair = reads_of_failure (Ok tt) is.1 same fair
+  reads_alone (inr (inr (inl is))) same fair = reads_of_failure (Err is.0) is.2 same fair
   reads_alone (inr (inr (inr is))) same fair = is.2.reads fair

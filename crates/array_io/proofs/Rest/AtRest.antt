@@ -7,7 +7,7 @@ use Rattle.sector_model.proofs.Readable.{readable_left}
 use Rattle.superblock.specs.declared.table.Table.{Table}
 use Rattle.superblock.specs.Cases.{IsLostAfter, Lost, MayBeOut, MayStand, with_slot}
 use Rattle.superblock.specs.Counted.{Content, IsChosen, IsLive}
-use Rattle.superblock.specs.Losses.{IsLostAt, IsOneLoss}
+use Rattle.superblock.specs.Losses.{IsLostAt, IsSingleFailure}
 use Rattle.superblock.specs.NextTables.{IsComplete, IsNotOlder, IsOut, slots_of}
 use Rattle.superblock.proofs.LaterTables.{not_older_same}
 use Rattle.layout_map.specs.declared.geometry.Geometry.{Geometry}
@@ -34,18 +34,18 @@ use Rattle.array_io.proofs.Images.Put.{put_there}
 use Rattle.array_io.proofs.Images.Rows.{alike_back, sound_alike}
 use Rattle.array_io.proofs.Images.Spellings.{Spellings}
 
--- A set at rest: nothing is pending, and each case that a stop now may leave holds for X; one slot is lost at most; reads choose the table; what
+-- A set at rest: nothing is pending, and each case that a crash now may leave holds for X; one slot is lost at most; reads choose the table; what
 -- it doesn't call missing is there; its last entry, whose number is given (0 for none), says what the members hold; and each sector has 512 bytes.
 pub record IsResting (base table : Table) (devices number : ℕ) (lost : Option Lost) (X : List (List Bytes)) (h : History) : Type 0 where
   pub nothing_pending : NothingPending h
   pub holds : HoldsNow base devices lost X h
-  pub one_loss : IsOneLoss (slots_of base) lost h
+  pub single_failure : IsSingleFailure (slots_of base) lost h
   pub chosen : IsChosen base.id devices (readable h) table
   pub there : IsAllThere devices table h
   pub entry : HasEntryAtRest devices table number (readable h)
   pub sectors : LeavesSectors h
 
--- each image that a stop may leave chooses the table also without any one slot
+-- each image that a crash may leave chooses the table also without any one slot
 abbrev pub IsChosenWithoutAny : (devices : ℕ) → Table → History → Type 0
 IsChosenWithoutAny devices table h = (image : Slots) → MayLeave h image → (slot : ℕ) → IsChosen table.id devices (with_slot image slot None) table
 
@@ -223,13 +223,13 @@ none_was_lost spellings base table devices number X h lost is (inl (none, up)) s
   quiet = is.quiet;
   held = λ image may. held_alone base devices table X image (subst (Held base devices table X image) none (is.held image may)) slot out.of_set;
 }
-none_was_lost spellings base table devices number X h lost is (inr fallen) slot out = subst (IsHeld base table devices number X h) (fallen.lost ∙ ap (λ (s : ℕ). Some (alone s)) same) is
+none_was_lost spellings base table devices number X h lost is (inr failure) slot out = subst (IsHeld base table devices number X h) (failure.lost ∙ ap (λ (s : ℕ). Some (alone s)) same) is
   where
-    of_set : fallen.slot < slots_of table
-    of_set = subst (λ (g : Geometry). fallen.slot < g.members + 2) (sym (held_reads spellings base table devices number X h lost is).0.not_older.same_geometry) fallen.of_set
+    of_set : failure.slot < slots_of table
+    of_set = subst (λ (g : Geometry). failure.slot < g.members + 2) (sym (held_reads spellings base table devices number X h lost is).0.not_older.same_geometry) failure.of_set
 
-    same : fallen.slot ≡ slot
-    same = table.allowed.one_out fallen.slot slot of_set out.of_set (down_is_out spellings devices table h is.quiet.there fallen.slot of_set fallen.fell).out out.out
+    same : failure.slot ≡ slot
+    same = table.allowed.one_out failure.slot slot of_set out.of_set (down_is_out spellings devices table h is.quiet.there failure.slot of_set failure.failed).out out.out
 
 -- a slot that is lost in a case that holds is the one that is out
 lost_was_out : Spellings → (base table : Table) (devices number : ℕ) (X : List (List Bytes)) (image : Slots) (lost : Lost)
@@ -254,14 +254,14 @@ rests_out spellings base table devices number X h (Some before) lost is (of_set,
     rests_lost spellings base table devices number X h (Some before) before held its (inr (its, refl))
 
 is_held : Spellings → (base table : Table) (devices number : ℕ) (lost : Option Lost) (X : List (List Bytes)) (h : History)
-    → (rest : IsResting base table devices number lost X h) → IsHeld base table devices number X h rest.one_loss.0
+    → (rest : IsResting base table devices number lost X h) → IsHeld base table devices number X h rest.single_failure.0
 is_held spellings base table devices number lost X h rest = record {
   quiet = record { nothing_pending = rest.nothing_pending; there = rest.there; entry = rest.entry; sectors = rest.sectors };
-  held = held_left spellings base devices table X h lost rest.one_loss.0 record {
+  held = held_left spellings base devices table X h lost rest.single_failure.0 record {
     nothing_pending = rest.nothing_pending;
     chosen = rest.chosen;
-    lost = rest.one_loss.1;
-    holds = λ image may. rest.holds rest.one_loss.0 image rest.one_loss.1 may;
+    lost = rest.single_failure.1;
+    holds = λ image may. rest.holds rest.single_failure.0 image rest.single_failure.1 may;
   };
 }
 
@@ -271,8 +271,8 @@ pub rests_by_choice : Spellings → (base table : Table) (devices number : ℕ) 
 rests_by_choice spellings base table devices number lost X h rest chosen_without =
     let is = is_held spellings base table devices number lost X h rest in
     elim (complete_or_out table) [
-      | inl complete ↦ rests_complete spellings base table devices number X h lost rest.one_loss.0 is complete (chosen_without complete)
-      | inr out ↦ rests_out spellings base table devices number X h lost rest.one_loss.0 is rest.one_loss.1 out.0 out.1
+      | inl complete ↦ rests_complete spellings base table devices number X h lost rest.single_failure.0 is complete (chosen_without complete)
+      | inr out ↦ rests_out spellings base table devices number X h lost rest.single_failure.0 is rest.single_failure.1 out.0 out.1
     ]
 
 -- A set at rest is settled, where each slot of a complete one carries the table.
@@ -283,5 +283,5 @@ at_rest_is_settled spellings base table devices number lost X h rest carried =
     carried_without spellings devices table number (readable h) image (is.held image may).whole.chosen
     (rest_image spellings devices table number h is.quiet image may) complete (carried complete) slot)
   where
-    is : IsHeld base table devices number X h rest.one_loss.0
+    is : IsHeld base table devices number X h rest.single_failure.0
     is = is_held spellings base table devices number lost X h rest

@@ -1,4 +1,4 @@
--- What a stop may leave of a set at rest is what reads give, but for slots that the table calls missing; and it is held by the table that is chosen.
+-- What a crash may leave of a set at rest is what reads give, but for slots that the table calls missing; and it is held by the table that is chosen.
 use Rattle.std.proofs.Common.{◌≡◌, ◌≢◌, inl, inr, ℕ, ◌+◌, ◌<◌, ◌≤◌, Bool, true, false, List, [], length, Option, Some, None, refl, sym, ◌∙◌, ap, subst, arith}
 use Rattle.std.proofs.lemmas.List.{ext_get_or}
 use Rattle.sector_model.specs.History.{Bytes, History, IsSector, MayHold, MayLeave, SlotMayHold, Slots, disk_of, is_down, sector_of, seen, start_of}
@@ -23,13 +23,13 @@ use Rattle.array_io.specs.Believed.Settled.{IsAllThere}
 use Rattle.array_io.proofs.Rest.AtRestRows.{IsRestImage, image_values}
 use Rattle.array_io.proofs.Laws.Beginning.{live_is_up}
 use Rattle.array_io.proofs.Laws.Begun.{between}
-use Rattle.array_io.proofs.Images.Behind.{carrier_of_set}
+use Rattle.array_io.proofs.Images.Beyond.{carrier_of_set}
 use Rattle.array_io.proofs.Images.Counting.{none_counts}
 use Rattle.array_io.proofs.Images.LossBefore.{HoldsBy, by_own_table}
 use Rattle.array_io.proofs.Images.Put.{put_elsewhere, put_there}
 use Rattle.array_io.proofs.Images.Spellings.{Spellings}
 
--- each sector that a stop may leave has 512 bytes
+-- each sector that a crash may leave has 512 bytes
 pub record LeavesSectors (h : History) : Type 0 where
   pub whole : (device at : ℕ) (value : Bytes) → at < length (disk_of (start_of h device)) → MayHold h device at value → IsSector value
 
@@ -96,12 +96,12 @@ entry_stays devices table number reads image same entry = record {
 
     before : (journal : ℕ) → IsLiveJournal devices table image journal → IsLiveJournal devices table reads journal
     before journal live = record {
-      behind_members = live.behind_members;
+      beyond_members = live.beyond_members;
       of_set = live.of_set;
       live = subst (IsLive devices table journal) (here journal live) live.live;
     }
 
--- each image that a stop may leave of it
+-- each image that a crash may leave of it
 pub rest_image : Spellings → (devices : ℕ) (table : Table) (number : ℕ) (h : History) → IsQuiet devices table number h → (image : Slots) → MayLeave h image
     → IsRestImage devices table number (readable h) image
 rest_image spellings devices table number h quiet image may = record {
@@ -134,10 +134,10 @@ only_out slots h None after (inl (none, up)) = record {
   may_be_out = subst (λ (l : Option Lost). MayBeOut l 0) (sym none) tt;
   others = λ other of_set apart. up other of_set;
 }
-only_out slots h None after (inr fallen) = record {
-  out = fallen.slot;
-  may_be_out = subst (λ (l : Option Lost). MayBeOut l fallen.slot) (sym fallen.lost) refl;
-  others = fallen.others;
+only_out slots h None after (inr failure) = record {
+  out = failure.slot;
+  may_be_out = subst (λ (l : Option Lost). MayBeOut l failure.slot) (sym failure.lost) refl;
+  others = failure.others;
 }
 only_out slots h (Some lost) after (of_set, same, up) = record {
   out = lost.slot;
@@ -200,7 +200,7 @@ one_table spellings base devices table other X h image lost has =
     older : other.generation ≤ mine.best.table.generation
     older = subst (λ (t : Table). other.generation ≤ t.generation) (sym mine.carried) (other_is_older spellings base devices table other X h image lost has)
 
--- what is known where each case that a stop may leave holds
+-- what is known where each case that a crash may leave holds
 pub record HoldsLeft (base : Table) (devices : ℕ) (table : Table) (X : List (List Bytes)) (h : History) (before after : Option Lost) : Type 0 where
   pub nothing_pending : NothingPending h
   pub chosen : IsChosen base.id devices (readable h) table

@@ -95,7 +95,7 @@ rest_decided devices table image there slot = elim (cases_lt slot (slots_of tabl
     | inl missing ↦ inr (λ live. live.not_missing missing)
     | inr counted ↦ inl (there slot of_set counted)
   ]
-  | inr behind ↦ inr (λ live. live.not_missing (table.allowed.behind_missing slot behind))
+  | inr beyond ↦ inr (λ live. live.not_missing (table.allowed.missing_beyond slot beyond))
 ]
 
 -- A case at rest, with what is known of the slot that may be out.

@@ -62,7 +62,7 @@ module _ (spellings : Spellings) (devices : ℕ) (table : Table) (number : ℕ) 
     | inl same ↦ absurd (out (subst (IsLive devices table slot) (put_there image slot content)
         (subst (λ (k : ℕ). IsLive devices table k (with_slot image slot content k)) same live.live)))
     | inr apart ↦ let stays = put_elsewhere image slot content journal apart in
-        number_at_rest journal last record { behind_members = live.behind_members; of_set = live.of_set; live = subst (IsLive devices table journal) stays live.live }
+        number_at_rest journal last record { beyond_members = live.beyond_members; of_set = live.of_set; live = subst (IsLive devices table journal) stays live.live }
         (subst (λ (c : Content). IsLastSealed table.id table.geometry c last) stays is)
   ]
 

@@ -49,16 +49,16 @@ module _ (spellings : Spellings) (devices : ℕ) (table : Table) (image : Slots)
   none_live first second journal live = elim (cases_eq journal table.geometry.members) [
     | inl same ↦ first (subst (λ (j : ℕ). IsLive devices table j (image j)) same live.live)
     | inr apart ↦
-        let same : journal ≡ table.geometry.members + 1 = omega (arith, apart, live.behind_members, live.of_set) in
+        let same : journal ≡ table.geometry.members + 1 = omega (arith, apart, live.beyond_members, live.of_set) in
         second (subst (λ (j : ℕ). IsLive devices table j (image j)) same live.live)
   ]
 
-  -- where the first is not live, each live journal is behind it
-  behind_first : ¬ IsLive devices table table.geometry.members (image table.geometry.members) → (journal : ℕ) → IsLiveJournal devices table image journal
+  -- where the first is not live, each live journal is older
+  past_first : ¬ IsLive devices table table.geometry.members (image table.geometry.members) → (journal : ℕ) → IsLiveJournal devices table image journal
       → table.geometry.members + 1 ≤ journal
-  behind_first first journal live = elim (cases_eq journal table.geometry.members) [
+  past_first first journal live = elim (cases_eq journal table.geometry.members) [
     | inl same ↦ absurd (first (subst (λ (j : ℕ). IsLive devices table j (image j)) same live.live))
-    | inr apart ↦ omega (arith, apart, live.behind_members)
+    | inr apart ↦ omega (arith, apart, live.beyond_members)
   ]
 
   -- the last entry of the live journals
@@ -74,14 +74,14 @@ module _ (spellings : Spellings) (devices : ℕ) (table : Table) (image : Slots)
   has_last (Some seal) is = elim (rest_decided devices table image one.there table.geometry.members) [
     | inl first ↦ (
       Some (record { journal = table.geometry.members; seal = seal }),
-      latest_on table.geometry.members seal is (record { behind_members = omega arith; of_set = omega arith; live = first })
-          (λ other live. live.behind_members),
+      latest_on table.geometry.members seal is (record { beyond_members = omega arith; of_set = omega arith; live = first })
+          (λ other live. live.beyond_members),
     )
     | inr first ↦ elim (rest_decided devices table image one.there (table.geometry.members + 1)) [
       | inl second ↦ (
         Some (record { journal = table.geometry.members + 1; seal = seal }),
-        latest_on (table.geometry.members + 1) seal is (record { behind_members = omega arith; of_set = omega arith; live = second })
-            (behind_first first),
+        latest_on (table.geometry.members + 1) seal is (record { beyond_members = omega arith; of_set = omega arith; live = second })
+            (past_first first),
       )
       | inr second ↦ (None, λ journal place found live. absurd (none_live first second journal live))
     ]

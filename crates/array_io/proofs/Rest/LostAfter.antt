@@ -8,10 +8,10 @@ use Rattle.superblock.specs.declared.state.State.{State}
 use Rattle.superblock.specs.declared.state.State.TheVariants.{InSync, Missing, Rebuilding}
 use Rattle.superblock.specs.declared.table.Table.{Table}
 use Rattle.superblock.specs.Cases.{Lost}
-use Rattle.superblock.specs.Losses.{IsOneLoss}
+use Rattle.superblock.specs.Losses.{IsSingleFailure}
 use Rattle.superblock.specs.NextTables.{IsComplete, IsOut, slots_of}
 use Rattle.superblock.specs.Tables.{state_at}
-use Rattle.array_io.specs.Believed.Views.{ArrayView, GoesOn, HasLostOne, RestsOn, StaysButForFalls}
+use Rattle.array_io.specs.Believed.Views.{ArrayView, GoesOn, HasLostOne, RestsOn, StaysButForFailures}
 use Rattle.array_io.proofs.Images.Spellings.{Spellings}
 use Rattle.array_io.proofs.Laws.Beginning.{live_is_up}
 use Rattle.array_io.proofs.Marks.MarkingHolds.{missing_then, state_stays}
@@ -29,7 +29,7 @@ flags_differ e = cc
 none_some : (one : Lost) → ¬ (None ≡ Some one)
 none_some one e = cc
 
-module _ (spellings : Spellings) (honest : Type 0) (fair : honest) (old new : ArrayView) (ended : Type 0) (goes_on : GoesOn old new) (stays : StaysButForFalls honest old new ended) (open_still : ¬ ended)
+module _ (spellings : Spellings) (honest : Type 0) (fair : honest) (old new : ArrayView) (ended : Type 0) (goes_on : GoesOn old new) (stays : StaysButForFailures honest old new ended) (open_still : ¬ ended)
     (true_old : IsTrueTo old.panel old.history) (true_new : IsTrueTo new.panel new.history) where
   same_set : slots_of new.table ≡ slots_of old.table
   same_set = ap (λ (g : Geometry). g.members + 2) goes_on.not_older.same_geometry
@@ -37,7 +37,7 @@ module _ (spellings : Spellings) (honest : Type 0) (fair : honest) (old new : Ar
   -- a slot that was in sync and is down now is missing
   module _ (lost : Option Lost) (V : List Bytes) (rests : RestsOn old lost V) where
     missing_now : (slot : ℕ) → slot < slots_of old.table → state_at old.table.states slot ≡ InSync → is_down new.history slot ≡ true → state_at new.table.states slot ≡ Missing
-    missing_now slot of_set in_sync down = stays.fallen fair open_still slot of_set record {
+    missing_now slot of_set in_sync down = stays.failure fair open_still slot of_set record {
       was_up = true_old.down slot
           ∙ live_is_up spellings old.panel.devices old.table old.history slot (rests.there slot of_set (λ gone. states_differ (sym gone ∙ in_sync)));
       is_down = true_new.down slot ∙ down;
@@ -58,7 +58,7 @@ module _ (spellings : Spellings) (honest : Type 0) (fair : honest) (old new : Ar
         by_state false is = is
 
   -- no slot was lost before
-  from_complete : (V : List Bytes) → RestsOn old None V → IsComplete old.table → IsOneLoss (slots_of old.table) None new.history
+  from_complete : (V : List Bytes) → RestsOn old None V → IsComplete old.table → IsSingleFailure (slots_of old.table) None new.history
   from_complete V rests complete = elim stays.table [
     | inl same ↦ (
       None,
@@ -73,7 +73,7 @@ module _ (spellings : Spellings) (honest : Type 0) (fair : honest) (old new : Ar
       inr record {
         slot = has.slot;
         of_set = has.of_set;
-        fell = sym (true_new.down has.slot) ∙ has.is_down;
+        failed = sym (true_new.down has.slot) ∙ has.is_down;
         others = λ slot of_set apart. up_unless None V rests slot (λ down. apart (marked_now None V rests has slot of_set (complete.in_sync slot of_set) down));
         lost = refl;
       },
@@ -102,7 +102,7 @@ module _ (spellings : Spellings) (honest : Type 0) (fair : honest) (old new : Ar
         (λ in_sync. out.out (sym (state_stays old.table new.table has.slot has.marked one apart) ∙ in_sync))
   ]
 
-  from_out : (V : List Bytes) (lost : Lost) → RestsOn old (Some lost) V → IsOut old.table lost.slot → IsOneLoss (slots_of old.table) (Some lost) new.history
+  from_out : (V : List Bytes) (lost : Lost) → RestsOn old (Some lost) V → IsOut old.table lost.slot → IsSingleFailure (slots_of old.table) (Some lost) new.history
   from_out V lost rests out = (
     Some lost,
     (
@@ -133,12 +133,12 @@ module _ (spellings : Spellings) (honest : Type 0) (fair : honest) (old new : Ar
     | inr out ↦ subst (IsOut old.table) (sym (rests.lost_slot.out out.0 out.1).0) out.1
   ]
 
-  pub one_loss_after : (lost : Option Lost) (V : List Bytes) → RestsOn old lost V → IsOneLoss (slots_of old.table) lost new.history
-  one_loss_after None V rests = elim (complete_or_out old.table) [
+  pub single_failure_after : (lost : Option Lost) (V : List Bytes) → RestsOn old lost V → IsSingleFailure (slots_of old.table) lost new.history
+  single_failure_after None V rests = elim (complete_or_out old.table) [
     | inl complete ↦ from_complete V rests complete
     | inr out ↦ absurd (flags_differ (rests.lost_slot.out out.0 out.1).1)
   ]
-  one_loss_after (Some lost) V rests = from_out V lost rests (its_out V lost rests)
+  single_failure_after (Some lost) V rests = from_out V lost rests (its_out V lost rests)
 
   pub lost_out_after : (lost : Option Lost) (V : List Bytes) → RestsOn old lost V → (one : Lost) → lost ≡ Some one → IsOut new.table one.slot
   lost_out_after lost V rests one is = out_still one.slot (its_out V one (subst (λ (l : Option Lost). RestsOn old l V) is rests))

@@ -10,7 +10,7 @@ use Rattle.layout_map.specs.declared.geometry.Geometry.{Geometry}
 use Rattle.superblock.specs.declared.table.Table.{Table}
 use Rattle.superblock.specs.Cases.{IsLostAfter, Lost, MayBeOut}
 use Rattle.superblock.specs.Counted.{IsChosen}
-use Rattle.superblock.specs.Losses.{InEachImage, IsLostAt, IsOneLoss}
+use Rattle.superblock.specs.Losses.{InEachImage, IsLostAt, IsSingleFailure}
 use Rattle.superblock.specs.NextTables.{IsComplete, IsNotOlder, slots_of}
 use Rattle.array_io.specs.Steps.Bringing.{CarriesAll}
 use Rattle.array_io.specs.Steps.EntryAtRest.{HasEntryAtRest}
@@ -56,26 +56,26 @@ module _ (spellings : Spellings) (devices : ℕ) (base table : Table) (lost : Op
   -- where it is complete, with none lost before, none is lost
   none_lost : IsComplete table → (after : Option Lost) → IsLostAt (slots_of base) None h after → IsLostAt (slots_of base) lost h after → after ≡ None
   none_lost complete after (inl (none, up)) at = none
-  none_lost complete after (inr fallen) at = absurd (differ (sym fallen.fell ∙ live_is_up spellings devices table h fallen.slot
-      (from.there fallen.slot of_set (complete_is_there table complete fallen.slot of_set))))
+  none_lost complete after (inr failure) at = absurd (differ (sym failure.failed ∙ live_is_up spellings devices table h failure.slot
+      (from.there failure.slot of_set (complete_is_there table complete failure.slot of_set))))
     where
       differ : true ≡ false → ⊥
       differ is = cc
 
-      of_set : fallen.slot < slots_of table
-      of_set = subst (λ (g : Geometry). fallen.slot < g.members + 2) (sym (written_not_older after at).same_geometry) fallen.of_set
+      of_set : failure.slot < slots_of table
+      of_set = subst (λ (g : Geometry). failure.slot < g.members + 2) (sym (written_not_older after at).same_geometry) failure.of_set
 
   -- so it is chosen without any one slot
-  chosen_without_any : IsComplete table → lost ≡ None → IsOneLoss (slots_of base) lost h → IsChosenWithoutAny devices table h
+  chosen_without_any : IsComplete table → lost ≡ None → IsSingleFailure (slots_of base) lost h → IsChosenWithoutAny devices table h
   chosen_without_any complete none loss image may slot =
       let now = none_lost complete loss.0 (subst (λ (l : Option Lost). IsLostAt (slots_of base) l h loss.0) none loss.1) loss.1 in
       (from.chosen loss.0 loss.1).weakened image slot None may (subst (λ (l : Option Lost). MayBeOut l slot) (sym now) tt) (inl refl)
 
-  resting : (number : ℕ) → HasEntryAtRest devices table number (readable h) → IsOneLoss (slots_of base) lost h → LeavesSectors h → IsResting base table devices number lost X h
+  resting : (number : ℕ) → HasEntryAtRest devices table number (readable h) → IsSingleFailure (slots_of base) lost h → LeavesSectors h → IsResting base table devices number lost X h
   resting number entry loss leaves = record {
     nothing_pending = from.nothing_pending;
     holds = from.holds;
-    one_loss = loss;
+    single_failure = loss;
     chosen = reads_choose loss.0 loss.1;
     there = from.there;
     entry = entry;
@@ -83,13 +83,13 @@ module _ (spellings : Spellings) (devices : ℕ) (base table : Table) (lost : Op
   }
 
   -- A set that is written is settled again with its last entry at rest: where it is complete, none was lost.
-  pub settled_again : (number : ℕ) → HasEntryAtRest devices table number (readable h) → IsOneLoss (slots_of base) lost h → LeavesSectors h
+  pub settled_again : (number : ℕ) → HasEntryAtRest devices table number (readable h) → IsSingleFailure (slots_of base) lost h → LeavesSectors h
       → (IsComplete table → lost ≡ None) → Rests base table devices number lost X h
   settled_again number entry loss leaves none =
       rests_by_choice spellings base table devices number lost X h (resting number entry loss leaves) (λ complete. chosen_without_any complete (none complete) loss)
 
   -- or each slot carries the table
-  pub settled_again_carried : (number : ℕ) → HasEntryAtRest devices table number (readable h) → IsOneLoss (slots_of base) lost h → LeavesSectors h
+  pub settled_again_carried : (number : ℕ) → HasEntryAtRest devices table number (readable h) → IsSingleFailure (slots_of base) lost h → LeavesSectors h
       → (IsComplete table → CarriesAll table (readable h)) → Rests base table devices number lost X h
   settled_again_carried number entry loss leaves carried = at_rest_is_settled spellings base table devices number lost X h (resting number entry loss leaves) carried
 

@@ -56,7 +56,7 @@ module _ (spellings : Spellings) (devices : ℕ) (table : Table) (number : ℕ) 
     | inl in_sync ↦ (
       table.geometry.members,
       record {
-        behind_members = omega arith;
+        beyond_members = omega arith;
         of_set = omega arith;
         live = settled.there table.geometry.members (omega arith) (λ missing. in_sync_not_missing (sym in_sync ∙ missing));
       },
@@ -66,7 +66,7 @@ module _ (spellings : Spellings) (devices : ℕ) (table : Table) (number : ℕ) 
         (λ same. omega (arith, same)) in (
           table.geometry.members + 1,
           record {
-            behind_members = omega arith;
+            beyond_members = omega arith;
             of_set = omega arith;
             live = settled.there (table.geometry.members + 1) (omega arith) (λ missing. in_sync_not_missing (sym in_sync ∙ missing));
           },
@@ -151,7 +151,7 @@ module _ (spellings : Spellings) (devices : ℕ) (table : Table) (number : ℕ) 
           rows_whole members_whole rows_listed row member below within;
     }
 
--- the same, where each sector that a stop may leave has 512 bytes
+-- the same, where each sector that a crash may leave has 512 bytes
 pub entry_of_settled : Spellings → (devices : ℕ) (table : Table) (number : ℕ) (h : History) (lost : Option Lost) (V : List Bytes)
     → IsSettled devices table number h lost V → LeavesSectors h → HasEntryAtRest devices table number (readable h)
 entry_of_settled spellings devices table number h lost V settled leaves =

@@ -16,7 +16,7 @@ use Rattle.superblock.specs.Tables.{state_at}
 use Rattle.superblock.proofs.PublishedSlots.{IsFirst, first_has, first_is, last_is}
 use Rattle.superblock.proofs.PublishSteps.{GetsIt, IsInPublish}
 use Rattle.array_io.proofs.Laws.Beginning.{state_in_sync}
-use Rattle.array_io.proofs.Images.SameBehind.{AgreeBehind, agree_same}
+use Rattle.array_io.proofs.Images.SameBeyond.{AgreeBeyond, agree_same}
 use Rattle.array_io.proofs.Images.Spellings.{Spellings}
 
 -- whether a slot gets the superblock is settled
@@ -51,8 +51,8 @@ pub gets_or_not_last : (table : Table) (last : Option ℕ) (slot : ℕ) → Gets
 gets_or_not_last table last slot = elim (is_last_or_not last slot) [
   | inl is ↦ inl (subst (λ (l : Option ℕ). GetsIt table l slot) (sym is) (gets_last table slot))
   | inr not_last ↦ elim (cases_lt slot (slots_of table)) [
-    | inr behind ↦ inr (λ gets. elim (gets_how table last slot gets) [
-      | inl first ↦ omega (arith, behind, first.of_set)
+    | inr beyond ↦ inr (λ gets. elim (gets_how table last slot gets) [
+      | inl first ↦ omega (arith, beyond, first.of_set)
       | inr is ↦ not_last is
     ])
     | inl of_set ↦ elim (state_in_sync (state_at table.states slot)) [
@@ -78,7 +78,7 @@ pub record IsReplaced (new : Table) (last : Option ℕ) (sectors : ℕ → Bytes
 abbrev pub IsBefore : Table → Option ℕ → (ℕ → Bytes) → (slot : ℕ) → (before after : Content) → Type 0
 IsBefore new last sectors slot before after = (before ≡ after) ⊎ IsReplaced new last sectors slot before after
 
--- what a stop before might have left in the slot
+-- what a crash before might have left in the slot
 pub record WasBefore (new : Table) (last : Option ℕ) (sectors : ℕ → Bytes) (old : History) (slot : ℕ) (after : Content) : Type 0 where
   pub before : Content
   pub may : SlotMayHold old slot before
@@ -182,11 +182,11 @@ slot_before spellings new last sectors old h publish slot spelled up after may =
       | inr was ↦ was
     ]
 
--- behind the superblocks the contents agree
-pub agree_before : (new : Table) (last : Option ℕ) (sectors : ℕ → Bytes) (slot : ℕ) (before after : Content) → IsBefore new last sectors slot before after → AgreeBehind before after
-agree_before new last sectors slot before after (inl same) = subst (AgreeBehind before) same (agree_same before)
+-- after the superblocks the contents agree
+pub agree_before : (new : Table) (last : Option ℕ) (sectors : ℕ → Bytes) (slot : ℕ) (before after : Content) → IsBefore new last sectors slot before after → AgreeBeyond before after
+agree_before new last sectors slot before after (inl same) = subst (AgreeBeyond before) same (agree_same before)
 agree_before new last sectors slot before after (inr replaced) = record {
-  same = λ at behind. sym (replaced.others at (λ is. absurd (omega (arith, is, behind))));
+  same = λ at beyond. sym (replaced.others at (λ is. absurd (omega (arith, is, beyond))));
 }
 
 -- they are as long

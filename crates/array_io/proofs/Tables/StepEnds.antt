@@ -1,4 +1,4 @@
--- How publishing a table ends that differs in the lost slot alone, whose device comes last: the array is settled by the next table, or that device fell, or neither.
+-- How publishing a table ends that differs in the lost slot alone, whose device comes last: the array is settled by the next table, or that device failed, or neither.
 use Rattle.std.proofs.Common.{◌≡◌, ◌≢◌, inl, inr, ℕ, ◌<◌, ◌≤◌, Bool, true, false, List, [], ◌∷◌, length, Contains, Option, Some, None, Result, Ok, Err, refl, sym, ◌∙◌, ap, subst, arith}
 use Rattle.std.specs.Prelude.{is_ok}
 use Rattle.std.proofs.lemmas.Bool.{cases_eq}
@@ -28,7 +28,7 @@ use Rattle.stripe_journal.proofs.OneEntryCalls.{made_down, stays_off_call}
 use Rattle.array_io.specs.Steps.Bringing.{CarriesAll}
 use Rattle.array_io.specs.Believed.Holds.{Holds}
 use Rattle.array_io.specs.Believed.Moments.{HoldsNow, HoldsThroughout}
-use Rattle.array_io.specs.Steps.Writing.{HasFallenOnce}
+use Rattle.array_io.specs.Steps.Writing.{HasFailedOnce}
 use Rattle.array_io.proofs.Rest.AtRest.{Rests, at_rest_is_settled}
 use Rattle.array_io.proofs.Rest.AtRestImages.{LeavesSectors}
 use Rattle.array_io.proofs.Images.LossBefore.{up_before}
@@ -39,7 +39,7 @@ use Rattle.array_io.proofs.Tables.StepHolds.{gets_of_set, in_sync_then, incarnat
 use Rattle.array_io.proofs.Tables.StepRest.{IsAfter, TakesFrom, after_or_none, entry_after, live_next, live_there, says, up_at_first}
 use Rattle.array_io.proofs.Tables.Stepping.{IsStepping, stepping_chosen, stepping_throughout}
 
--- of calls in a row one device falls at most
+-- of calls in a row one device fails at most
 
 flags_differ : true ≡ false → ⊥
 flags_differ e = cc
@@ -49,19 +49,19 @@ answered_down (Read at place) h device = refl
 answered_down (Write at place value) h device = refl
 answered_down (Flush at) h device = refl
 
-pub one_falls : (calls : List Call) (answered : Bool) (old new : History) (fallen other : ℕ) → Performs calls answered old new → is_down old fallen ≡ false
-    → is_down new fallen ≡ true → other ≢ fallen → is_down new other ≡ is_down old other
-one_falls [] answered old new fallen other (all, is) up down apart = ap (λ (h : History). is_down h other) is
-one_falls (call ∷ calls) answered old new fallen other (inl (none, inl is)) up down apart = ap (λ (h : History). is_down h other) is
-one_falls (call ∷ calls) answered old new fallen other (inl (none, inr is)) up down apart = elim (cases_eq fallen (device_of call)) [
+pub one_fails : (calls : List Call) (answered : Bool) (old new : History) (failure other : ℕ) → Performs calls answered old new → is_down old failure ≡ false
+    → is_down new failure ≡ true → other ≢ failure → is_down new other ≡ is_down old other
+one_fails [] answered old new failure other (all, is) up down apart = ap (λ (h : History). is_down h other) is
+one_fails (call ∷ calls) answered old new failure other (inl (none, inl is)) up down apart = ap (λ (h : History). is_down h other) is
+one_fails (call ∷ calls) answered old new failure other (inl (none, inr is)) up down apart = elim (cases_eq failure (device_of call)) [
   | inl same ↦ ap (λ (h : History). is_down h other) is ∙ (off call old).others_down other (λ here. apart (here ∙ sym same))
-  | inr differs ↦ absurd (flags_differ (sym (ap (λ (h : History). is_down h fallen) (sym is) ∙ down) ∙ (off call old).others_down fallen differs ∙ up))
+  | inr differs ↦ absurd (flags_differ (sym (ap (λ (h : History). is_down h failure) (sym is) ∙ down) ∙ (off call old).others_down failure differs ∙ up))
 ]
   where
     off : (c : Call) (h : History) → StaysOff (λ d. d ≡ device_of c) h (after_call c false h)
     off c h = stays_off_call (λ d. d ≡ device_of c) c false h refl
-one_falls (call ∷ calls) answered old new fallen other (inr (there, rest)) up down apart =
-    one_falls calls answered (after_call call true old) new fallen other rest (answered_down call old fallen ∙ up) down apart ∙ answered_down call old other
+one_fails (call ∷ calls) answered old new failure other (inr (there, rest)) up down apart =
+    one_fails calls answered (after_call call true old) new failure other rest (answered_down call old failure ∙ up) down apart ∙ answered_down call old other
 
 -- the publish
 
@@ -151,9 +151,9 @@ module _ (spellings : Spellings) (honest : Type 0) (devices number : ℕ) (table
     reads_chosen : IsChosen next.id devices (readable new) next
     reads_chosen = chosen_then.whole (readable new) (readable_left new)
 
-  -- Where the last device fell, once the others had the table.
-  pub takes_fallen : result ≡ Err (Down slot) → is_down new slot ≡ true → HasFallenOnce devices table next (Some one) (V ∷ []) slot new
-  takes_fallen fell down = record {
+  -- Where the last device failed, once the others had the table.
+  pub takes_failed : result ≡ Err (Down slot) → is_down new slot ≡ true → HasFailedOnce devices table next (Some one) (V ∷ []) slot new
+  takes_failed failed down = record {
     nothing_pending = pending_none (λ other gets there. elim (gets_how next (Some slot) other gets) [
       | inl first ↦ safe other (first_has next (Some slot) other first)
       | inr is ↦ absurd (flags_differ (sym down ∙ ap (is_down new) (sym (from.steps.only_last other is)) ∙ there))
@@ -169,11 +169,11 @@ module _ (spellings : Spellings) (honest : Type 0) (devices number : ℕ) (table
   }
     where
       safe : (other : ℕ) → Contains (first_slots next (Some slot)) other → IsSafeAt new other (place_of next) (sectors other)
-      safe = published.safe_first is_honest slot fell refl
+      safe = published.safe_first is_honest slot failed refl
 
       up : OthersAreUp (slots_of table) new slot
       up other of_set apart =
-          one_falls (publish_calls next (Some slot) sectors) (is_ok result) mid new slot other (published.made is_honest).performed from.up down apart
+          one_fails (publish_calls next (Some slot) sectors) (is_ok result) mid new slot other (published.made is_honest).performed from.up down apart
           ∙ up_at_first spellings devices number table next slot one V sectors mid from other of_set apart
 
   -- Where all of it was done.
@@ -249,7 +249,7 @@ module _ (spellings : Spellings) (honest : Type 0) (devices number : ℕ) (table
     takes_rests leaves = at_rest_is_settled spellings table next devices number (Some one) (V ∷ []) new record {
       nothing_pending = pending_none (λ other gets up. safe_then other gets);
       holds = throughout_last new takes_throughout;
-      one_loss = (Some one, (subst (λ (k : ℕ). k < slots_of table) (sym from.own) from.steps.step.of_set, refl, λ other of_set apart. up_then other of_set (λ same. apart (same ∙ sym from.own))));
+      single_failure = (Some one, (subst (λ (k : ℕ). k < slots_of table) (sym from.own) from.steps.step.of_set, refl, λ other of_set apart. up_then other of_set (λ same. apart (same ∙ sym from.own))));
       chosen = subst (λ (i : List ℕ). IsChosen i devices (readable new) next) from.steps.step.same_id now_chosen;
       there = there_then;
       entry = entry_after spellings devices number table next slot one V sectors mid from (readable new) reads_after;

@@ -18,8 +18,8 @@ use Rattle.array_io.specs.Believed.Holds.{HoldsIn, IsLiveJournal}
 use Rattle.array_io.proofs.Images.Counting.{none_is_out}
 use Rattle.array_io.proofs.Laws.Fresh.{in_sync_not_missing, in_sync_not_rebuilding}
 use Rattle.array_io.proofs.Tables.PublishImages.{IsBefore, agree_before, counted_before, gets_how, long_before, new_counts}
-use Rattle.array_io.proofs.Images.SameBehind.{AreSameBehind}
-use Rattle.array_io.proofs.Images.SameBehindStable.{not_false_below, rows_stay_behind, steps_stay_behind}
+use Rattle.array_io.proofs.Images.SameBeyond.{AreSameBeyond}
+use Rattle.array_io.proofs.Images.SameBeyondStable.{not_false_below, rows_stay_beyond, steps_stay_beyond}
 use Rattle.array_io.proofs.Images.Spellings.{Spellings}
 
 -- The next table differs in one slot, which gets its superblock last, if at all; the superblocks are spelled, and the bank has the set's slots.
@@ -53,7 +53,7 @@ step_slots old new slot step = ap (λ (g : Geometry). g.members + 2) step.same_g
 pub live_of_set : (devices : ℕ) (table : Table) (slot : ℕ) (content : Content) → IsLive devices table slot content → slot < slots_of table
 live_of_set devices table slot content live = elim (cases_lt slot (slots_of table)) [
   | inl of_set ↦ of_set
-  | inr behind ↦ absurd (live.not_missing (table.allowed.behind_missing slot behind))
+  | inr beyond ↦ absurd (live.not_missing (table.allowed.missing_beyond slot beyond))
 ]
 
 module _ (spellings : Spellings) (devices : ℕ) (old_table new_table : Table) (slot : ℕ) (last : Option ℕ) (sectors : ℕ → Bytes)
@@ -224,9 +224,9 @@ module _ (spellings : Spellings) (devices : ℕ) (old_table new_table : Table) (
       apart_after : (other : ℕ) → IsLive devices new_table other (after other) → other ≢ slot
       apart_after other live same = out (subst (λ (k : ℕ). IsLive devices new_table k (after k)) same live)
 
-      -- where all other slots were live, both images have the same behind the superblocks
+      -- where all other slots were live, both images have the same after the superblocks
       same_where_live : ((other : ℕ) → other < slots_of old_table → other ≢ slot → IsLive devices old_table other (before other))
-          → AreSameBehind devices old_table new_table before after
+          → AreSameBeyond devices old_table new_table before after
       same_where_live all = record {
         same_id = steps.step.same_id;
         same_geometry = steps.step.same_geometry;
@@ -250,11 +250,11 @@ module _ (spellings : Spellings) (devices : ℕ) (old_table new_table : Table) (
       }
 
       -- so it is not false that they have the same
-      pub not_false_same : ¬ ¬ AreSameBehind devices old_table new_table before after
+      pub not_false_same : ¬ ¬ AreSameBeyond devices old_table new_table before after
       not_false_same none = not_false_live (λ all. none (same_where_live all))
 
       -- the image is what it has to be, by the new table, where what is in the slot is not live
       pub holds_then : HoldsIn devices new_table X after
       holds_then = holds_by_rows
-          (rows_stay_behind devices old_table new_table before after X not_false_same record { sound = around.holds.sound; listed = around.holds.listed })
-          (steps_stay_behind spellings devices old_table new_table before after not_false_same around.holds.in_step)
+          (rows_stay_beyond devices old_table new_table before after X not_false_same record { sound = around.holds.sound; listed = around.holds.listed })
+          (steps_stay_beyond spellings devices old_table new_table before after not_false_same around.holds.in_step)

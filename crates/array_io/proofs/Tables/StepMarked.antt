@@ -1,4 +1,4 @@
--- The device that was to get its table last fell, once the others had it: its slot is marked missing, every case keeps holding, and the array is settled by
+-- The device that was to get its table last failed, once the others had it: its slot is marked missing, every case keeps holding, and the array is settled by
 -- the table in which the slot is missing.
 use Rattle.std.proofs.Common.{◌≡◌, ◌≢◌, inl, inr, ℕ, ◌<◌, true, List, [], ◌∷◌, Some, Result, Ok, Err, sym, ◌∙◌, ap, arith}
 use Rattle.layout_map.specs.declared.geometry.Geometry.{Geometry}
@@ -14,7 +14,7 @@ use Rattle.superblock.specs.declared.state.State.{State}
 use Rattle.superblock.specs.declared.state.State.TheVariants.{Missing}
 use Rattle.superblock.specs.declared.table.Table.{Table}
 use Rattle.superblock.specs.Cases.{Lost}
-use Rattle.superblock.specs.Losses.{IsOneLoss}
+use Rattle.superblock.specs.Losses.{IsSingleFailure}
 use Rattle.superblock.specs.NextTables.{IsMarked, slots_of}
 use Rattle.superblock.specs.Publishing.{Publishes, place_of}
 use Rattle.superblock.specs.SlotSteps.{IsStepAt}
@@ -24,19 +24,19 @@ use Rattle.array_io.specs.Steps.EntryAtRest.{HasEntryAtRest}
 use Rattle.array_io.specs.Steps.MarkingOn.{MarksOn}
 use Rattle.array_io.specs.Believed.Moments.{HoldsThroughout}
 use Rattle.array_io.specs.Believed.Settled.{trusts}
-use Rattle.array_io.specs.Steps.Writing.{HasFallenOnce, WritesFrom}
+use Rattle.array_io.specs.Steps.Writing.{HasFailedOnce, WritesFrom}
 use Rattle.array_io.proofs.Rest.AtRest.{Rests}
 use Rattle.array_io.proofs.Rest.AtRestImages.{LeavesSectors, whole_left}
 use Rattle.array_io.proofs.Rest.AtRestRows.{trusts_tells}
 use Rattle.array_io.proofs.Laws.Beginning.{live_is_up}
 use Rattle.array_io.proofs.Commits.EntryCarried.{CountsOnNoMore, ReadsTheSame, entry_carried}
-use Rattle.array_io.proofs.Marks.FallenMarked.{MarkedOn, fallen_is_one_loss, fallen_marked, one_loss_stays}
+use Rattle.array_io.proofs.Marks.FailedMarked.{MarkedOn, failed_is_single_failure, failed_marked, single_failure_stays}
 use Rattle.array_io.proofs.Laws.Fresh.{in_sync_not_missing}
 use Rattle.array_io.proofs.Marks.MarkingHolds.{missing_then}
 use Rattle.array_io.proofs.Rest.SettledAgain.{settled_again}
 use Rattle.array_io.proofs.Rest.SettledEntry.{entry_of_settled}
 use Rattle.array_io.proofs.Images.Spellings.{Spellings}
-use Rattle.array_io.proofs.Tables.StepEnds.{last, takes_fallen, takes_throughout, was_up}
+use Rattle.array_io.proofs.Tables.StepEnds.{last, takes_failed, takes_throughout, was_up}
 use Rattle.array_io.proofs.Tables.StepHolds.{step_slots}
 use Rattle.array_io.proofs.Tables.StepRest.{TakesFrom}
 
@@ -64,12 +64,12 @@ step_counts_no_more table next missing slot step marked = record {
 module _ (spellings : Spellings) (honest : Type 0) (devices number : ℕ) (table next missing : Table) (slot : ℕ) (one : Lost) (V : List Bytes) (old_panel new_panel final_panel : Panel)
     (mid new final : History) (result : Result (Unit {0}) Stop) (answer : Answer) (published : Publishes honest next (Some slot) old_panel new_panel mid new result)
     (from : TakesFrom devices number table next slot one V published.sectors mid) (is_honest : honest)
-    (fell : result ≡ Err (Down slot)) (down : is_down new slot ≡ true) (marks : MarksOn honest slot new_panel final_panel next missing new final answer) where
-  fallen : HasFallenOnce devices table next (Some one) (V ∷ []) slot new
-  fallen = takes_fallen spellings honest devices number table next slot one V old_panel new_panel mid new result published from is_honest fell down
+    (failed : result ≡ Err (Down slot)) (down : is_down new slot ≡ true) (marks : MarksOn honest slot new_panel final_panel next missing new final answer) where
+  failure : HasFailedOnce devices table next (Some one) (V ∷ []) slot new
+  failure = takes_failed spellings honest devices number table next slot one V old_panel new_panel mid new result published from is_honest failed down
 
   marked_then : HoldsThroughout table devices (Some one) (V ∷ []) new final × (answer ≡ Ok tt → MarkedOn devices table next missing (Some one) (V ∷ []) slot new final)
-  marked_then = fallen_marked spellings honest devices table next missing (Some one) (V ∷ []) slot new_panel final_panel new final answer fallen is_honest marks
+  marked_then = failed_marked spellings honest devices table next missing (Some one) (V ∷ []) slot new_panel final_panel new final answer failure is_honest marks
 
   -- at each moment all cases hold
   pub left_throughout : HoldsThroughout table devices (Some one) (V ∷ []) mid final
@@ -82,36 +82,36 @@ module _ (spellings : Spellings) (honest : Type 0) (devices number : ℕ) (table
     pub left_down : (device : ℕ) → is_down final device ≡ is_down new device
     left_down = marked.down
 
-    one_loss : IsOneLoss (slots_of table) (Some one) final
-    one_loss = one_loss_stays (slots_of table) (Some one) new final marked.down
-        (fallen_is_one_loss spellings devices table next (Some one) (V ∷ []) slot new fallen (step_slots table next slot from.steps.step) marked.others_in_sync from.own)
+    single_failure : IsSingleFailure (slots_of table) (Some one) final
+    single_failure = single_failure_stays (slots_of table) (Some one) new final marked.down
+        (failed_is_single_failure spellings devices table next (Some one) (V ∷ []) slot new failure (step_slots table next slot from.steps.step) marked.others_in_sync from.own)
 
     writes : WritesFrom devices table missing (Some one) (V ∷ []) final
-    writes = marked.from one_loss
+    writes = marked.from single_failure
 
-    -- behind its superblocks each slot that counts has what it had
+    -- after its superblocks each slot that counts has what it had
     reads_same : ReadsTheSame missing mid final
     reads_same = record {
-      behind = λ other at counted behind.
+      beyond = λ other at counted beyond.
           let up = live_is_up spellings devices missing final other (writes.there other counted.of_set counted.there) in
           let up_then = sym (marked.down other) ∙ up in
-          marked.behind other at up behind ∙ elim ((last spellings honest devices number table next slot one V old_panel new_panel mid new result published from is_honest).holds
+          marked.beyond other at up beyond ∙ elim ((last spellings honest devices number table next slot one V old_panel new_panel mid new result published from is_honest).holds
           other at (sector_of (seen new other) at) (up_seen new other at up_then)) [
             | inl before ↦
                 let up_first = was_up spellings honest devices number table next slot one V old_panel new_panel mid new result published from is_honest other up_then in
                 from.settled.nothing_pending other at (sector_of (seen new other) at) (sector_of (seen mid other) at) up_first before (up_seen mid other at up_first)
-            | inr is_new ↦ let low : place_of next < SUPERBLOCK_PLACES = omega arith in absurd (omega (arith, behind, is_new.in_place, low))
+            | inr is_new ↦ let low : place_of next < SUPERBLOCK_PLACES = omega arith in absurd (omega (arith, beyond, is_new.in_place, low))
           ];
     }
 
     entry : HasEntryAtRest devices missing number (readable final)
     entry = entry_carried spellings devices table table missing (Some one) (V ∷ []) number mid final
         (entry_of_settled spellings devices table number mid (Some one) V from.settled from.leaves) from.settled.there
-        (step_counts_no_more table next missing slot from.steps.step marked.marked) writes one_loss reads_same (whole_left final (readable final) leaves (readable_left final))
+        (step_counts_no_more table next missing slot from.steps.step marked.marked) writes single_failure reads_same (whole_left final (readable final) leaves (readable_left final))
 
     -- the array is settled without the slot
     pub left_rests : Rests table missing devices number (Some one) (V ∷ []) final
-    left_rests = settled_again spellings devices table missing (Some one) (V ∷ []) final writes number entry one_loss leaves (λ complete.
+    left_rests = settled_again spellings devices table missing (Some one) (V ∷ []) final writes number entry single_failure leaves (λ complete.
         absurd (in_sync_not_missing (sym (complete.in_sync slot of_set) ∙ missing_then next missing slot marked.marked of_next)))
       where
         of_next : slot < slots_of next

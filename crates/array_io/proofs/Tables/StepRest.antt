@@ -31,7 +31,7 @@ use Rattle.array_io.proofs.Rest.EntryAtRest.{in_step_at_rest}
 use Rattle.array_io.proofs.Laws.Fresh.{in_sync_not_missing}
 use Rattle.array_io.proofs.Tables.PublishImages.{IsBefore, WasBefore, agree_before, slot_before, slot_or_none}
 use Rattle.array_io.proofs.Images.Rows.{sound_alike}
-use Rattle.array_io.proofs.Images.SameBehind.{AgreeBehind, same_count, sealed_behind, sector_behind}
+use Rattle.array_io.proofs.Images.SameBeyond.{AgreeBeyond, same_count, sealed_beyond, sector_beyond}
 use Rattle.array_io.proofs.Rest.SettledEntry.{entry_of_settled}
 use Rattle.array_io.proofs.Images.Spellings.{Spellings}
 use Rattle.array_io.proofs.Tables.StepHolds.{StepsSlot, gets_of_set, live_then, same_slots, spelled_there}
@@ -101,16 +101,16 @@ module _ (spellings : Spellings) (devices number : ℕ) (table next : Table) (sl
       live_then spellings devices table next slot (Some slot) sectors from.steps other (readable mid other) (image other) of_set apart (is.each other of_set apart)
       (λ place superblock counts. is.chosen.greatest other place superblock counts) (live_before other of_set apart)
 
-  agree : (image : Slots) → IsAfter image → (other : ℕ) → other < slots_of table → AgreeBehind (readable mid other) (image other)
+  agree : (image : Slots) → IsAfter image → (other : ℕ) → other < slots_of table → AgreeBeyond (readable mid other) (image other)
   agree image is other of_set = elim (cases_eq other slot) [
-    | inl same ↦ subst (λ (k : ℕ). AgreeBehind (readable mid k) (image k)) (sym same) (agree_before next (Some slot) sectors slot (readable mid slot) (image slot) is.here)
+    | inl same ↦ subst (λ (k : ℕ). AgreeBeyond (readable mid k) (image k)) (sym same) (agree_before next (Some slot) sectors slot (readable mid slot) (image slot) is.here)
     | inr apart ↦ agree_before next (Some slot) sectors other (readable mid other) (image other) (is.each other of_set apart)
   ]
 
   counts_more : (image : Slots) → IsAfter image → MoreCounts table next slot (readable mid) image
   counts_more image is = record {
     step = step;
-    behind = λ member within. agree image is member (omega (arith, within));
+    beyond = λ member within. agree image is member (omega (arith, within));
     more = from.more;
     own = from.rows;
   }
@@ -138,12 +138,12 @@ module _ (spellings : Spellings) (devices number : ℕ) (table next : Table) (sl
     | inl is ↦ record {
       journal = table.geometry.members + 1;
       apart = λ same. omega (arith, same, is);
-      is_live = record { behind_members = omega arith; of_set = omega arith; live = live_before (table.geometry.members + 1) (omega arith) (λ same. omega (arith, same, is)) };
+      is_live = record { beyond_members = omega arith; of_set = omega arith; live = live_before (table.geometry.members + 1) (omega arith) (λ same. omega (arith, same, is)) };
     }
     | inr differs ↦ record {
       journal = table.geometry.members;
       apart = λ same. differs (sym same);
-      is_live = record { behind_members = omega arith; of_set = omega arith; live = live_before table.geometry.members (omega arith) (λ same. differs (sym same)) };
+      is_live = record { beyond_members = omega arith; of_set = omega arith; live = live_before table.geometry.members (omega arith) (λ same. differs (sym same)) };
     }
   ]
 
@@ -152,16 +152,16 @@ module _ (spellings : Spellings) (devices number : ℕ) (table next : Table) (sl
     was_live : (journal : ℕ) → IsLiveJournal devices next image journal → journal ≢ slot → IsLiveJournal devices table (readable mid) journal
     was_live journal on apart =
         let of_set = of_table journal on.of_set in
-        record { behind_members = omega (arith, on.behind_members, members_same); of_set = of_set; live = live_before journal of_set apart }
+        record { beyond_members = omega (arith, on.beyond_members, members_same); of_set = of_set; live = live_before journal of_set apart }
 
     sealed_after : (journal : ℕ) → IsLiveJournal devices next image journal → IsLastSealed next.id next.geometry (image journal) entry.last
     sealed_after journal on = sealed_next (image journal) entry.last
-        (sealed_behind table.id table.geometry (readable mid journal) (image journal) (agree image is journal (of_table journal on.of_set)) entry.last (elim (cases_eq journal slot) [
+        (sealed_beyond table.id table.geometry (readable mid journal) (image journal) (agree image is journal (of_table journal on.of_set)) entry.last (elim (cases_eq journal slot) [
           | inr apart ↦ entry.sealed journal (was_live journal on apart)
           | inl same ↦
               let other = other_journal in
               subst (λ (k : ℕ). IsLastSealed table.id table.geometry (readable mid k) entry.last) (sym same)
-              (from.sealed (omega (arith, on.behind_members, members_same, same)) other.journal entry.last other.is_live (entry.sealed other.journal other.is_live))
+              (from.sealed (omega (arith, on.beyond_members, members_same, same)) other.journal entry.last other.is_live (entry.sealed other.journal other.is_live))
         ]))
 
     body_before : (journal : ℕ) → IsLiveJournal devices next image journal → (seal : Seal) → entry.last ≡ Some seal → (row member : ℕ) (sector : Bytes)
@@ -171,10 +171,10 @@ module _ (spellings : Spellings) (devices number : ℕ) (table next : Table) (sl
       | inr apart ↦ entry.bodies journal seal (was_live journal on apart) last row member sector below within has
       | inl same ↦
           let other = other_journal in
-          let behind : table.geometry.members ≤ slot = omega (arith, on.behind_members, members_same, same) in
+          let beyond : table.geometry.members ≤ slot = omega (arith, on.beyond_members, members_same, same) in
           let sealed = subst (λ (l : Option Seal). IsLastSealed table.id table.geometry (readable mid other.journal) l) last (entry.sealed other.journal other.is_live) in
           entry.bodies other.journal seal other.is_live last row member sector below within
-          (from.bodies behind other.journal seal other.is_live sealed row member within
+          (from.bodies beyond other.journal seal other.is_live sealed row member within
           ∙ ap (λ (k : ℕ). sector_in table.geometry.members (readable mid k) seal row member) (sym same) ∙ has)
     ]
 
@@ -188,7 +188,7 @@ module _ (spellings : Spellings) (devices number : ℕ) (table next : Table) (sl
           let below_before : row < row_count table = subst (λ (n : ℕ). row < n) (same_count table next step.same_geometry) below in
           let within_before : member < table.geometry.members = omega (arith, within, members_same) in
           body_before journal on seal last row member sector below_before within_before
-          (sector_behind table.geometry.members (readable mid journal) (image journal) (agree image is journal (of_table journal on.of_set)) seal row member
+          (sector_beyond table.geometry.members (readable mid journal) (image journal) (agree image is journal (of_table journal on.of_set)) seal row member
           ∙ ap (λ (n : ℕ). sector_in n (image journal) seal row member) (sym members_same) ∙ has)
           ∙ sym (values_stay table next slot (readable mid) image (counts_more image is) row member below_before within_before);
     }

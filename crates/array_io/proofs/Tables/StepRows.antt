@@ -14,7 +14,7 @@ use Rattle.degraded.proofs.Loss.{own_sector_may_come}
 use Rattle.degraded.proofs.Values.{value-agree}
 use Rattle.array_io.specs.Believed.Holds.{row_count}
 use Rattle.array_io.specs.Believed.Settled.{rows_by, trusts}
-use Rattle.array_io.proofs.Images.SameBehind.{AgreeBehind}
+use Rattle.array_io.proofs.Images.SameBeyond.{AgreeBeyond}
 use Rattle.array_io.specs.Laws.Law.{AreAlike}
 use Rattle.array_io.proofs.Images.Rows.{alike}
 
@@ -22,10 +22,10 @@ use Rattle.array_io.proofs.Images.Rows.{alike}
 abbrev pub counts_in : Table → (slot row : ℕ) → Bool
 counts_in table slot row = trusts (state_at table.states slot) row table.position
 
--- what is read by the old table, and an image with the same behind the superblocks: more of the slot's own sectors may count, which are its values
+-- what is read by the old table, and an image with the same after the superblocks: more of the slot's own sectors may count, which are its values
 pub record MoreCounts (table next : Table) (slot : ℕ) (reads image : Slots) : Type 0 where
   pub step : IsStepAt table next slot
-  pub behind : (member : ℕ) → member < table.geometry.members → AgreeBehind (reads member) (image member)
+  pub beyond : (member : ℕ) → member < table.geometry.members → AgreeBeyond (reads member) (image member)
   pub more : (row : ℕ) → counts_in table slot row ≡ true → counts_in next slot row ≡ true
   pub own : (row : ℕ) → slot < table.geometry.members → row < row_count table → counts_in next slot row ≡ true
       → sector_of (disk_of (reads slot)) (FIRST_ROW + row) ≡ value (rows_by table reads) row slot
@@ -46,7 +46,7 @@ module _ (table next : Table) (slot : ℕ) (reads image : Slots) (is : MoreCount
       ap (λ (s : State). trusts s row next.position) (is.step.states other apart ∙ is.step.others_in_sync other (of_set other within) apart)
 
   own_same : (row other : ℕ) → other < table.geometry.members → (rows_by next image).own row other ≡ (rows_by table reads).own row other
-  own_same row other within = sym ((is.behind other within).same (FIRST_ROW + row) (omega arith))
+  own_same row other within = sym ((is.beyond other within).same (FIRST_ROW + row) (omega arith))
 
   -- a row in which the slot's own sector counts now
   value_counted : (row : ℕ) → row < row_count table → slot < table.geometry.members → counts_in next slot row ≡ true
@@ -86,7 +86,7 @@ module _ (table next : Table) (slot : ℕ) (reads image : Slots) (is : MoreCount
   -- so all values stay
   pub values_stay : (row member : ℕ) → row < row_count table → member < table.geometry.members → value (rows_by next image) row member ≡ value (rows_by table reads) row member
   values_stay row member below within = elim (cases_lt slot table.geometry.members) [
-    | inr behind ↦ value_uncounted row (λ inside. absurd (omega (arith, behind, inside))) member within
+    | inr beyond ↦ value_uncounted row (λ inside. absurd (omega (arith, beyond, inside))) member within
     | inl inside ↦ by_test (counts_in next slot row) refl inside
   ]
     where

@@ -31,7 +31,7 @@ abbrev pub SlotSays : (devices : ℕ) (table : Table) (X : List (List Bytes)) (s
 SlotSays devices table X slot image = ¬ IsLive devices table slot (image slot)
     ⊎ (HasRows devices table X (IsLiveJournal devices table image) image × AreJournalsInStep devices table image)
 
--- A moment `h` of a publish, begun at `old`: a stop leaves what it might have left before, or new superblocks; the images of each case choose one of
+-- A moment `h` of a publish, begun at `old`: a crash leaves what it might have left before, or new superblocks; the images of each case choose one of
 -- the two tables; where they choose the new one, what stands in the slot says what the others do; and no device that is away comes back by it.
 pub record IsStepping (devices : ℕ) (old_table new_table : Table) (slot : ℕ) (last : Option ℕ) (lost : Lost) (X : List (List Bytes)) (sectors : ℕ → Bytes) (old h : History) : Type 0 where
   pub steps : StepsSlot devices old_table new_table slot last sectors

@@ -29,7 +29,7 @@ pub record IsReady (devices : ℕ) (table : Table) (sectors : ℕ → Bytes) (ol
   pub there : IsAllThere devices table old
   pub spelled : (slot : ℕ) → slot < slots_of table → state_at table.states slot ≢ Missing → StandsAt table slot (sectors slot)
 
--- From where they are: all cases that a stop may leave hold for X, and their images choose the table.
+-- From where they are: all cases that a crash may leave hold for X, and their images choose the table.
 pub record BringsFrom (devices : ℕ) (base table : Table) (lost : Option Lost) (X : List (List Bytes)) (sectors : ℕ → Bytes) (old : History) : Type 0 where
   pub ready : IsReady devices table sectors old
   pub same_id : table.id ≡ base.id
@@ -127,7 +127,7 @@ pub bringing_throughout : Spellings → (devices : ℕ) (base table : Table) (lo
 bringing_throughout spellings devices base table lost X sectors old new from moments =
     throughout_more (λ h is. bringing_holds spellings devices base table lost X sectors old h from is) new moments
 
--- Where no device fell meanwhile
+-- Where no device failed meanwhile
 
 -- what reads give is what they gave, but for these
 pub readable_brought : Spellings → (devices : ℕ) (table : Table) (sectors : ℕ → Bytes) (old h : History) → IsReady devices table sectors old → IsBringing table sectors old h

@@ -12,7 +12,7 @@ use Rattle.superblock.specs.Tables.{incarnation_at}
 use Rattle.array_io.specs.Laws.Core.{HasRows, IsKnown}
 use Rattle.array_io.specs.Believed.Holds.{HoldsIn, IsLiveJournal}
 use Rattle.array_io.proofs.Images.Choice.{IsAsNew, as_new_or_not}
-use Rattle.array_io.proofs.Images.SameBehind.{AgreeBehind, AreSameBehind, rows_behind, steps_behind}
+use Rattle.array_io.proofs.Images.SameBeyond.{AgreeBeyond, AreSameBeyond, rows_beyond, steps_beyond}
 use Rattle.array_io.proofs.Images.Spellings.{Spellings}
 
 -- the least number of a kind that is settled for each
@@ -101,10 +101,10 @@ counted_after devices id slot before after place superblock same counts = record
   has_slots = counts.has_slots;
 }
 
--- what stands behind the superblocks is the same
-pub brought_behind : (devices : ℕ) (table : Table) (sectors : ℕ → Bytes) (slot : ℕ) (before after : Content) → IsBrought devices table sectors slot before after → AgreeBehind before after
-brought_behind devices table sectors slot before after brought = record {
-  same = λ at behind. sym (brought.others at (λ is. absurd (omega (arith, is, behind))));
+-- what stands after the superblocks is the same
+pub brought_beyond : (devices : ℕ) (table : Table) (sectors : ℕ → Bytes) (slot : ℕ) (before after : Content) → IsBrought devices table sectors slot before after → AgreeBeyond before after
+brought_beyond devices table sectors slot before after brought = record {
+  same = λ at beyond. sym (brought.others at (λ is. absurd (omega (arith, is, beyond))));
 }
 
 -- it says no more to the table
@@ -254,7 +254,7 @@ module _ (spellings : Spellings) (devices : ℕ) (table : Table) (sectors : ℕ 
   full_is : (slot : ℕ) → IsInFull devices table slot (before slot) → IsInFull devices table slot (after slot)
   full_is slot full = record { live = live_is slot full.live; in_sync = full.in_sync }
 
-  same_is : AreSameBehind devices table table before after
+  same_is : AreSameBeyond devices table table before after
   same_is = record {
     same_id = refl;
     same_geometry = refl;
@@ -262,11 +262,11 @@ module _ (spellings : Spellings) (devices : ℕ) (table : Table) (sectors : ℕ 
     live_back = live_was;
     trusted = λ row member trusted. record { live = live_is member trusted.live; rebuilt = trusted.rebuilt };
     trusted_back = λ row member trusted. record { live = live_was member trusted.live; rebuilt = trusted.rebuilt };
-    agree = λ slot is_live. brought_behind devices table sectors slot (before slot) (after slot) (brought slot);
+    agree = λ slot is_live. brought_beyond devices table sectors slot (before slot) (after slot) (brought slot);
   }
 
   rows_are : HasRows devices table X (IsLiveJournal devices table after) after
-  rows_are = rows_behind devices table table before after X same_is (record { sound = holds.sound; listed = holds.listed })
+  rows_are = rows_beyond devices table table before after X same_is (record { sound = holds.sound; listed = holds.listed })
 
 -- an image that has to be so still is
 pub holds_brought : Spellings → (devices : ℕ) (table : Table) (sectors : ℕ → Bytes) (X : List (List Bytes)) (before after : Slots) → HoldsIn devices table X before
@@ -278,7 +278,7 @@ holds_brought spellings devices table sectors X before after holds brought = rec
   one_content = λ slot. (known slot).as_new;
   sound = rows.sound;
   listed = rows.listed;
-  in_step = steps_behind devices table table before after (same_is spellings devices table sectors X before after holds brought) holds.in_step;
+  in_step = steps_beyond devices table table before after (same_is spellings devices table sectors X before after holds brought) holds.in_step;
 }
   where
     room : slots_of table ≤ devices

@@ -70,7 +70,7 @@ counted_up spellings devices table old there slot counted = by_state (is_down ol
         (subst (IsLive devices table slot) (readable_down old slot down) (there slot counted.of_set counted.there)))
     by_state false up = refl
 
--- an image that a stop leaves now, and what stood in its slots
+-- an image that a crash leaves now, and what stood in its slots
 
 module _ (spellings : Spellings) (devices : ℕ) (table : Table) (Puts : ℕ → Content → Content → Type 0) (old h : History)
     (there : IsAllThere devices table old) (is : IsPutting table Puts old h) where
@@ -99,8 +99,8 @@ pub put_found_up : (table : Table) (Puts : ℕ → Content → Content → Type 
     → Puts d (Some (seen old d)) content ⊎ HasGone table old h d content
 put_found_up table Puts old h is d up None may = elim (cases_lt d (slots_of table)) [
   | inl within ↦ inr record { of_set = within; up = up; down = may; none = refl }
-  | inr behind ↦
-      absurd (differ (sym may ∙ is.others_stay d (λ counted. absurd (omega (arith, behind, counted.of_set))) ∙ up))
+  | inr beyond ↦
+      absurd (differ (sym may ∙ is.others_stay d (λ counted. absurd (omega (arith, beyond, counted.of_set))) ∙ up))
 ]
 put_found_up table Puts old h is d up (Some disk) may = inl (is.put d disk up may)
 

@@ -13,7 +13,7 @@ use Rattle.superblock.specs.declared.state.State.TheVariants.{InSync, Missing}
 use Rattle.superblock.specs.declared.table.Table.{Table}
 use Rattle.superblock.specs.Tables.{state_at}
 use Rattle.superblock.specs.Cases.{HasWholeSectors, Lost}
-use Rattle.superblock.specs.Losses.{IsOneLoss}
+use Rattle.superblock.specs.Losses.{IsSingleFailure}
 use Rattle.superblock.specs.NextTables.{IsComplete, IsOut, slots_of}
 use Rattle.layout_map.specs.declared.geometry.Geometry.{Geometry}
 use Rattle.array_io.specs.Steps.Bringing.{CountsOn}
@@ -21,13 +21,13 @@ use Rattle.array_io.specs.Steps.EntryAtRest.{HasEntryAtRest}
 use Rattle.array_io.specs.Believed.Settled.{IsSettled}
 use Rattle.array_io.specs.Believed.Views.{RestsAfter, view_of}
 use Rattle.array_io.specs.Steps.Writable.{IsWritable}
-use Rattle.array_io.specs.Steps.Writing.{HasFallenOnce, IsWriting, WritesFrom}
+use Rattle.array_io.specs.Steps.Writing.{HasFailedOnce, IsWriting, WritesFrom}
 use Rattle.array_io.proofs.Rest.AtRestImages.{LeavesSectors}
 use Rattle.array_io.proofs.Rest.AtRestLost.{complete_or_out}
 use Rattle.array_io.proofs.Laws.Beginning.{live_is_up, lost_at_rest}
 use Rattle.array_io.proofs.Commits.EntryCalls.{writes_on}
 use Rattle.array_io.proofs.Commits.EntryCarried.{Nothing, entry_carried, marked_goes_on, nothing_keeps, reads_write}
-use Rattle.array_io.proofs.Marks.FallenMarked.{MarkedOn, fallen_is_one_loss, marked_writes_on, one_loss_stays}
+use Rattle.array_io.proofs.Marks.FailedMarked.{MarkedOn, failed_is_single_failure, marked_writes_on, single_failure_stays}
 use Rattle.array_io.proofs.Marks.MarkingHolds.{missing_then}
 use Rattle.array_io.proofs.Rest.SettledAgain.{rests_one, settled_again, writes_from_settled, written_not_older}
 use Rattle.array_io.proofs.Rest.SettledEntry.{entry_of_settled}
@@ -39,7 +39,7 @@ pub writable_at_rest : Spellings → (devices number : ℕ) (table : Table) (los
 writable_at_rest spellings devices number table lost V h settled sectors = record {
   from = writes_from_settled spellings devices table number h lost V settled;
   entry = entry_of_settled spellings devices table number h lost V settled sectors;
-  one_loss = (lost, lost_at_rest spellings devices table number h lost V settled);
+  single_failure = (lost, lost_at_rest spellings devices table number h lost V settled);
   lost_out = λ one is. lost_is_out one is;
 }
   where
@@ -64,7 +64,7 @@ pub writable_rests : Spellings → (panel : Panel) (devices number : ℕ) (base 
     → IsWritable devices number base table lost V h → LeavesSectors h → RestsAfter lost (view_of panel h table number) V
 writable_rests spellings panel devices number base table lost V h same_devices is sectors =
     rests_one panel devices number base table lost V h same_devices
-    (settled_again spellings devices base table lost (V ∷ []) h is.from number is.entry is.one_loss sectors (none_lost table lost is.lost_out))
+    (settled_again spellings devices base table lost (V ∷ []) h is.from number is.entry is.single_failure sectors (none_lost table lost is.lost_out))
 
 -- reads that took no device down change nothing
 pub same_readable : (old new : History) → HasRead old new → ((d : ℕ) → is_down new d ≡ is_down old d) → readable new ≡ readable old
@@ -79,7 +79,7 @@ writable_read spellings devices number base table lost V old new is read down =
           (λ d at first second up may may'. is.from.nothing_pending d at first second (sym (down d) ∙ up) (held writing d at first may) (held writing d at second may'))
           (λ slot counted. down slot ∙ live_is_up spellings devices table old slot (is.from.there slot counted.of_set counted.there));
       entry = subst (HasEntryAtRest devices table number) (sym (same_readable old new read down)) is.entry;
-      one_loss = one_loss_stays (slots_of base) lost old new down is.one_loss;
+      single_failure = single_failure_stays (slots_of base) lost old new down is.single_failure;
       lost_out = is.lost_out;
     }
   where
@@ -98,18 +98,18 @@ marked_is_lost table (Some one) slot out others = elim (cases_eq one.slot slot) 
   | inr apart ↦ absurd ((out one refl).out (others one.slot (out one refl).of_set apart))
 ]
 
--- where a device fell in reads, and its slot was marked missing, the array may be read and written on
+-- where a device failed in reads, and its slot was marked missing, the array may be read and written on
 pub writable_marked : Spellings → (devices number : ℕ) (base table new_table : Table) (lost : Option Lost) (V : List Bytes) (slot : ℕ) (old mid new : History)
-    → IsWritable devices number base table lost V old → HasRead old mid → CountsOn table slot → HasFallenOnce devices base table lost (V ∷ []) slot mid
+    → IsWritable devices number base table lost V old → HasRead old mid → CountsOn table slot → HasFailedOnce devices base table lost (V ∷ []) slot mid
     → MarkedOn devices base table new_table lost (V ∷ []) slot mid new → HasWholeSectors (readable new) → IsWritable devices number base new_table lost V new
-writable_marked spellings devices number base table new_table lost V slot old mid new is read counted fallen marked whole = record {
+writable_marked spellings devices number base table new_table lost V slot old mid new is read counted failure marked whole = record {
   from = from_new;
   entry = entry_carried spellings devices base table new_table lost (V ∷ []) number old new is.entry is.from.there (marked_goes_on table new_table slot marked.marked counted.of_set marked.others_in_sync)
       from_new one_new (record {
-        behind = λ other at there behind. marked.behind other at (live_is_up spellings devices new_table new other (from_new.there other there.of_set there.there)) behind
+        beyond = λ other at there beyond. marked.beyond other at (live_is_up spellings devices new_table new other (from_new.there other there.of_set there.there)) beyond
             ∙ ap (λ (s : List Bytes). sector_of s at) (seen_read read other);
       }) whole;
-  one_loss = one_new;
+  single_failure = one_new;
   lost_out = λ one some. record {
     of_set = subst (λ (n : ℕ). one.slot < n) (sym same_new) (is.lost_out one some).of_set;
     out = λ in_sync. none_differ (sym (missing_then table new_table slot marked.marked counted.of_set)
@@ -118,7 +118,7 @@ writable_marked spellings devices number base table new_table lost V slot old mi
 }
   where
     same_base : slots_of table ≡ slots_of base
-    same_base = ap (λ (g : Geometry). g.members + 2) (written_not_older spellings devices base table lost (V ∷ []) old is.from is.one_loss.0 is.one_loss.1).same_geometry
+    same_base = ap (λ (g : Geometry). g.members + 2) (written_not_older spellings devices base table lost (V ∷ []) old is.from is.single_failure.0 is.single_failure.1).same_geometry
 
     same_new : slots_of new_table ≡ slots_of table
     same_new = ap (λ (g : Geometry). g.members + 2) marked.marked.same_geometry
@@ -127,11 +127,11 @@ writable_marked spellings devices number base table new_table lost V slot old mi
     its = marked_is_lost table lost slot is.lost_out marked.others_in_sync
 
     from_new : WritesFrom devices base new_table lost (V ∷ []) new
-    from_new = marked_writes_on spellings devices base table new_table lost (V ∷ []) slot mid new fallen marked same_base its
+    from_new = marked_writes_on spellings devices base table new_table lost (V ∷ []) slot mid new failure marked same_base its
 
-    one_new : IsOneLoss (slots_of base) lost new
-    one_new = one_loss_stays (slots_of base) lost mid new marked.down
-        (fallen_is_one_loss spellings devices base table lost (V ∷ []) slot mid fallen same_base marked.others_in_sync its)
+    one_new : IsSingleFailure (slots_of base) lost new
+    one_new = single_failure_stays (slots_of base) lost mid new marked.down
+        (failed_is_single_failure spellings devices base table lost (V ∷ []) slot mid failure same_base marked.others_in_sync its)
 
     none_differ : ¬ (Missing ≡ InSync)
     none_differ e = cc

@@ -1,4 +1,4 @@
--- While a set is written behind its superblocks, every case keeps holding, and the table stays chosen.
+-- While a set is written after its superblocks, every case keeps holding, and the table stays chosen.
 use Rattle.std.proofs.Common.{◌≡◌, inl, inr, ℕ, true, false, List, length, Option, refl, sym, ◌∙◌, ap}
 use Rattle.sector_model.specs.History.{Bytes, History, Slots, disk_of, is_down, sector_of, seen}
 use Rattle.sector_model.specs.MemoryLaw.{length-seen}

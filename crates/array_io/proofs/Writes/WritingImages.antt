@@ -1,4 +1,4 @@
--- Images that were written behind the superblocks: the same table is chosen, and the same is live, known and stale.
+-- Images that were written after the superblocks: the same table is chosen, and the same is live, known and stale.
 use Rattle.std.proofs.Common.{◌≡◌, inl, inr, ℕ, ◌<◌, List, length, refl, sym, ◌∙◌, arith}
 use Rattle.sector_model.specs.History.{Bytes, Slots, disk_of, sector_of}
 use Rattle.sector_model.specs.Moments.{Contents}
@@ -20,7 +20,7 @@ pub record HaveSameFront (first second : Content) : Type 0 where
 pub front_back : (first second : Content) → HaveSameFront first second → HaveSameFront second first
 front_back first second front = record { long = sym front.long; same = λ at below. sym (front.same at below) }
 
--- what was written behind the superblocks has the same there
+-- what was written after the superblocks has the same there
 pub written_front : (puts : Contents) (slot : ℕ) (before after : Content) → IsWritten puts slot before after → HaveSameFront before after
 written_front puts slot before after written = record {
   long = written.long;

@@ -1,4 +1,4 @@
--- What was written behind the superblocks of images, and what that keeps.
+-- What was written after the superblocks of images, and what that keeps.
 use Rattle.std.specs.Prelude.{◌≡◌, ◌⊎◌, ℕ, ◌≤◌, List, length}
 use Rattle.sector_model.specs.History.{Bytes, Slots, disk_of, sector_of}
 use Rattle.sector_model.specs.Moments.{Contents}
@@ -9,7 +9,7 @@ use Rattle.array_io.specs.Laws.Core.{AreJournalsInStep, HasRows}
 use Rattle.array_io.specs.Believed.Holds.{IsLiveJournal}
 use Rattle.array_io.proofs.Writes.PutSince.{IsPutFrom}
 
--- what stands in a slot stood there before, or behind the superblocks what may be put there
+-- what stands in a slot stood there before, or after the superblocks what may be put there
 pub record IsWritten (puts : Contents) (slot : ℕ) (before after : Content) : Type 0 where
   pub long : length (disk_of after) ≡ length (disk_of before)
   pub each : (at : ℕ) → (sector_of (disk_of after) at ≡ sector_of (disk_of before) at) ⊎ ((SUPERBLOCK_PLACES ≤ at) × puts slot at (sector_of (disk_of after) at))

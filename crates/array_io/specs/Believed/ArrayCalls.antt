@@ -13,7 +13,7 @@ use Rattle.superblock.specs.Counted.{IsChosen}
 use Rattle.superblock.specs.Losses.{InEachImage}
 use Rattle.superblock.specs.NextTables.{IsMarked, IsOut}
 use Rattle.array_io.specs.Believed.Moments.{HoldsNow, HoldsThroughout}
-use Rattle.array_io.specs.Believed.Views.{ArrayView, GoesOn, HasEnded, IsEndOf, RestsAfter, RestsOn, StaysButForFalls}
+use Rattle.array_io.specs.Believed.Views.{ArrayView, GoesOn, HasEnded, IsEndOf, RestsAfter, RestsOn, StaysButForFailures}
 
 -- what a call without an answer of its own gives
 abbrev pub Answer : Type 0
@@ -33,7 +33,7 @@ pub record KeepsTheList (honest : Type 0) (old new : ArrayView) (ends : Type 0) 
 -- `read(logical, to)` of a logical sector of the set (its condition): at Ok `to` holds the sector. 15, 16.
 pub record Reads (honest : Type 0) (logical : ℕ) (old new : ArrayView) (to : Bytes) (answer : Answer) : Type 0 where
   pub goes_on : GoesOn old new
-  pub stays : StaysButForFalls honest old new (HasEnded answer)
+  pub stays : StaysButForFailures honest old new (HasEnded answer)
   pub number : new.number ≡ old.number
   pub keeps : KeepsTheList honest old new (HasEnded answer)
   pub sector : honest → answer ≡ Ok tt → (lost : Option Lost) (V : List Bytes) → RestsOn old lost V → to ≡ slice_index_or V logical []
@@ -49,7 +49,7 @@ pub record MayCommit (table : Table) (sectors : List (ℕ × Bytes)) : Type 0 wh
 -- `commit(sectors)`: all of the sectors or none at each moment, and all at Ok. 15; 16 also where the entry's number stands at 2^62.
 pub record Commits (honest : Type 0) (sectors : List (ℕ × Bytes)) (old new : ArrayView) (answer : Answer) : Type 0 where
   pub goes_on : GoesOn old new
-  pub stays : StaysButForFalls honest old new (HasEnded answer)
+  pub stays : StaysButForFailures honest old new (HasEnded answer)
   pub number : answer ≡ Ok tt → new.number ≡ old.number + 1
   pub moments : honest → (lost : Option Lost) (V : List Bytes) → RestsOn old lost V
       → HoldsThroughout old.table old.panel.devices lost (V ∷ written V sectors ∷ []) old.history new.history
@@ -68,14 +68,14 @@ AllChooseIts array lost = InEachImage array.panel.devices array.table array.hist
 abbrev pub MayMark : ArrayView → ℕ → Type 0
 MayMark array slot = ((other : ℕ) → IsOut array.table other → other ≡ slot) ⊎ (array.panel.down slot ≡ true)
 
--- The slot may be given up, and for these lists all cases that a stop now may leave hold with it lost, each image choosing the array's table.
+-- The slot may be given up, and for these lists all cases that a crash now may leave hold with it lost, each image choosing the array's table.
 pub record MayGiveUp (array : ArrayView) (slot : ℕ) (lost : Option Lost) (X : List (List Bytes)) : Type 0 where
   pub may : MayBeOut lost slot
   pub chosen : AllChooseIts array (lost_from lost slot)
   pub holds : HoldsNow array.table array.panel.devices (lost_from lost slot) X array.history
 
 -- `mark_missing(slot)`: the slot counts as lost from the start of the call, with nothing away where none was lost. 15, 16.
--- For whatever lists all cases that a stop may leave hold, they do so at each moment, as long as each image chooses the array's table.
+-- For whatever lists all cases that a crash may leave hold, they do so at each moment, as long as each image chooses the array's table.
 -- The new table is in memory before the first device call, so that a 15 is true of it.
 pub record MarksMissing (honest : Type 0) (slot : ℕ) (old new : ArrayView) (answer : Answer) : Type 0 where
   pub goes_on : GoesOn old new

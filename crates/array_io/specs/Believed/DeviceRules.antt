@@ -46,12 +46,12 @@ pub record HasAnother (id : List ℕ) (devices slots : ℕ) (replaced : List Rep
   pub lost : new.lost ≡ Some record { slot = slot; away = away }
   pub found : MayBeFound id devices replaced slot (devices_of old slot) content away
 
--- behind the set's slots devices may come and go, but none with a superblock of the set comes
+-- after the set's slots devices may come and go, but none with a superblock of the set comes
 pub record IsSameInSet (id : List ℕ) (devices slots : ℕ) (old new : Slots) : Type 0 where
   pub of_set : (slot : ℕ) → slot < slots → new slot ≡ old slot
-  pub behind : (slot : ℕ) → slots ≤ slot → (new slot ≡ old slot) ⊎ HasNone id devices slot (new slot)
+  pub beyond : (slot : ℕ) → slots ≤ slot → (new slot ≡ old slot) ⊎ HasNone id devices slot (new slot)
 
--- With which case the next run may begin, after a stop left the old one.
+-- With which case the next run may begin, after a crash left the old one.
 pub record MayBegin (id : List ℕ) (devices slots : ℕ) (replaced : List Replaced) (old new : Case) : Type 0 where
   pub image : Slots
   pub same : IsSameInSet id devices slots old.image image

@@ -17,7 +17,7 @@ use Rattle.array_io.specs.Believed.Holds.{row_count}
 
 -- The image that making a set leaves: the table has generation 1, every slot in sync and each device the first of its slot; each
 -- slot has a device that is long enough, with the table's superblock in sector 1 and zeros in sector 0; the seals of journals and
--- the rows of members are zero; and no slot behind the set's has a superblock of the set.
+-- the rows of members are zero; and no slot after the set's has a superblock of the set.
 pub record IsFresh (devices : ℕ) (table : Table) (image : Slots) : Type 0 where
   pub first_table : table.generation ≡ 1
   pub has_slots : table.geometry.members + 2 ≤ devices

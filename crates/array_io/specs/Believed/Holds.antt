@@ -20,7 +20,7 @@ row_count table = rows_of table.geometry.chunk table.geometry.stripes
 
 -- the slot is a journal of the table's set, and what it has is live
 pub record IsLiveJournal (devices : ℕ) (table : Table) (image : Slots) (slot : ℕ) : Type 0 where
-  pub behind_members : table.geometry.members ≤ slot
+  pub beyond_members : table.geometry.members ≤ slot
   pub of_set : slot < table.geometry.members + 2
   pub live : IsLive devices table slot (image slot)
 

@@ -8,7 +8,7 @@ use Rattle.superblock.specs.Losses.{IsLostAt}
 use Rattle.superblock.specs.NextTables.{slots_of}
 use Rattle.array_io.specs.Believed.Holds.{Holds}
 
--- Every case that a stop now may leave holds for X. `before` is what was lost before the call, and `base` a table that the set had.
+-- Every case that a crash now may leave holds for X. `before` is what was lost before the call, and `base` a table that the set had.
 abbrev pub HoldsNow : (base : Table) (devices : ℕ) (before : Option Lost) → List (List Bytes) → History → Type 0
 HoldsNow base devices before X h = (after : Option Lost) (image : Slots) → IsLostAt (slots_of base) before h after
     → MayLeave h image → Holds base devices record { image = image; lost = after } X

@@ -1,4 +1,4 @@
--- What reading a logical sector promises of an array that need not be settled, where no device falls in it.
+-- What reading a logical sector promises of an array that need not be settled, where no device fails in it.
 use Rattle.std.specs.Prelude.{◌≡◌, ℕ, ◌<◌, false, List, [], length, slice_index_or}
 use Rattle.sector_model.specs.Bank.{Panel}
 use Rattle.sector_model.specs.History.{Bytes, History}
@@ -9,8 +9,8 @@ use Rattle.array_io.specs.Believed.Settled.{rows_by}
 use Rattle.array_io.specs.Believed.Views.{ArrayView}
 
 -- no device went down between
-abbrev pub NoneFell : (old new : Panel) → Type 0
-NoneFell old new = (slot : ℕ) → slot < old.devices → old.down slot ≡ false → new.down slot ≡ false
+abbrev pub NoDeviceFailed : (old new : Panel) → Type 0
+NoDeviceFailed old new = (slot : ℕ) → slot < old.devices → old.down slot ≡ false → new.down slot ≡ false
 
 -- a member's value in a row that is a whole sector by what reads gave is so by what they give now
 abbrev pub ValuesStay : (table new_table : Table) (old new : History) → Type 0

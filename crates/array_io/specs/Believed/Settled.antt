@@ -52,7 +52,7 @@ abbrev pub IsAllThere : ℕ → Table → History → Type 0
 IsAllThere devices table h = (slot : ℕ) → slot < slots_of table → state_at table.states slot ≢ Missing → IsLive devices table slot (readable h slot)
 
 -- The array of this table, whose last entry has this number (0 for none), is settled on V: nothing is pending; every case that a
--- stop now may leave holds for V alone; what the table counts on is there; what reads give says V also without the last entry, in
+-- crash now may leave holds for V alone; what the table counts on is there; what reads give says V also without the last entry, in
 -- sound rows; every weakened image chooses the array's table, and its live journals have the array's number; no device that is away is
 -- live; and the lost slot is the one that is not in sync, none where all are.
 pub record IsSettled (devices : ℕ) (table : Table) (number : ℕ) (h : History) (lost : Option Lost) (V : List Bytes) : Type 0 where

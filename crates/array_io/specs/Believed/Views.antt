@@ -48,7 +48,7 @@ pub record GoesOn (old new : ArrayView) : Type 0 where
   pub its_slots : HasItsSlots old.table old.panel → HasItsSlots new.table new.panel
 
 -- the device of a slot answered a fault since
-pub record Fell (slot : ℕ) (old new : Panel) : Type 0 where
+pub record DeviceFailed (slot : ℕ) (old new : Panel) : Type 0 where
   pub was_up : old.down slot ≡ false
   pub is_down : new.down slot ≡ true
 
@@ -65,10 +65,10 @@ pub record HasLostOne (old new : ArrayView) : Type 0 where
   pub is_down : new.panel.down slot ≡ true
   pub marked : IsMarked old.table slot new.table
 
--- The table is as before, but that one slot may be missing because its device is down; what fell, on an honest bank, in a call that did not end the array is missing.
-pub record StaysButForFalls (honest : Type 0) (old new : ArrayView) (ended : Type 0) : Type 0 where
+-- The table is as before, but that one slot may be missing because its device is down; what failed, on an honest bank, in a call that did not end the array is missing.
+pub record StaysButForFailures (honest : Type 0) (old new : ArrayView) (ended : Type 0) : Type 0 where
   pub table : (new.table ≡ old.table) ⊎ HasLostOne old new
-  pub fallen : honest → ¬ ended → (slot : ℕ) → slot < slots_of old.table → Fell slot old.panel new.panel → state_at new.table.states slot ≡ Missing
+  pub failure : honest → ¬ ended → (slot : ℕ) → slot < slots_of old.table → DeviceFailed slot old.panel new.panel → state_at new.table.states slot ≡ Missing
 
 -- a slot is out: its device is down, or the table does not call it in sync
 abbrev pub IsSlotOut : ArrayView → ℕ → Type 0

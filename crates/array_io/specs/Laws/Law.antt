@@ -43,9 +43,9 @@ abbrev pub HoldsFromCore : Type 0
 HoldsFromCore = (base : Table) (devices : ℕ) (table : Table) (case : Case) (X : List (List Bytes)) → IsNotOlder base table → Core devices table case X
     → Holds base devices case X
 
--- what holds when a run stops holds when the next begins
-abbrev pub AStopThenAStart : Type 0
-AStopThenAStart = (base : Table) (devices : ℕ) (table : Table) (old new : Case) (X : List (List Bytes))
+-- what holds when a run crashes holds when the next begins
+abbrev pub ACrashThenAStart : Type 0
+ACrashThenAStart = (base : Table) (devices : ℕ) (table : Table) (old new : Case) (X : List (List Bytes))
     → Holds base devices old X → IsChosen base.id devices old.image table → Starts devices table old new
     → Holds base devices new X
 

@@ -11,7 +11,7 @@ use Rattle.array_io.specs.Believed.Holds.{AllStale, Holds}
 use Rattle.array_io.specs.Believed.Moments.{HoldsNow}
 use Rattle.array_io.specs.Believed.Settled.{IsSettled}
 
--- A run begins with the image of a case that holds: nothing is pending, and each case that a stop now may leave holds, with the same slot lost.
+-- A run begins with the image of a case that holds: nothing is pending, and each case that a crash now may leave holds, with the same slot lost.
 pub record HasBegun (base : Table) (devices : ℕ) (image : Slots) (lost : Option Lost) (X : List (List Bytes)) : Type 0 where
   pub nothing_pending : NothingPending (Began image)
   pub holds : HoldsNow base devices lost X (Began image)

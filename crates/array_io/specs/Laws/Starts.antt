@@ -24,14 +24,14 @@ pub record BeginsWith (devices : ℕ) (table : Table) (old new : Case) : Type 0 
   pub lost : new.lost ≡ Some record { slot = slot; away = away }
   pub found : IsFound devices table slot (devices_of old slot) content away
 
--- what stands behind the set's slots may differ, but that nothing of the set comes there
-pub record DiffersBehind (devices : ℕ) (table : Table) (old new : Slots) : Type 0 where
+-- what stands after the set's slots may differ, but that nothing of the set comes there
+pub record DiffersBeyond (devices : ℕ) (table : Table) (old new : Slots) : Type 0 where
   pub of_set : (slot : ℕ) → slot < table.geometry.members + 2 → new slot ≡ old slot
-  pub behind : (slot : ℕ) → table.geometry.members + 2 ≤ slot → (new slot ≡ old slot) ⊎ HasNone table.id devices slot (new slot)
+  pub beyond : (slot : ℕ) → table.geometry.members + 2 ≤ slot → (new slot ≡ old slot) ⊎ HasNone table.id devices slot (new slot)
 
--- With which case the next run may begin: what stands behind the set's slots may differ; and in one slot of the set there may be
+-- With which case the next run may begin: what stands after the set's slots may differ; and in one slot of the set there may be
 -- something else. A device that is known to none is stale: it was replaced, and the set was complete after that.
 pub record Starts (devices : ℕ) (table : Table) (old new : Case) : Type 0 where
   pub image : Slots
-  pub differs : DiffersBehind devices table old.image image
+  pub differs : DiffersBeyond devices table old.image image
   pub begins : (new ≡ record { image = image; lost = old.lost }) ⊎ BeginsWith devices table (record { image = image; lost = old.lost }) new

@@ -18,7 +18,7 @@ pub record IsOwnThere (table : Table) (sectors : ℕ → Bytes) (device at : ℕ
   pub in_place : at ≡ place_of table
   pub is : value ≡ sectors device
 
--- A moment while superblocks are brought up since `old`: a stop leaves in each sector what it might have left before, or the table's own
+-- A moment while superblocks are brought up since `old`: a crash leaves in each sector what it might have left before, or the table's own
 -- superblock in its place; the devices are the same; what was down is down, and only a device that the table counts on may have gone down.
 pub record IsBringing (table : Table) (sectors : ℕ → Bytes) (old h : History) : Type 0 where
   pub holds : (device at : ℕ) (value : Bytes) → MayHold h device at value → MayHold old device at value ⊎ IsOwnThere table sectors device at value

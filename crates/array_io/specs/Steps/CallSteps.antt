@@ -16,7 +16,7 @@ use Rattle.superblock.specs.Publishing.{StandsAt, place_of}
 use Rattle.superblock.specs.Tables.{state_at}
 use Rattle.stripe_journal.specs.OneEntry.{StaysOff}
 use Rattle.array_io.specs.Believed.ArrayCalls.{Answer}
-use Rattle.array_io.specs.Believed.Views.{ArrayView, GoesOn, HasEnded, IsTwoLost, StaysButForFalls}
+use Rattle.array_io.specs.Believed.Views.{ArrayView, GoesOn, HasEnded, IsTwoLost, StaysButForFailures}
 
 -- what was down is down
 abbrev pub StaysDown : History → History → Type 0
@@ -32,7 +32,7 @@ pub record CallsOne (honest : Type 0) (device : ℕ) (old_panel new_panel : Pane
   pub cause : (stop : Stop) → result ≡ Err stop → IsCauseOf new_panel stop
   pub named : (other : ℕ) → result ≡ Err (stop.Down other) → other ≡ device
   pub off : honest → StaysOff (λ d. d ≡ device) old new
-  pub none_fell : honest → result ≡ Ok tt → (other : ℕ) → is_down new other ≡ is_down old other
+  pub none_failed : honest → result ≡ Ok tt → (other : ℕ) → is_down new other ≡ is_down old other
   pub runs : honest → Throughout (StaysDown old) old new
   pub front : honest → result ≡ Ok tt → KeepsFront old new
 
@@ -54,7 +54,7 @@ pub record IsPublishedOn (id : List ℕ) (devices : ℕ) (table : Table) (h : Hi
   pub up : is_down h slot ≡ false
   pub is_there : sector_of (seen h slot) (place_of table) ≡ sector
 
--- the table stayed, the superblocks are as they were, and no device fell
+-- the table stayed, the superblocks are as they were, and no device failed
 pub record IsCarriedOn (old new : ArrayView) : Type 0 where
   pub table : new.table ≡ old.table
   pub front : KeepsFront old.history new.history
@@ -70,7 +70,7 @@ pub record IsPublishedAnew (old new : ArrayView) : Type 0 where
 -- What steps promise, for whatever the call began with (`from`): where the run is as `before` says, `holds` is so at each moment, and at Ok the run is as `after` says.
 pub record StepsOf (honest : Type 0) {From : Type 0} (holds : From → History → Type 0) (before after : From → Table → History → Type 0) (old new : ArrayView) (answer : Answer) : Type 0 where
   pub goes_on : GoesOn old new
-  pub stays : StaysButForFalls honest old new (HasEnded answer)
+  pub stays : StaysButForFailures honest old new (HasEnded answer)
   pub number : new.number ≡ old.number
   pub moments : honest → (from : From) → before from old.table old.history → Throughout (holds from) old.history new.history
   pub reached : honest → answer ≡ Ok tt → (from : From) → before from old.table old.history → after from new.table new.history

@@ -6,7 +6,7 @@ use Rattle.layout_map.specs.declared.sizes.TheConstants.{FIRST_ROW}
 use Rattle.superblock.specs.declared.table.Table.{Table}
 use Rattle.superblock.specs.Tables.{state_at}
 use Rattle.superblock.specs.Cases.{Lost}
-use Rattle.superblock.specs.Losses.{IsOneLoss}
+use Rattle.superblock.specs.Losses.{IsSingleFailure}
 use Rattle.superblock.specs.NextTables.{slots_of}
 use Rattle.stripe_journal.specs.declared.seal.Seal.{Seal}
 use Rattle.stripe_journal.specs.Body.{place_by_seal}
@@ -36,8 +36,8 @@ abbrev pub HoldsAll : PutsFrom → History → Type 0
 HoldsAll from h = HoldsNow from.base from.devices from.lost from.lists h
 
 -- it is so if one slot is lost at most
-abbrev pub IfOneLoss : (PutsFrom → Table → History → Type 0) → PutsFrom → Table → History → Type 0
-IfOneLoss state from table h = IsOneLoss (slots_of from.base) from.lost h → state from table h
+abbrev pub IfSingleFailure : (PutsFrom → Table → History → Type 0) → PutsFrom → Table → History → Type 0
+IfSingleFailure state from table h = IsSingleFailure (slots_of from.base) from.lost h → state from table h
 
 -- the set may be written
 abbrev pub MayWrite : PutsFrom → Table → History → Type 0
@@ -96,7 +96,7 @@ pub record IsFormedOn (list_then : List Bytes) (seal : Seal) (body : List Bytes)
 -- a journal on which the table counts has it
 pub record HasSource (journals : ℕ → Progress) (table : Table) : Type 0 where
   pub source : ℕ
-  pub behind : table.geometry.members ≤ source
+  pub beyond : table.geometry.members ≤ source
   pub counted : CountsOn table source
   pub sealed : journals source ≡ HasSeal
 

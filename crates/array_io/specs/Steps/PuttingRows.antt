@@ -66,7 +66,7 @@ pub record WritesRows (table : Table) (of : HeldRows) (member : ℕ) (old new : 
   pub made : Made (row_calls table of member count) (is_ok result) old new
   pub all : result ≡ Ok tt → count ≡ length of.rows
 
--- a stop leaves on the device what reads give
+-- a crash leaves on the device what reads give
 abbrev pub LeavesSeen : History → (device : ℕ) → Type 0
 LeavesSeen h device = (at : ℕ) (value : Bytes) → MayHold h device at value → value ≡ sector_of (seen h device) at
 
@@ -81,7 +81,7 @@ pub record PutsMember (honest : Type 0) (table : Table) (of : HeldRows) (member 
   pub moments : honest → Throughout (IsWriting table (IsRowOn table of member) old) old new
   pub off : honest → StaysOff (λ d. d ≡ member) old new
   pub elsewhere : honest → (at : ℕ) → ((value : Bytes) → ¬ IsRowOn table of member member at value) → sector_of (seen new member) at ≡ sector_of (seen old member) at
-  -- at Ok no device fell, reads give the rows that are put on it, and a stop leaves on it what reads give, if it did so before
-  pub none_fell : honest → result ≡ Ok tt → (device : ℕ) → is_down new device ≡ is_down old device
+  -- at Ok no device failed, reads give the rows that are put on it, and a crash leaves on it what reads give, if it did so before
+  pub none_failed : honest → result ≡ Ok tt → (device : ℕ) → is_down new device ≡ is_down old device
   pub written : honest → result ≡ Ok tt → (i : ℕ) → i < length of.rows → is_put table of member i ≡ true → sector_of (seen new member) (FIRST_ROW + row_at of.rows i) ≡ of.values i member
   pub flushed : honest → result ≡ Ok tt → LeavesSeen old member → LeavesSeen new member

@@ -22,7 +22,7 @@ use Rattle.array_io.specs.Believed.Views.{ArrayView}
 use Rattle.array_io.specs.Steps.CallSteps.{CallsOne, StepsOf}
 use Rattle.array_io.specs.Steps.MarkingOn.{MarksOn}
 use Rattle.array_io.specs.Steps.PuttingRows.{HeldRows, PutsMember}
-use Rattle.array_io.specs.Steps.Putting.{Awaited, HasBody, HasSeal, HoldsAll, IfOneLoss, IsComing, IsPut, IsPutBefore, Origin, Progress, PutsFrom, reached}
+use Rattle.array_io.specs.Steps.Putting.{Awaited, HasBody, HasSeal, HoldsAll, IfSingleFailure, IsComing, IsPut, IsPutBefore, Origin, Progress, PutsFrom, reached}
 
 -- these calls of one device were made, up to the first that is not answered
 pub record PutsCalls (honest : Type 0) (device : ℕ) (calls : List Call) (old_panel new_panel : Panel) (old new : History) (result : Result (Unit {0}) Stop) : Type 0 where
@@ -35,11 +35,11 @@ pub record IsUntouched (old_panel new_panel : Panel) (old_table new_table : Tabl
   pub same_table : new_table ≡ old_table
   pub same_history : new ≡ old
 
--- Calls of one device that ended so are taken over: as answered, or as the end of the count, or the slot whose device fell is marked missing, or that is refused.
-abbrev pub EndsOrMarks : (honest : Type 0) (slot : ℕ) (old_panel new_panel : Panel) (old_table new_table : Table) (old new : History) → Result (Unit {0}) Stop → Answer → Type 0
-EndsOrMarks honest slot old_panel new_panel old_table new_table old new (Ok done) answer = (answer ≡ Ok tt) × IsUntouched old_panel new_panel old_table new_table old new
-EndsOrMarks honest slot old_panel new_panel old_table new_table old new (Err stop.Worn) answer = (answer ≡ Err Worn) × IsUntouched old_panel new_panel old_table new_table old new
-EndsOrMarks honest slot old_panel new_panel old_table new_table old new (Err (stop.Down device)) answer = MarksOn honest slot old_panel new_panel old_table new_table old new answer
+-- Calls of one device that ended so are taken over: as answered, or as the end of the count, or the slot whose device failed is marked missing, or that is refused.
+abbrev pub EndsOrFailsSlot : (honest : Type 0) (slot : ℕ) (old_panel new_panel : Panel) (old_table new_table : Table) (old new : History) → Result (Unit {0}) Stop → Answer → Type 0
+EndsOrFailsSlot honest slot old_panel new_panel old_table new_table old new (Ok done) answer = (answer ≡ Ok tt) × IsUntouched old_panel new_panel old_table new_table old new
+EndsOrFailsSlot honest slot old_panel new_panel old_table new_table old new (Err stop.Worn) answer = (answer ≡ Err Worn) × IsUntouched old_panel new_panel old_table new_table old new
+EndsOrFailsSlot honest slot old_panel new_panel old_table new_table old new (Err (stop.Down device)) answer = MarksOn honest slot old_panel new_panel old_table new_table old new answer
 
 -- the rows of an entry, and the sectors of them that it holds
 abbrev pub rows_held : Entry → HeldRows
@@ -68,7 +68,7 @@ PutsPart honest part.Rows table seal entry slot old_panel new_panel old new resu
 
 -- steps from one state to another, each if one slot is lost at most
 abbrev pub Brings : (honest : Type 0) (before after : PutsFrom → Table → History → Type 0) → ArrayView → ArrayView → Answer → Type 0
-Brings honest before after old new answer = StepsOf honest HoldsAll (IfOneLoss before) (IfOneLoss after) old new answer
+Brings honest before after old new answer = StepsOf honest HoldsAll (IfSingleFailure before) (IfSingleFailure after) old new answer
 
 -- A part of the entry comes onto the slot, or what is said of it is free: the body of a journal that awaits it, the seal of one that has the body, the rows of the next member.
 abbrev pub StepsPart : (honest : Type 0) → Part → Seal → (body : List Bytes) (slot : ℕ) → ArrayView → ArrayView → Answer → Type 0

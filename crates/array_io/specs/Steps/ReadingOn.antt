@@ -20,15 +20,15 @@ use Rattle.array_io.specs.Believed.Settled.{rows_by}
 use Rattle.array_io.specs.Believed.Views.{view_of}
 use Rattle.array_io.specs.Steps.Writable.{IsWritable}
 
--- the value of a member in a row was read, by the table, and no device fell
+-- the value of a member in a row was read, by the table, and no device failed
 pub record IsValueRead (honest : Type 0) (table : Table) (member row : ℕ) (old_panel new_panel : Panel) (old new : History) (to : Bytes) : Type 0 where
   pub later : IsLater old_panel new_panel
   pub reads : honest → HasRead old new
   pub stays : honest → (device : ℕ) → is_down new device ≡ is_down old device
   pub gives : honest → to ≡ value (rows_by table (readable old)) row member
 
--- a device fell that the table counts on, in reads of which nothing came, and its slot was marked missing, or that was refused
-pub record IsFallMarked (honest : Type 0) (table new_table : Table) (old_panel new_panel : Panel) (old new : History) (answer : Answer) : Type 0 where
+-- a device failed that the table counts on, in reads of which nothing came, and its slot was marked missing, or that was refused
+pub record IsFailureMarked (honest : Type 0) (table new_table : Table) (old_panel new_panel : Panel) (old new : History) (answer : Answer) : Type 0 where
   pub slot : ℕ
   pub counted : CountsOn table slot
   pub mid_panel : Panel
@@ -45,12 +45,12 @@ pub record IsReadWorn (honest : Type 0) (old_panel new_panel : Panel) (old new :
   pub reads : honest → HasRead old new
   pub stays : honest → (device : ℕ) → is_down new device ≡ is_down old device
 
--- The value is read (`true`), or a device fell and its slot is marked missing (`false`), or that is refused, or no further call can be counted.
-abbrev pub ReadsOrMarks : (honest : Type 0) (table new_table : Table) (member row : ℕ) (old_panel new_panel : Panel) (old new : History) (to : Bytes) → Result Bool Refusal → Type 0
-ReadsOrMarks honest table new_table member row old_panel new_panel old new to result =
+-- The value is read (`true`), or a device failed and its slot is marked missing (`false`), or that is refused, or no further call can be counted.
+abbrev pub ReadsOrFailsSlot : (honest : Type 0) (table new_table : Table) (member row : ℕ) (old_panel new_panel : Panel) (old new : History) (to : Bytes) → Result Bool Refusal → Type 0
+ReadsOrFailsSlot honest table new_table member row old_panel new_panel old new to result =
     ((result ≡ Ok true) × (new_table ≡ table) × IsValueRead honest table member row old_panel new_panel old new to)
-    ⊎ ((result ≡ Ok false) × IsFallMarked honest table new_table old_panel new_panel old new (Ok tt))
-    ⊎ ((refusal : Refusal) × (result ≡ Err refusal) × IsFallMarked honest table new_table old_panel new_panel old new (Err refusal))
+    ⊎ ((result ≡ Ok false) × IsFailureMarked honest table new_table old_panel new_panel old new (Ok tt))
+    ⊎ ((refusal : Refusal) × (result ≡ Err refusal) × IsFailureMarked honest table new_table old_panel new_panel old new (Err refusal))
     ⊎ ((result ≡ Err Worn) × (new_table ≡ table) × IsReadWorn honest old_panel new_panel old new)
 
 -- where a call began that keeps the list: the table and what was lost then, and the list

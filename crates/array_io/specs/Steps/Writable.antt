@@ -4,7 +4,7 @@ use Rattle.sector_model.specs.History.{Bytes, History}
 use Rattle.sector_model.specs.Readable.{readable}
 use Rattle.superblock.specs.declared.table.Table.{Table}
 use Rattle.superblock.specs.Cases.{Lost}
-use Rattle.superblock.specs.Losses.{IsOneLoss}
+use Rattle.superblock.specs.Losses.{IsSingleFailure}
 use Rattle.superblock.specs.NextTables.{IsOut, slots_of}
 use Rattle.array_io.specs.Steps.EntryAtRest.{HasEntryAtRest}
 use Rattle.array_io.specs.Steps.Writing.{WritesFrom}
@@ -14,5 +14,5 @@ use Rattle.array_io.specs.Steps.Writing.{WritesFrom}
 pub record IsWritable (devices number : ℕ) (base table : Table) (lost : Option Lost) (V : List Bytes) (h : History) : Type 0 where
   pub from : WritesFrom devices base table lost (V ∷ []) h
   pub entry : HasEntryAtRest devices table number (readable h)
-  pub one_loss : IsOneLoss (slots_of base) lost h
+  pub single_failure : IsSingleFailure (slots_of base) lost h
   pub lost_out : (one : Lost) → lost ≡ Some one → IsOut table one.slot

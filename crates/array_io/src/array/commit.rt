@@ -15,7 +15,7 @@ use stripe_journal::{Entry, Seal};
 use superblock::Table;
 
 impl<B: Bank> Array<B> {
-    /// Writes these logical sectors, 1 to 32 distinct ones below the set's data sectors (conditions): at each moment a stop
+    /// Writes these logical sectors, 1 to 32 distinct ones below the set's data sectors (conditions): at each moment a crash
     /// leaves all of them as they were or all as given, and after `Ok` as given. They are one entry of the journal, which holds of
     /// each row the sectors that change, the given ones and the parity: each of these is written once to each journal and
     /// once to its member, each seal once, and each device that was written is flushed once after its body, once after its
@@ -41,7 +41,7 @@ impl<B: Bank> Array<B> {
     }
 }
 
-// The seal of an entry, with the number behind this one.
+// The seal of an entry, with the number after this one.
 fn next_seal(table: &Table, number: u64, entry: &Entry) -> Seal
     requires room { number < GREATEST_COUNT }
     requires least { 1 ≤ length (numbers_of entry.now) }

@@ -10,7 +10,7 @@ ghost use Rattle.superblock.specs.NextTables.{slots_of};
 ghost use Rattle.array_io.specs.Believed.OpenArray.{array_on};
 ghost use Rattle.array_io.specs.Believed.Views.{HasItsSlots};
 ghost use Rattle.array_io.specs.Steps.Bringing.{CountsOn};
-ghost use Rattle.array_io.specs.Steps.PuttingSteps.{EndsOrMarks, FitsPart, HasItsRows, PutsCalls, PutsPart, StepsJournal, StepsJournals, StepsMembers, StepsPart};
+ghost use Rattle.array_io.specs.Steps.PuttingSteps.{EndsOrFailsSlot, FitsPart, HasItsRows, PutsCalls, PutsPart, StepsJournal, StepsJournals, StepsMembers, StepsPart};
 
 use super::mark_slot;
 use crate::member_rows::put_member;
@@ -31,9 +31,9 @@ pub(crate) enum Part {
 }
 
 /// Puts an entry on both journals of a set that lack it: its body on each, and, once it is safe there, its seal. A journal whose
-/// device goes down is marked missing, and one that the table calls missing is passed over. Refused as `part_or_mark` is.
+/// device goes down is marked missing, and one that the table calls missing is passed over. Refused as `part_or_fail_slot` is.
 ///
-/// The set's slots are as `part_or_mark` asks (condition).
+/// The set's slots are as `part_or_fail_slot` asks (condition).
 pub(crate) fn put_on_journals<B: Bank>(
     bank: &mut B,
     table: &mut Table,
@@ -48,16 +48,16 @@ pub(crate) fn put_on_journals<B: Bank>(
         (array_on B.Bank bank.old table.old number) (array_on B.Bank bank.new table.new number) result }
 {
     let first = table.geometry.members;
-    part_or_mark(bank, table, seal, entry, first, Part::Body)?;
-    part_or_mark(bank, table, seal, entry, first + 1, Part::Body)?;
-    part_or_mark(bank, table, seal, entry, first, Part::Seal)?;
-    part_or_mark(bank, table, seal, entry, first + 1, Part::Seal)
+    part_or_fail_slot(bank, table, seal, entry, first, Part::Body)?;
+    part_or_fail_slot(bank, table, seal, entry, first + 1, Part::Body)?;
+    part_or_fail_slot(bank, table, seal, entry, first, Part::Seal)?;
+    part_or_fail_slot(bank, table, seal, entry, first + 1, Part::Seal)
 }
 
 /// Puts an entry on one journal that lacks it, while the other one has it: its body, and, once it is safe there, its seal. Where its
-/// device goes down, or the table calls it missing, it goes as with `part_or_mark`, and that says how this is refused.
+/// device goes down, or the table calls it missing, it goes as with `part_or_fail_slot`, and that says how this is refused.
 ///
-/// The slot is a journal of the set, and the set's slots are as `part_or_mark` asks (conditions).
+/// The slot is a journal of the set, and the set's slots are as `part_or_fail_slot` asks (conditions).
 pub fn put_on_journal<B: Bank>(
     bank: &mut B,
     table: &mut Table,
@@ -67,22 +67,22 @@ pub fn put_on_journal<B: Bank>(
 ) -> Result<(), Refusal>
     requires its_slots { HasItsSlots table.old (B.panel bank.old) }
     requires of_set { journal < slots_of table.old }
-    requires behind { table.old.geometry.members ≤ journal }
+    requires beyond { table.old.geometry.members ≤ journal }
     ensures honest { B.honest bank.old ↔ B.honest bank.new }
     ensures its_slots { HasItsSlots table.new (B.panel bank.new) }
     ensures geometry { table.new.geometry ≡ table.old.geometry }
     ensures steps { (number : ℕ) → StepsJournal (B.honest bank.old) seal.now (body_of table.old.geometry.members entry.now) journal
         (array_on B.Bank bank.old table.old number) (array_on B.Bank bank.new table.new number) result }
 {
-    part_or_mark(bank, table, seal, entry, journal, Part::Body)?;
-    part_or_mark(bank, table, seal, entry, journal, Part::Seal)
+    part_or_fail_slot(bank, table, seal, entry, journal, Part::Body)?;
+    part_or_fail_slot(bank, table, seal, entry, journal, Part::Seal)
 }
 
 /// Puts the rows of an entry that is safe on the journals on each member in turn: of a commit, and of the last entry when a set is
 /// assembled. A member whose device goes down is marked missing, and one that the table calls missing is passed over. Refused as
-/// `part_or_mark` is.
+/// `part_or_fail_slot` is.
 ///
-/// The entry's rows are those of the seal, and rows of the set, and the set's slots are as `part_or_mark` asks (conditions).
+/// The entry's rows are those of the seal, and rows of the set, and the set's slots are as `part_or_fail_slot` asks (conditions).
 pub fn put_on_members<B: Bank>(
     bank: &mut B,
     table: &mut Table,
@@ -97,7 +97,7 @@ pub fn put_on_members<B: Bank>(
         (array_on B.Bank bank.old table.old number) (array_on B.Bank bank.new table.new number) result }
 {
     for member in 0..table.geometry.members {
-        part_or_mark(bank, table, seal, entry, member, Part::Rows)?;
+        part_or_fail_slot(bank, table, seal, entry, member, Part::Rows)?;
     }
     Ok(())
 }
@@ -107,7 +107,7 @@ pub fn put_on_members<B: Bank>(
 ///
 /// The slot is a journal, or for the rows a member; the entry's rows are then those of the seal, and rows of the set. The set's slots
 /// are slots of the bank, each long enough where it is up, and where the table does not call it missing (conditions).
-pub(crate) fn part_or_mark<B: Bank>(
+pub(crate) fn part_or_fail_slot<B: Bank>(
     bank: &mut B,
     table: &mut Table,
     seal: &Seal,
@@ -129,11 +129,11 @@ pub(crate) fn part_or_mark<B: Bank>(
         return Ok(());
     }
     let done = put_part(bank, table, seal, entry, slot, part);
-    done_or_mark(bank, table, slot, done)
+    done_or_fail_slot(bank, table, slot, done)
 }
 
 // Puts a part of an entry on a slot, and makes it safe there by one flush. `Stop::Down` names the slot, `Stop::Worn` says that the
-// count of device calls stands at 2^62. The table does not call the slot missing; else the conditions are as of `part_or_mark`.
+// count of device calls stands at 2^62. The table does not call the slot missing; else the conditions are as of `part_or_fail_slot`.
 fn put_part<B: Bank>(
     bank: &mut B,
     table: &Table,
@@ -159,8 +159,8 @@ fn put_part<B: Bank>(
 /// Takes over how calls of one slot's device ended: where it went down, its slot is marked missing, or that is refused as
 /// `mark_slot` is; `Worn` where no further call could be counted.
 ///
-/// The slot is one of the set, and the set's slots are as `part_or_mark` asks (conditions).
-pub fn done_or_mark<B: Bank>(
+/// The slot is one of the set, and the set's slots are as `part_or_fail_slot` asks (conditions).
+pub fn done_or_fail_slot<B: Bank>(
     bank: &mut B,
     table: &mut Table,
     slot: u8,
@@ -171,7 +171,7 @@ pub fn done_or_mark<B: Bank>(
     ensures honest { B.honest bank.old ↔ B.honest bank.new }
     ensures its_slots { HasItsSlots table.new (B.panel bank.new) }
     ensures geometry { table.new.geometry ≡ table.old.geometry }
-    ensures ends { EndsOrMarks (B.honest bank.old) slot (B.panel bank.old) (B.panel bank.new) table.old table.new
+    ensures ends { EndsOrFailsSlot (B.honest bank.old) slot (B.panel bank.old) (B.panel bank.new) table.old table.new
         (B.history bank.old) (B.history bank.new) done result }
 {
     match done {

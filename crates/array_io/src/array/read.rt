@@ -4,8 +4,8 @@ ghost use Rattle.sector_model.specs.Readable.{readable};
 ghost use Rattle.layout_map.specs.Placement.{data_sectors_of, rows_of};
 ghost use Rattle.degraded.specs.RowValue.{value};
 ghost use Rattle.array_io.specs.Believed.ArrayCalls.{Reads};
-ghost use Rattle.array_io.specs.Believed.ReadWhole.{NoneFell, ReadsValue, ReadsWhole};
-ghost use Rattle.array_io.specs.Steps.ReadingOn.{KeepsOn, ReadsOrMarks};
+ghost use Rattle.array_io.specs.Believed.ReadWhole.{NoDeviceFailed, ReadsValue, ReadsWhole};
+ghost use Rattle.array_io.specs.Steps.ReadingOn.{KeepsOn, ReadsOrFailsSlot};
 ghost use Rattle.array_io.specs.Believed.Settled.{rows_by};
 ghost use Rattle.array_io.specs.Believed.Views.{HasItsSlots};
 ghost use Rattle.array_io.specs.Believed.OpenArray.{IsHonest, array_view};
@@ -28,7 +28,7 @@ impl<B: Bank> Array<B> {
         requires { logical < data_sectors_of self.old.table.geometry.members self.old.table.geometry.chunk self.old.table.geometry.stripes }
         ensures honest { IsHonest self.old ↔ IsHonest self.new }
         ensures reads { Reads (IsHonest self.old) logical (array_view self.old) (array_view self.new) to.new result }
-        ensures whole { IsHonest self.old → OnOk result (NoneFell (B.panel self.old.bank) (B.panel self.new.bank)
+        ensures whole { IsHonest self.old → OnOk result (NoDeviceFailed (B.panel self.old.bank) (B.panel self.new.bank)
             → ReadsWhole logical (array_view self.old) (array_view self.new) to.new) }
     {
         let place = self.table.geometry.place(logical);
@@ -37,8 +37,8 @@ impl<B: Bank> Array<B> {
 }
 
 /// Reads a member's value in a row. A device that goes down meanwhile is marked missing, and the value is read without
-/// it. Refused with `TwoLost` where a second slot is lost, and with `Worn` as `value_or_mark` is; `to` may then hold
-/// anything. The conditions are those of `value_or_mark`.
+/// it. Refused with `TwoLost` where a second slot is lost, and with `Worn` as `value_or_fail_slot` is; `to` may then hold
+/// anything. The conditions are those of `value_or_fail_slot`.
 pub(crate) fn read_value<B: Bank>(
     bank: &mut B,
     table: &mut Table,
@@ -53,13 +53,13 @@ pub(crate) fn read_value<B: Bank>(
     ensures its_slots { HasItsSlots table.new (B.panel bank.new) }
     ensures steps { KeepsOn (B.honest bank.old) table.old table.new (B.panel bank.old) (B.panel bank.new) (B.history bank.old) (B.history bank.new) result }
     ensures gives { B.honest bank.old → OnOk result (to.new ≡ value (rows_by table.new (readable (B.history bank.new))) row member) }
-    ensures whole { B.honest bank.old → OnOk result (NoneFell (B.panel bank.old) (B.panel bank.new)
+    ensures whole { B.honest bank.old → OnOk result (NoDeviceFailed (B.panel bank.old) (B.panel bank.new)
         → ReadsValue table.old table.new member row (B.history bank.old) (B.history bank.new) to.new) }
 {
-    if value_or_mark(bank, table, member, row, to)? {
+    if value_or_fail_slot(bank, table, member, row, to)? {
         return Ok(());
     }
-    if value_or_mark(bank, table, member, row, to)? {
+    if value_or_fail_slot(bank, table, member, row, to)? {
         return Ok(());
     }
     Err(Refusal::TwoLost)
@@ -76,7 +76,7 @@ pub(crate) fn read_value<B: Bank>(
 ///
 /// The member and the row are of the set; the set's slots are slots of the bank, and each that the table does not call
 /// missing is long enough where it is up (conditions).
-pub fn value_or_mark<B: Bank>(
+pub fn value_or_fail_slot<B: Bank>(
     bank: &mut B,
     table: &mut Table,
     member: u8,
@@ -88,7 +88,7 @@ pub fn value_or_mark<B: Bank>(
     requires row { row < rows_of table.old.geometry.chunk table.old.geometry.stripes }
     ensures honest { B.honest bank.old ↔ B.honest bank.new }
     ensures its_slots { HasItsSlots table.new (B.panel bank.new) }
-    ensures reads { ReadsOrMarks (B.honest bank.old) table.old table.new member row (B.panel bank.old) (B.panel bank.new)
+    ensures reads { ReadsOrFailsSlot (B.honest bank.old) table.old table.new member row (B.panel bank.old) (B.panel bank.new)
         (B.history bank.old) (B.history bank.new) to.new result }
 {
     match read_member(bank, &live_of(table), member, row, to) {

@@ -1,6 +1,6 @@
-//! Device calls on a set of 3 members as lists, and what the stops among them are asked.
+//! Device calls on a set of 3 members as lists, and what the crashes among them are asked.
+use super::crashes::{Wanted, crash_holds, first_bad_crash, image_at, members_hold};
 use super::steps::{Put, check_table, made_with};
-use super::stops::{Wanted, first_bad_stop, image_at, members_hold, stop_holds};
 use crate::testing::{
     BLANK, Row, Slots, all, bank_of, entry_of, holds, put, same, seal, superblock,
 };
@@ -30,17 +30,17 @@ pub(crate) enum Call {
     Flush(u8),
 }
 
-/// What the stops among the calls are asked.
+/// What the crashes among the calls are asked.
 pub(crate) enum Asked {
     /// So many device calls were made.
     Calls(u64),
-    /// The number of calls of the first stop that may leave a case which is not as wanted, if there is one.
+    /// The number of calls of the first crash that may leave a case which is not as wanted, if there is one.
     FirstBad(Wanted, Option<u64>),
-    /// Whether a stop after so many calls leaves what is wanted.
+    /// Whether a crash after so many calls leaves what is wanted.
     Stop(u64, Wanted, bool),
     /// Whether the members alone show what is wanted once all calls are done.
     Members(Wanted, bool),
-    /// The generation and the slots of the table of the image that a stop after so many calls may leave.
+    /// The generation and the slots of the table of the image that a crash after so many calls may leave.
     Table(u64, Choice, u8, Slots),
     /// The same once the superblock in place 1 of slot 2 is gone.
     TableWithout2(u64, Choice, u8, Slots),
@@ -102,35 +102,35 @@ fn make_each(rt: &(impl Abort + AllocGlobal), bank: &mut MemBank, calls: &[Call]
     }
 }
 
-// Asks for the table of the image that a stop leaves, without the superblock in place 1 of slot 2 where that is so.
-fn check_stop_table(
+// Asks for the table of the image that a crash leaves, without the superblock in place 1 of slot 2 where that is so.
+fn check_crash_table(
     rt: &(impl Abort + AllocGlobal),
     bank: &MemBank,
-    stop: (u64, Choice),
+    crash: (u64, Choice),
     table: (u8, &Slots),
     is_without_2: bool,
 ) {
-    let mut image = image_at(rt, bank, stop.0, stop.1);
+    let mut image = image_at(rt, bank, crash.0, crash.1);
     if is_without_2 {
         put(rt, &mut image, 2, 1, &BLANK);
     }
-    check_table(rt, &image, stop.0, table.0, table.1);
+    check_table(rt, &image, crash.0, table.0, table.1);
 }
 
 fn ask(rt: &(impl Abort + AllocGlobal), bank: &MemBank, asked: &Asked) {
     match asked {
         Asked::Calls(calls) => same(rt, bank.now(), *calls),
-        Asked::FirstBad(wanted, call) => same(rt, first_bad_stop(rt, bank, wanted), *call),
+        Asked::FirstBad(wanted, call) => same(rt, first_bad_crash(rt, bank, wanted), *call),
         Asked::Stop(call, wanted, is_so) => {
-            let got = stop_holds(rt, bank, *call, wanted);
-            holds(rt, "stop after call", (*call, 0), got == *is_so);
+            let got = crash_holds(rt, bank, *call, wanted);
+            holds(rt, "crash after call", (*call, 0), got == *is_so);
         }
         Asked::Members(wanted, is_so) => same(rt, members_hold(rt, bank, wanted), *is_so),
         Asked::Table(call, choice, generation, slots) => {
-            check_stop_table(rt, bank, (*call, *choice), (*generation, slots), false);
+            check_crash_table(rt, bank, (*call, *choice), (*generation, slots), false);
         }
         Asked::TableWithout2(call, choice, generation, slots) => {
-            check_stop_table(rt, bank, (*call, *choice), (*generation, slots), true);
+            check_crash_table(rt, bank, (*call, *choice), (*generation, slots), true);
         }
     }
 }

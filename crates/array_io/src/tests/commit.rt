@@ -1,7 +1,7 @@
-//! Stops in the device calls of a commit of one logical sector, in the right order and in wrong ones.
+//! Crashes in the device calls of a commit of one logical sector, in the right order and in wrong ones.
 use super::calls::{Asked, Call, check};
+use super::crashes::{ANY, Logical, Wanted};
 use super::steps::Put;
-use super::stops::{ANY, Logical, Wanted};
 
 // Any slot may be out, and the logical sectors are the old ones, the new ones, or either.
 const ALL_OLD: Wanted = Wanted {
@@ -58,7 +58,7 @@ const COMMIT_ASKS: &[Asked] = &[
 ];
 
 #[test]
-fn commit_holds_at_each_stop(rt: HostRuntime) {
+fn commit_holds_at_each_crash(rt: HostRuntime) {
     check(&rt, USED, COMMIT, COMMIT_ASKS);
 }
 

@@ -1,9 +1,9 @@
-//! Stops in the device calls that bring an entry from one journal to the other and then to the members, as after a stop
+//! Crashes in the device calls that bring an entry from one journal to the other and then to the members, as after a crash
 //! between two seals.
 use super::calls::{Asked, Call, check};
 use super::commit::{ALL_NEW, EITHER};
+use super::crashes::{Logical, Wanted};
 use super::steps::Put;
-use super::stops::{Logical, Wanted};
 use crate::testing::WITHOUT_0;
 
 // A set with two entries, in which the entry of the new row stands on slot 3 alone, body and seal.
@@ -60,7 +60,7 @@ const COPY_ASKS: &[Asked] = &[
 ];
 
 #[test]
-fn copied_entry_is_last_at_each_stop(rt: HostRuntime) {
+fn copied_entry_is_last_at_each_crash(rt: HostRuntime) {
     check(&rt, ON_ONE, COPY, COPY_ASKS);
 }
 

@@ -1,8 +1,8 @@
-//! Stops in the device calls that publish a table: each case chooses the old table, or the new one.
+//! Crashes in the device calls that publish a table: each case chooses the old table, or the new one.
 use super::calls::{Asked, Call, check};
 use super::commit::USED;
+use super::crashes::{Logical, Wanted};
 use super::steps::Put;
-use super::stops::{Logical, Wanted};
 use crate::testing::{Slots, WHOLE, WITHOUT_2, WITHOUT_4};
 use sector_model::Choice;
 
@@ -45,7 +45,7 @@ const PUBLISH_ASKS: &[Asked] = &[
 ];
 
 #[test]
-fn publish_chooses_one_table_at_each_stop(rt: HostRuntime) {
+fn publish_chooses_one_table_at_each_crash(rt: HostRuntime) {
     check(&rt, USED, PUBLISH, PUBLISH_ASKS);
 }
 

@@ -1,7 +1,7 @@
-//! Stops in the device calls of a step of 64 rows of a rebuild: the logical sectors stay.
+//! Crashes in the device calls of a step of 64 rows of a rebuild: the logical sectors stay.
 use super::calls::{Asked, Call, check};
+use super::crashes::{Logical, Wanted};
 use super::steps::Put;
-use super::stops::{Logical, Wanted};
 use crate::testing::{Slots, WITHOUT_0};
 
 // Slot 0 with its second device, rebuilding: no row of it counts, or the first 64.

@@ -21,8 +21,8 @@ pub returns-in-NotOpened : goal.returns-in-NotOpened
 returns-in-NotOpened g c =
     let wrote = c.write_slot_line-in-NotOpened in
     let words = c.words_of.ensures.words in
-    rw c.in-NotOpened.is (subst (λ (behind : List ℕ). WritesText (g.E.Write.contents c.args.err.now) (g.E.Write.contents wrote.new.writer)
-    (slot_line (codes "cannot open ") c.in-NotOpened.slot behind) wrote.result) words
+    rw c.in-NotOpened.is (subst (λ (beyond : List ℕ). WritesText (g.E.Write.contents c.args.err.now) (g.E.Write.contents wrote.new.writer)
+    (slot_line (codes "cannot open ") c.in-NotOpened.slot beyond) wrote.result) words
     (record { ok = wrote.ensures.ok; part = wrote.ensures.part; kind = wrote.ensures.kind }))
 
 pub returns-in-OtherSet : goal.returns-in-OtherSet

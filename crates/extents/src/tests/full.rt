@@ -9,7 +9,7 @@ fn name_of(number: u8) -> [u8; 63] {
     name
 }
 
-// Writes the record of a volume, of 1,024 blocks: 63, the name, and the blocks behind that.
+// Writes the record of a volume, of 1,024 blocks: 63, the name, and the blocks after that.
 fn put_record(sector: &mut Sector, at: usize, number: u8) {
     put(sector, at, &[63]);
     put(sector, at.saturating_add(1), &name_of(number));

@@ -9,7 +9,7 @@ use array_io::Array;
 use layout_map::Geometry;
 use recovery::make;
 use sector_model::{Bank, Refusal};
-use set_commands::{Meter, Watched};
+use set_commands::{Meter, ProgressBank};
 use stripe_journal::Entry;
 
 /// Makes a set of this id and geometry on the bank's first `members + 2` slots, whatever they held.
@@ -32,7 +32,7 @@ pub fn make_on<B: Bank + Drop>(
 }
 
 /// Makes a set as `make_on` does, shows on a meter how far that is, and gives the bank up.
-pub fn make_watched<B: Bank + Drop, M: Meter>(
+pub fn make_with_progress<B: Bank + Drop, M: Meter>(
     bank: B,
     meter: &M,
     entry: Entry,
@@ -42,6 +42,11 @@ pub fn make_watched<B: Bank + Drop, M: Meter>(
     ensures made { OnOk result (MakesOn (B.honest bank) id geometry (bank_seen B.Bank bank)) }
     ensures err { IfErr result IsMakingRefusal }
 {
-    make_on(Watched::over(bank, meter, &geometry), entry, id, geometry)?;
+    make_on(
+        ProgressBank::over(bank, meter, &geometry),
+        entry,
+        id,
+        geometry,
+    )?;
     Ok(())
 }

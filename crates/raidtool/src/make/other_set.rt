@@ -1,8 +1,8 @@
-//! Whether a slot behind a set that is to be made has a superblock of the same id.
+//! Whether a slot after a set that is to be made has a superblock of the same id.
 ghost use Rattle.std.specs.Prelude.{◌≡◌, ◌<◌, ◌≤◌, IfErr, IfOk, IfSome, None, Ok, OnOk};
 ghost use Rattle.sector_model.specs.declared.refusal.Refusal.TheVariants.{Worn};
 ghost use Rattle.recovery.specs.SeenBank.{bank_seen};
-ghost use Rattle.raidtool.specs.OtherSets.{LooksBehind, RefusesOther};
+ghost use Rattle.raidtool.specs.OtherSets.{InspectsBeyond, RefusesOther};
 
 use device_files::FolderFault;
 use recovery::newest_at;
@@ -19,7 +19,7 @@ pub(super) fn refuse_other<B: Bank>(
     id: &[u8; 16],
     first: u8,
 ) -> Result<(), FolderFault>
-    ensures none { OnOk result (LooksBehind (B.honest bank.old) id.now first (bank_seen B.Bank bank.old) (bank_seen B.Bank bank.new) (Ok None)) }
+    ensures none { OnOk result (InspectsBeyond (B.honest bank.old) id.now first (bank_seen B.Bank bank.old) (bank_seen B.Bank bank.new) (Ok None)) }
     ensures fault { IfErr result (RefusesOther (B.honest bank.old) id.now first (bank_seen B.Bank bank.old) (bank_seen B.Bank bank.new)) }
 {
     match other_set(bank, id, first)? {
@@ -31,7 +31,7 @@ pub(super) fn refuse_other<B: Bank>(
 // The lowest slot from this one on in which a superblock of this id counts, if there is one.
 fn other_set<B: Bank>(bank: &mut B, id: &[u8; 16], first: u8) -> Result<Option<u8>, Refusal>
     ensures found { IfOk result (λ other. IfSome other (λ slot. (first ≤ slot) × (slot < (B.panel bank.old).devices))) }
-    ensures looks { LooksBehind (B.honest bank.old) id.now first (bank_seen B.Bank bank.old) (bank_seen B.Bank bank.new) result }
+    ensures inspections { InspectsBeyond (B.honest bank.old) id.now first (bank_seen B.Bank bank.old) (bank_seen B.Bank bank.new) result }
     ensures err { IfErr result (λ refusal. refusal ≡ Worn) }
 {
     for slot in first..bank.devices() {

@@ -125,7 +125,7 @@ fn a_journal_that_is_too_short(rt: HostRuntime) {
     over_folder(&rt, rt.process(), "replace_journal", A_JOURNAL_A_BYTE_SHORT);
 }
 
-// The bytes behind the sectors of the set stay, and so do those that belong to nothing.
+// The bytes after the sectors of the set stay, and so do those that belong to nothing.
 static FILES_THAT_ARE_LONG_ENOUGH: &[Step] = &[
     Line(MAKE, UNREAD, 0, MADE),
     Keep,

@@ -1,4 +1,4 @@
-//! Looks at sets, over real files, which stay as they are.
+//! Inspections of sets, over real files, which stay as they are.
 use crate::testing::folder::Step::{Cut, Keep, Kept, Line, Take};
 use crate::testing::folder::{FAIL_0, MAKE, REPLACE_0, RUN, Step, UNREAD, over_folder};
 use crate::testing::streams::WHOLE;
@@ -68,7 +68,7 @@ generation 3 position 0 left 4
 would assemble: slot 0 rebuilding at 0
 ";
 
-// A second slot is out, so that assembling would be refused; the look is not.
+// A second slot is out, so that assembling would be refused; the inspection is not.
 const TWO_OUT: &str = "\
 set 000102030405060708090a0b0c0d0e0f
 members 3 chunk 8 stripes 32 rows 256
@@ -81,7 +81,7 @@ generation 3 position 0 left 4
 refused 15 TwoLost
 ";
 
-static A_SET_THAT_IS_LOOKED_AT: &[Step] = &[
+static A_SET_THAT_IS_INSPECTED: &[Step] = &[
     Line(EXAMINE, UNREAD, 1, NO_SET),
     Line(MAKE, UNREAD, 0, MADE),
     Keep,
@@ -114,7 +114,7 @@ static A_SET_THAT_IS_LOOKED_AT: &[Step] = &[
 ];
 
 // What is told is cut off where standard output fails.
-static A_LOOK_THAT_IS_CUT_OFF: &[Step] = &[
+static AN_INSPECTION_THAT_IS_CUT_OFF: &[Step] = &[
     Line(MAKE, UNREAD, 0, MADE),
     Keep,
     Cut(
@@ -127,11 +127,16 @@ static A_LOOK_THAT_IS_CUT_OFF: &[Step] = &[
 ];
 
 #[test]
-fn a_set_that_is_looked_at(rt: HostRuntime) {
-    over_folder(&rt, rt.process(), "examine", A_SET_THAT_IS_LOOKED_AT);
+fn a_set_that_is_inspected(rt: HostRuntime) {
+    over_folder(&rt, rt.process(), "examine", A_SET_THAT_IS_INSPECTED);
 }
 
 #[test]
-fn a_look_that_is_cut_off(rt: HostRuntime) {
-    over_folder(&rt, rt.process(), "examine_cut", A_LOOK_THAT_IS_CUT_OFF);
+fn an_inspection_that_is_cut_off(rt: HostRuntime) {
+    over_folder(
+        &rt,
+        rt.process(),
+        "examine_cut",
+        AN_INSPECTION_THAT_IS_CUT_OFF,
+    );
 }

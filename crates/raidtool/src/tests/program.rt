@@ -357,7 +357,7 @@ fn an_output_that_is_closed(rt: HostRuntime) {
     over_folder(&rt, rt.process(), "closed_output", AN_OUTPUT_THAT_IS_CLOSED);
 }
 
-// The reader fails behind two lines and a part of the third, of which the newline is left with the line behind it, and
+// The reader fails after two lines and a part of the third, of which the newline is left with the line after it, and
 // the output within the second reply, where the third line is left.
 static FAULTS_IN_THE_MIDDLE_OF_A_SCRIPT: &[Step] = &[
     Line(MAKE, UNREAD, 0, MADE),

@@ -63,7 +63,7 @@ fn renames_without_a_member(rt: HostRuntime) {
 }
 
 // A name of 25 letters, which only a table of version 2 takes. The last rename is done, though that cannot be told.
-static RENAMES_BEHIND_AN_UPGRADE: &[Step] = &[
+static RENAMES_AFTER_AN_UPGRADE: &[Step] = &[
     Line(MAKE, UNREAD, 0, MADE),
     Line(
         RUN,
@@ -88,11 +88,11 @@ static RENAMES_BEHIND_AN_UPGRADE: &[Step] = &[
 ];
 
 #[test]
-fn renames_behind_an_upgrade(rt: HostRuntime) {
+fn renames_after_an_upgrade(rt: HostRuntime) {
     over_folder(
         &rt,
         rt.process(),
         "renamed_upgraded",
-        RENAMES_BEHIND_AN_UPGRADE,
+        RENAMES_AFTER_AN_UPGRADE,
     );
 }

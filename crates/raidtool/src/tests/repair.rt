@@ -16,7 +16,7 @@ const JSON: &str = "status|@|--id|H|--json";
 
 const STEPS_2: &str = "rebuild|@|--id|H|--steps|2";
 
-// Logical sectors 80 and 400 lie in rows 40 and 200: behind the first step's rows and before them.
+// Logical sectors 80 and 400 lie in rows 40 and 200: after the first step's rows and before them.
 static REBUILD_UNDER_WRITES: &[Step] = &[
     Line(MAKE, UNREAD, 0, MADE),
     Line(RUN, "create a 448\n", 0, OK),

@@ -176,7 +176,7 @@ fn replies_to_reads_leave_together(rt: HostRuntime) {
     sends(&rt, &mut store, PARTS, None, (Ok(()), true), (all, 6));
 }
 
-// The second write has the replies to the second part's first lines: the line behind them is not done, and nothing more leaves, though a further write would.
+// The second write has the replies to the second part's first lines: the line after them is not done, and nothing more leaves, though a further write would.
 #[test]
 fn replies_that_can_not_leave_end_the_script(rt: HostRuntime) {
     let mut store = fresh_store(&rt);
@@ -203,7 +203,7 @@ fn replies_leave_before_a_rename(rt: HostRuntime) {
 
 // Where they can't leave, the rename is not done.
 #[test]
-fn a_rename_behind_replies_that_can_not_leave(rt: HostRuntime) {
+fn a_rename_after_replies_that_can_not_leave(rt: HostRuntime) {
     let mut store = fresh_store(&rt);
     let none = (b"".as_slice(), 1);
     sends(&rt, &mut store, RENAMING, Some(0), (Ok(()), false), none);

@@ -181,8 +181,8 @@ fn check_done(rt: &(impl Abort + AllocGlobal), case: &Case, counters: Counters) 
     check_list(rt, (3, 0), &mut again, &known.list);
 }
 
-// The own device falls as the last that gets the table with the last generation, so its slot can't be marked missing.
-fn check_fall_as_last(rt: &(impl Abort + AllocGlobal), case: &Case) {
+// The own device fails as the last that gets the table with the last generation, so its slot can't be marked missing.
+fn check_failure_as_last(rt: &(impl Abort + AllocGlobal), case: &Case) {
     let last = Counters {
         generation: LIMIT - 1,
         incarnation: None,
@@ -208,8 +208,8 @@ fn check_afterwards(rt: &(impl Abort + AllocGlobal), bank: &MemBank, list: &[u8]
 }
 
 #[test]
-fn a_fall_at_the_last_generation(rt: HostRuntime) {
+fn a_failure_at_the_last_generation(rt: HostRuntime) {
     for number in 0..CASES {
-        check_fall_as_last(&rt, &case_of(number));
+        check_failure_as_last(&rt, &case_of(number));
     }
 }

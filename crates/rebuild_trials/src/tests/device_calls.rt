@@ -15,7 +15,7 @@ use stripe_journal::Entry;
 /// How many calls a tally tells of.
 const MOST: usize = 512;
 
-/// A device call: its slot, and whether it reads. A stop after a read leaves what one before it does.
+/// A device call: its slot, and whether it reads. A crash after a read leaves what one before it does.
 #[derive(Clone, Copy)]
 pub(crate) struct Made {
     pub slot: u8,

@@ -2,7 +2,7 @@
 use super::rebuilt::shows;
 use super::{
     Case, Device, ID, Job, Known, OF_3, OF_4, OF_5, OF_8, SET_A, Shape, assembled, before,
-    check_list, check_whole, disk, image_now, in_turn, made, mark, read, stopped, take, write,
+    check_list, check_whole, crashed, disk, image_now, in_turn, made, mark, read, take, write,
 };
 use crate::testing::{all, same};
 use array_io::Array;
@@ -32,9 +32,9 @@ fn check_entry(rt: &impl Abort, image: &Image, journal: u8, bytes: [u8; 2]) {
 fn check_first_member_write(rt: &(impl Abort + AllocGlobal), known: &Known, choice: Choice) {
     let bank = &known.array.bank;
     let call = bank.now().saturating_sub(1);
-    let mut array = assembled(rt, stopped(rt, bank, call, choice));
+    let mut array = assembled(rt, crashed(rt, bank, call, choice));
     check_list(rt, (call, 0), &mut array, &known.list);
-    let mut image = stopped(rt, bank, call, choice);
+    let mut image = crashed(rt, bank, call, choice);
     take(rt, &mut image, 0);
     check_list(rt, (call, 1), &mut assembled(rt, image), &known.list);
 }
@@ -99,8 +99,8 @@ struct Makes {
 fn out_in(table: &Table, row: u64) -> Option<usize> {
     for slot in 0..10usize {
         let state = table.states[slot];
-        let is_behind = state == State::Rebuilding && row >= table.position;
-        if slot < table.geometry.members as usize && (state == State::Missing || is_behind) {
+        let is_beyond = state == State::Rebuilding && row >= table.position;
+        if slot < table.geometry.members as usize && (state == State::Missing || is_beyond) {
             return Some(slot);
         }
     }
@@ -258,16 +258,16 @@ fn commits_that_lack_a_slot_of_8(rt: HostRuntime) {
     check_shape(&rt, OF_8, 12);
 }
 
-// Checks a stop in a commit: it shows the new list or the old one, and the new one once the seals are safe.
-fn check_stop(
+// Checks a crash in a commit: it shows the new list or the old one, and the new one once the seals are safe.
+fn check_crash(
     rt: &(impl Abort + AllocGlobal),
     case: &Case,
     known: &Known,
     old: &[u8],
-    stop: (u64, Option<bool>),
+    crash: (u64, Option<bool>),
 ) {
-    let (call, is_wanted) = stop;
-    let mut array = assembled(rt, stopped(rt, &known.array.bank, call, in_turn(call)));
+    let (call, is_wanted) = crash;
+    let mut array = assembled(rt, crashed(rt, &known.array.bank, call, in_turn(call)));
     let is_new = shows(rt, &mut array, &known.list);
     let is_wanted = is_wanted.unwrap_or(is_new);
     same(rt, (call, is_new), (call, is_wanted));
@@ -276,9 +276,9 @@ fn check_stop(
     check_whole_again(rt, case.slot, array, list);
 }
 
-// Checks the stops at each call of a commit to a set that lacks a slot. The calls of members are the last, so many, and those
+// Checks the crashes at each call of a commit to a set that lacks a slot. The calls of members are the last, so many, and those
 // of seals before them are four, or two where a journal is missing.
-fn check_stops(
+fn check_crashes(
     rt: &(impl Abort + AllocGlobal),
     case: &Case,
     numbers: &[u64],
@@ -301,7 +301,7 @@ fn check_stops(
         } else {
             None
         };
-        check_stop(rt, case, &known, &old, (call, is_new));
+        check_crash(rt, case, &known, &old, (call, is_new));
     }
 }
 
@@ -309,15 +309,15 @@ fn check_stops(
 // with the parity on 3. Of 5 members 64 and 72 are in row 16 on members 3 and 4, with the parity on 2. Of 8 members 64 is in
 // row 8 on member 0, with the parity on 6.
 #[test]
-fn stops_in_commits_that_lack_a_slot(rt: HostRuntime) {
-    check_stops(&rt, &lacking(OF_3, 0, None), &[4], 2, 4);
-    check_stops(&rt, &lacking(OF_3, 1, None), &[4], 4, 4);
-    check_stops(&rt, &lacking(OF_3, 4, None), &[4], 4, 2);
-    check_stops(&rt, &lacking(OF_4, 3, None), &[20], 2, 4);
-    check_stops(&rt, &lacking(OF_4, 2, Some(4)), &[20], 2, 4);
-    check_stops(&rt, &lacking(OF_4, 2, Some(5)), &[20], 4, 4);
-    check_stops(&rt, &lacking(OF_5, 4, None), &[64, 72], 4, 4);
-    check_stops(&rt, &lacking(OF_5, 0, Some(16)), &[64, 72], 6, 4);
-    check_stops(&rt, &lacking(OF_8, 5, None), &[64], 4, 4);
-    check_stops(&rt, &lacking(OF_8, 0, Some(8)), &[64], 2, 4);
+fn crashes_in_commits_that_lack_a_slot(rt: HostRuntime) {
+    check_crashes(&rt, &lacking(OF_3, 0, None), &[4], 2, 4);
+    check_crashes(&rt, &lacking(OF_3, 1, None), &[4], 4, 4);
+    check_crashes(&rt, &lacking(OF_3, 4, None), &[4], 4, 2);
+    check_crashes(&rt, &lacking(OF_4, 3, None), &[20], 2, 4);
+    check_crashes(&rt, &lacking(OF_4, 2, Some(4)), &[20], 2, 4);
+    check_crashes(&rt, &lacking(OF_4, 2, Some(5)), &[20], 4, 4);
+    check_crashes(&rt, &lacking(OF_5, 4, None), &[64, 72], 4, 4);
+    check_crashes(&rt, &lacking(OF_5, 0, Some(16)), &[64, 72], 6, 4);
+    check_crashes(&rt, &lacking(OF_8, 5, None), &[64], 4, 4);
+    check_crashes(&rt, &lacking(OF_8, 0, Some(8)), &[64], 2, 4);
 }

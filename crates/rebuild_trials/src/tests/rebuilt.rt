@@ -1,7 +1,7 @@
-//! Members are rebuilt whole, with writes between the steps, and stops in such a write.
+//! Members are rebuilt whole, with writes between the steps, and crashes in such a write.
 use super::{
     Device, Known, OF_3, OF_4, OF_8, Shape, assembled, before, check_complete, check_list,
-    check_published, check_whole, in_turn, member, middle_step, read, rows_of, stopped, take,
+    check_published, check_whole, crashed, in_turn, member, middle_step, read, rows_of, take,
     without, write,
 };
 use crate::testing::{all, same};
@@ -10,7 +10,7 @@ use rebuild::{Progress, rebuild_step, replace};
 use sector_model::{Bank, Choice, MemBank};
 use std::process::Abort;
 
-// Puts the numbers of a row's logical sectors behind these.
+// Puts the numbers of a row's logical sectors after these.
 fn push_row(rt: &(impl Abort + AllocGlobal), known: &Known, row: u64, numbers: &mut Vec<u64>) {
     let geometry = &known.array.table.geometry;
     for member in 0..geometry.members {
@@ -44,7 +44,7 @@ fn write_ends(rt: &(impl Abort + AllocGlobal), known: &mut Known, numbers: &[u64
     write(rt, known, &[numbers[count - 1]], byte.wrapping_add(102));
 }
 
-// Rebuilds a member by steps of 5, 1, 7 and none rows and one over the rest, with writes before each step and behind the last.
+// Rebuilds a member by steps of 5, 1, 7 and none rows and one over the rest, with writes before each step and after the last.
 fn check_rebuilt(rt: &(impl Abort + AllocGlobal), shape: Shape, slot: u8, device: Device) {
     let mut known = without(rt, &member(shape, slot, device));
     same(rt, replace(&mut known.array, slot), Ok(()));
@@ -96,16 +96,16 @@ pub(crate) fn shows(rt: &impl Abort, array: &mut Array<MemBank>, list: &[u8]) ->
     true
 }
 
-// Checks a stop in a write while a member is rebuilding, with its device there: all of it is shown, or nothing, and so it is on
+// Checks a crash in a write while a member is rebuilding, with its device there: all of it is shown, or nothing, and so it is on
 // the members when that one has been rebuilt.
-fn check_stop(
+fn check_crash(
     rt: &(impl Abort + AllocGlobal),
     known: &Known,
     old: &[u8],
     call: u64,
     choice: Choice,
 ) {
-    let mut array = assembled(rt, stopped(rt, &known.array.bank, call, choice));
+    let mut array = assembled(rt, crashed(rt, &known.array.bank, call, choice));
     same(rt, (call, array.table.position), (call, POSITION));
     let is_new = shows(rt, &mut array, &known.list);
     let list = if is_new { &known.list } else { old };
@@ -115,14 +115,14 @@ fn check_stop(
 }
 
 // Checks the same with the device gone.
-fn check_stop_without(
+fn check_crash_without(
     rt: &(impl Abort + AllocGlobal),
     known: &Known,
     old: &[u8],
     call: u64,
     choice: Choice,
 ) {
-    let mut image = stopped(rt, &known.array.bank, call, choice);
+    let mut image = crashed(rt, &known.array.bank, call, choice);
     take(rt, &mut image, MEMBER);
     let mut array = assembled(rt, image);
     let is_new = shows(rt, &mut array, &known.list);
@@ -137,7 +137,7 @@ const POSITION: u64 = 5;
 
 // One entry writes the row below the position, the row at it, the one above it and the last.
 #[test]
-fn stops_in_a_write_around_the_position(rt: HostRuntime) {
+fn crashes_in_a_write_around_the_position(rt: HostRuntime) {
     let case = middle_step(OF_3, MEMBER, Device::Own);
     let mut known = before(&rt, &case);
     let old = Vec::from_slice(rt.alloc(), &known.list).expect(&rt, "memory");
@@ -149,8 +149,8 @@ fn stops_in_a_write_around_the_position(rt: HostRuntime) {
     write(&rt, &mut known, &numbers, 0x77);
     for call in from..known.array.bank.now().saturating_add(1) {
         for choice in [Choice::Oldest, Choice::Newest, Choice::Mixed(3)] {
-            check_stop(&rt, &known, &old, call, choice);
+            check_crash(&rt, &known, &old, call, choice);
         }
-        check_stop_without(&rt, &known, &old, call, in_turn(call));
+        check_crash_without(&rt, &known, &old, call, in_turn(call));
     }
 }

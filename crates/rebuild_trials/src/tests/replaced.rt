@@ -1,7 +1,7 @@
 //! Devices that a slot is given: what stood on them counts no more, and they have what the set needs of them.
 use super::{
     Case, Device, ID, OF_3, OF_4, OF_8, Shape, check_complete, check_list, check_published,
-    check_whole, disk, journal, stopped, told, told_when_done, without,
+    check_whole, crashed, disk, journal, told, told_when_done, without,
 };
 use crate::testing::{all, same};
 use array_io::Array;
@@ -33,15 +33,15 @@ fn are_same(left: &[Sector], right: &[Sector]) -> bool {
     true
 }
 
-// Asks that so many sectors of the slot's device are zero after a stop, by this choice.
+// Asks that so many sectors of the slot's device are zero after a crash, by this choice.
 fn check_cleared(
     rt: &(impl Abort + AllocGlobal),
     case: &Case,
     bank: &MemBank,
-    stop: (u64, Choice),
+    crash: (u64, Choice),
     count: usize,
 ) {
-    let image = stopped(rt, bank, stop.0, stop.1);
+    let image = crashed(rt, bank, crash.0, crash.1);
     let sectors = disk(rt, &image, case.slot);
     assert!(rt; count <= sectors.len());
     for at in 0..count {
@@ -57,8 +57,8 @@ fn check_others_stay(
     bank: &MemBank,
     calls: (u64, u64),
 ) {
-    let before = stopped(rt, bank, calls.0, Choice::Newest);
-    let after = stopped(rt, bank, calls.1, Choice::Newest);
+    let before = crashed(rt, bank, calls.0, Choice::Newest);
+    let after = crashed(rt, bank, calls.1, Choice::Newest);
     for slot in 0..case.shape.0.saturating_add(2) {
         let is_same = are_same(disk(rt, &before, slot), disk(rt, &after, slot));
         let stays = slot == case.slot || is_same;
@@ -66,7 +66,7 @@ fn check_others_stay(
     }
 }
 
-// Checks in which order a device is joined, from this call on, behind the two reads of the other journal's seals: its places,
+// Checks in which order a device is joined, from this call on, after the two reads of the other journal's seals: its places,
 // and a journal's seals too, are cleared and safe before another device is written, and the places stay clear until each other device has the table in which it has joined.
 fn check_order(rt: &(impl Abort + AllocGlobal), case: &Case, array: &Array<MemBank>, from: u64) {
     let bank = &array.bank;
@@ -81,7 +81,7 @@ fn check_order(rt: &(impl Abort + AllocGlobal), case: &Case, array: &Array<MemBa
     check_cleared(rt, case, bank, (cleared, Choice::Oldest), count);
     check_others_stay(rt, case, bank, (from, cleared));
     check_cleared(rt, case, bank, (end.saturating_sub(2), Choice::Newest), 2);
-    let image = stopped(rt, bank, end, Choice::Oldest);
+    let image = crashed(rt, bank, end, Choice::Oldest);
     let sectors = disk(rt, &image, case.slot);
     assert!(rt; sectors.len() >= 2);
     let other = (array.table.generation.wrapping_add(1) % 2) as usize;
@@ -154,7 +154,7 @@ fn check_replaced(rt: &(impl Abort + AllocGlobal), case: &Case) {
         check_published(rt, (0, 1), &known.array);
     } else {
         let bank = &known.array.bank;
-        let image = stopped(rt, bank, bank.now(), Choice::Oldest);
+        let image = crashed(rt, bank, bank.now(), Choice::Oldest);
         check_entries(rt, case, &image);
     }
     if case.is_used {

@@ -1,6 +1,6 @@
 //! The worked examples of a rebuild.
 use super::{
-    ID, Known, SET_A, assembled, check_list, image_now, in_turn, made, mark, stopped, told, write,
+    ID, Known, SET_A, assembled, check_list, crashed, image_now, in_turn, made, mark, told, write,
 };
 use crate::testing::same;
 use rebuild::{Progress, rebuild_step, replace};
@@ -70,9 +70,9 @@ fn under_writes(rt: &(impl Abort + AllocGlobal)) -> Known {
     }
 }
 
-// Asks that the set stands at 64 or 128 after a stop in the second step, and shows what was written.
-fn check_stop(rt: &(impl Abort + AllocGlobal), known: &Known, call: u64, choice: Choice) {
-    let mut array = assembled(rt, stopped(rt, &known.array.bank, call, choice));
+// Asks that the set stands at 64 or 128 after a crash in the second step, and shows what was written.
+fn check_crash(rt: &(impl Abort + AllocGlobal), known: &Known, call: u64, choice: Choice) {
+    let mut array = assembled(rt, crashed(rt, &known.array.bank, call, choice));
     let position = array.table.position;
     let is_either = position == 64 || position == 128;
     same(rt, (call, position, is_either), (call, position, true));
@@ -80,7 +80,7 @@ fn check_stop(rt: &(impl Abort + AllocGlobal), known: &Known, call: u64, choice:
     check_list(rt, (call, position), &mut array, &known.list);
 }
 
-// The step makes for each of 64 rows two reads and a write, a flush, and five writes and flushes of superblocks. A stop after
+// The step makes for each of 64 rows two reads and a write, a flush, and five writes and flushes of superblocks. A crash after
 // a read leaves what one before it does.
 #[test]
 fn stops_in_rebuild(rt: HostRuntime) {
@@ -92,11 +92,11 @@ fn stops_in_rebuild(rt: HostRuntime) {
     let end = known.array.bank.now();
     same(&rt, end.saturating_sub(from), 64 * 3 + 1 + 10);
     for row in 0..64u64 {
-        check_stop(&rt, &known, from.saturating_add(3 * row), in_turn(row));
+        check_crash(&rt, &known, from.saturating_add(3 * row), in_turn(row));
     }
     for call in from.saturating_add(64 * 3)..end.saturating_add(1) {
         for choice in [Choice::Oldest, Choice::Newest, Choice::Mixed(3)] {
-            check_stop(&rt, &known, call, choice);
+            check_crash(&rt, &known, call, choice);
         }
     }
 }

@@ -13,7 +13,7 @@ fn fill(rt: &impl Abort, image: &mut Image, slot: usize) {
     put_sector(rt, image, slot, 1, &sector);
 }
 
-// Slot 0 has no superblock that counts. The other four get generation 2 behind two reads of each slot, by a write and a flush
+// Slot 0 has no superblock that counts. The other four get generation 2 after two reads of each slot, by a write and a flush
 // each, and then the two seals of each journal are read.
 #[test]
 fn forged_filler(rt: HostRuntime) {

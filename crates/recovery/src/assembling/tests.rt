@@ -1,6 +1,6 @@
-//! A set of 3 members, chunk 8 and 32 stripes that is assembled on devices that were away, came back, or fall.
+//! A set of 3 members, chunk 8 and 32 stripes that is assembled on devices that were away, came back, or fail.
 use crate::testing::{
-    AssemblySize, ID, OTHER_ID, SET_A, answer, assembled, assembled_falling, check_missing, fresh,
+    AssemblySize, ID, OTHER_ID, SET_A, answer, assembled, assembled_failing, check_missing, fresh,
     fresh_without, image_now, left, put_from, refusal_of, same, sector_of, table_in,
 };
 use array_io::Array;
@@ -71,10 +71,10 @@ fn journal_away_and_back(rt: HostRuntime) {
 }
 
 #[test]
-fn a_device_falls_while_superblocks_are_read_again(rt: HostRuntime) {
+fn a_device_fails_while_superblocks_are_read_again(rt: HostRuntime) {
     let call = AssemblySize::whole(3).last_call(2);
-    let array = assembled_falling(&rt, fresh(&rt, SET_A), 2, call);
-    // Behind the read that fails, four writes and four flushes, and four reads of seals.
+    let array = assembled_failing(&rt, fresh(&rt, SET_A), 2, call);
+    // After the read that fails, four writes and four flushes, and four reads of seals.
     check_table(&rt, &array, 2, 2, call + 1 + 4 + 4 + 4);
 }
 

@@ -1,8 +1,8 @@
-//! Looks at sets of 3 members, chunk 8 and 32 stripes: on banks that take no write and no flush, beside what assembling
+//! Inspections of sets of 3 members, chunk 8 and 32 stripes: on banks that take no write and no flush, beside what assembling
 //! does then.
 use super::examine;
 use crate::testing::{
-    BLANK, ID, OTHER_ID, SET_A, answer, array_of, assembled, bank_of, check_missing, falls_at,
+    BLANK, ID, OTHER_ID, SET_A, answer, array_of, assembled, bank_of, check_missing, fails_at,
     fresh, fresh_without, image_now, put_from, put_sector, refusal_of, same, shorten, superblock,
     take,
 };
@@ -11,7 +11,7 @@ use sector_model::{Bank, Choice, Image, MemBank, Plan, Refusal, Sector};
 use std::process::Abort;
 use superblock::State;
 
-// The calls of a look at five devices that are up: two superblocks of each, and two seals of each journal.
+// The calls of an inspection of five devices that are up: two superblocks of each, and two seals of each journal.
 const CALLS: u64 = 2 * 5 + 2 * 2;
 
 // What stands in a slot whose device is there.
@@ -43,14 +43,14 @@ fn but(generation: u64, slot: usize, one: ExaminedSlot) -> [ExaminedSlot; 5] {
     slots
 }
 
-// What a look at the set on a bank finds, by so many calls.
-fn look(rt: &impl Abort, bank: &mut MemBank, calls: u64) -> Examined {
+// What an inspection of the set on a bank finds, by so many calls.
+fn inspect(rt: &impl Abort, bank: &mut MemBank, calls: u64) -> Examined {
     let found = examine(bank, &ID).expect(rt, "calls are counted");
     same(rt, bank.now(), calls);
     found.expect(rt, "there is a set")
 }
 
-// Checks what a look finds.
+// Checks what an inspection finds.
 fn check_found(
     rt: &impl Abort,
     found: &Examined,
@@ -63,7 +63,7 @@ fn check_found(
     same(rt, found.outlook, outlook);
 }
 
-// Checks what a look at the set on these devices finds, by so many calls, and that assembling then does what it says.
+// Checks what an inspection of the set on these devices finds, by so many calls, and that assembling then does what it says.
 fn check(
     rt: &(impl Abort + AllocGlobal),
     image: Image,
@@ -73,11 +73,11 @@ fn check(
     calls: u64,
 ) {
     let mut bank = bank_of(rt, image, Plan::NONE, 0);
-    check_found(rt, &look(rt, &mut bank, calls), slots, last, outlook);
+    check_found(rt, &inspect(rt, &mut bank, calls), slots, last, outlook);
     check_assembled(rt, image_now(rt, &bank, Choice::Newest), outlook);
 }
 
-// Checks that assembling the set on these devices does what a look at it said.
+// Checks that assembling the set on these devices does what an inspection of it said.
 fn check_assembled(rt: &(impl Abort + AllocGlobal), image: Image, outlook: Outlook) {
     let result = answer(rt, image, Plan::NONE, ID);
     match outlook {
@@ -237,18 +237,18 @@ fn last_entries(rt: HostRuntime) {
     check(&rt, image, &slots, last, Outlook::Complete, CALLS);
 }
 
-// A device that falls as its superblocks are read is not there; of a journal that falls as its seals are read no entry is
+// A device that fails as its superblocks are read is not there; of a journal that fails as its seals are read no entry is
 // known.
 #[test]
-fn a_device_falls(rt: HostRuntime) {
-    let plan = falls_at(&rt, &[4], 2 * 4);
+fn a_device_fails(rt: HostRuntime) {
+    let plan = fails_at(&rt, &[4], 2 * 4);
     let mut bank = bank_of(&rt, fresh(&rt, SET_A), plan, 0);
-    let found = look(&rt, &mut bank, CALLS - 3);
+    let found = inspect(&rt, &mut bank, CALLS - 3);
     let slots = but(1, 4, absent(Standing::NotThere));
     check_found(&rt, &found, &slots, [Some(0), None], Outlook::WouldMark(4));
-    let plan = falls_at(&rt, &[3], 2 * 5);
+    let plan = fails_at(&rt, &[3], 2 * 5);
     let mut bank = bank_of(&rt, fresh(&rt, SET_A), plan, 0);
-    let found = look(&rt, &mut bank, CALLS - 1);
+    let found = inspect(&rt, &mut bank, CALLS - 1);
     let slots = [there(1, 1, Standing::Live); 5];
     check_found(&rt, &found, &slots, [None, Some(0)], Outlook::Complete);
 }

@@ -1,7 +1,7 @@
 //! Banks made by hand: which table is found on their devices, and by how many calls: two reads of each device that is up.
 use super::chosen_table;
 use crate::testing::{
-    ID, OTHER_ID, bank_of, devices, falls_at, put_sector, same, shorten, superblock, take,
+    ID, OTHER_ID, bank_of, devices, fails_at, put_sector, same, shorten, superblock, take,
 };
 use sector_model::{Bank, Image, MemBank, Plan, Refusal, Sector};
 use std::process::Abort;
@@ -141,7 +141,7 @@ fn a_device_that_goes_down(rt: HostRuntime) {
         (3, (1, 32), 2 * 5),
         (4, (3, 64), 2 * 5),
     ] {
-        let plan = falls_at(&rt, &[1], down);
+        let plan = fails_at(&rt, &[1], down);
         let mut bank = bank_of(&rt, image_of(&rt, 5, 5, &newer), plan, 0);
         check_on(&rt, &mut bank, Some(wanted), calls);
     }

@@ -10,7 +10,7 @@ use superblock::oracle::chosen_table_in;
 
 const USED: Sector = [0xee; 512];
 
-/// A bank with devices of so many sectors, each of them in use, which stops at a call.
+/// A bank with devices of so many sectors, each of them in use, which crashes at a call.
 fn used_bank(rt: &(impl Abort + AllocGlobal), sectors: &[usize], stop: Option<u64>) -> MemBank {
     let plan = Plan {
         down: [None; 10],
@@ -59,8 +59,8 @@ fn check_set_a(rt: &impl Abort, image: &Image) {
             check_sectors(rt, disk, 4, disk.len(), &USED);
         }
     }
-    let behind = disk(rt, image, 5);
-    check_sectors(rt, behind, 0, behind.len(), &USED);
+    let beyond = disk(rt, image, 5);
+    check_sectors(rt, beyond, 0, beyond.len(), &USED);
 }
 
 // Checks that an image chooses the table of an array.
@@ -68,7 +68,7 @@ fn check_chosen(rt: &impl Abort, image: &Image, array: &Array<MemBank>) {
     same(rt, chosen_table_in(image, &ID), Some(array.table));
 }
 
-// Checks what a stop leaves now of set A.
+// Checks what a crash leaves now of set A.
 fn check_left(rt: &(impl Abort + AllocGlobal), array: &Array<MemBank>, choice: Choice) {
     let image = image_now(rt, &array.bank, choice);
     check_set_a(rt, &image);

@@ -1,7 +1,7 @@
 //! The ids of which superblocks stand on five devices, one after another: by two reads of each device that is up.
 use super::{Id, id_above};
 use crate::testing::{
-    ID, OTHER_ID, bank_of, devices, falls_at, put_sector, same, superblock, take,
+    ID, OTHER_ID, bank_of, devices, fails_at, put_sector, same, superblock, take,
 };
 use sector_model::{Bank, Image, Plan};
 use std::process::Abort;
@@ -31,7 +31,7 @@ fn image_of(rt: &(impl Abort + AllocGlobal), puts: &[(u8, u8, u8, Id)]) -> Image
     image
 }
 
-// Checks which id follows an id on these devices, of which one falls at its second read, where there is such a slot.
+// Checks which id follows an id on these devices, of which one fails at its second read, where there is such a slot.
 fn check(
     rt: &(impl Abort + AllocGlobal),
     puts: &[(u8, u8, u8, Id)],
@@ -63,14 +63,14 @@ fn ids_rise(rt: HostRuntime) {
 }
 
 #[test]
-fn devices_that_are_away_or_fall(rt: HostRuntime) {
+fn devices_that_are_away_or_fail(rt: HostRuntime) {
     let puts = [(0, 0, 1, ID), (1, 1, 1, begun(7))];
     let mut image = image_of(&rt, &puts);
     take(&rt, &mut image, 0);
     let mut bank = bank_of(&rt, image, Plan::NONE, 0);
     let found = id_above(&mut bank, &None).expect(&rt, "calls are counted");
     same(&rt, (found, bank.now()), (Some(begun(7)), 2 * 4));
-    let plan = falls_at(&rt, &[0], 1);
+    let plan = fails_at(&rt, &[0], 1);
     let mut bank = bank_of(&rt, image_of(&rt, &puts), plan, 0);
     let found = id_above(&mut bank, &None).expect(&rt, "calls are counted");
     same(&rt, (found, bank.now()), (Some(begun(7)), 2 * 5));

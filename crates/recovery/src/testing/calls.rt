@@ -1,4 +1,4 @@
-//! How many device calls there are in making a set, in a commit and in an assembly, where no device falls in them: the
+//! How many device calls there are in making a set, in a commit and in an assembly, where no device fails in them: the
 //! formulas of docs/ARCHITECTURE.md, "Device calls". What an entry holds of its rows is said by a mask for each of them.
 ghost use Rattle.std.specs.Prelude.{◌≤◌};
 
@@ -147,7 +147,7 @@ impl<'a> CommitSize<'a> {
         last
     }
 
-    /// The last call to a slot, counted from 0, if there is one: the flush behind its seal, or behind its rows; where a member
+    /// The last call to a slot, counted from 0, if there is one: the flush after its seal, or after its rows; where a member
     /// has none of the sectors, its last read.
     pub(crate) fn last_call(&self, slot: u8) -> Option<u64> {
         if slot >= self.members {
@@ -328,7 +328,7 @@ impl<'a> AssemblySize<'a> {
         }
     }
 
-    // That to a member: the flush behind its sectors of the entry; where it has none, that of its superblock, or the read of it.
+    // That to a member: the flush after its sectors of the entry; where it has none, that of its superblock, or the read of it.
     fn last_of_member(&self, slot: u8) -> u64
         ensures { result ≤ 280_000 }
     {
@@ -341,7 +341,7 @@ impl<'a> AssemblySize<'a> {
     }
 
     // That to the journal at this place of those that are there: the last read of the body that the first one has; the
-    // flush behind the seal that the second one gets; else the read of its second seal.
+    // flush after the seal that the second one gets; else the read of its second seal.
     fn last_of_journal(&self, place: u8) -> u64
         ensures { result ≤ 210_000 }
     {

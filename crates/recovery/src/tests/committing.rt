@@ -1,4 +1,4 @@
-//! Sets in memory that are committed to and stopped, for tests: what is written, what an image that a stop leaves says of
+//! Sets in memory that are committed to and crashed, for tests: what is written, what an image that a crash leaves says of
 //! its rows, and which array is assembled on it.
 ghost use Rattle.std.specs.Prelude.{◌↔◌, IsTrue};
 ghost use Rattle.array_io.specs.Believed.ArrayCalls.{MayCommit};
@@ -13,13 +13,13 @@ use std::process::Abort;
 use superblock::Table;
 use superblock::oracle::chosen_table_in;
 
+mod crashes;
 mod device_calls;
 mod entries;
-mod falls;
+mod failures;
 mod forms;
 mod order_of_calls;
 mod replays;
-mod stops;
 mod without_a_slot;
 
 /// Logical sectors, each with the byte of which it is full.

@@ -11,7 +11,7 @@ use std::alloc::{AllocError, Global};
 
 const SLOTS: usize = 10;
 
-// A file with the sectors of the slot of a number, none of an empty one or behind the last.
+// A file with the sectors of the slot of a number, none of an empty one or after the last.
 fn file_in(
     alloc: Global,
     slots: &[Option<Vec<Sector>>],

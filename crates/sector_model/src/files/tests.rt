@@ -223,7 +223,7 @@ enum Deed {
     Make,
     /// A bank of ten slots is opened over the files of the folder there, and takes these steps.
     Play(&'static [Step]),
-    /// The same, but the file of device 0 is cut off behind so many bytes before the steps.
+    /// The same, but the file of device 0 is cut off after so many bytes before the steps.
     PlayCut(u64, &'static [Step]),
     /// The file there has so many bytes, all of them this one but in the sectors that are named, which are full of
     /// another.

@@ -32,13 +32,13 @@ impl RunRecord for MemBank {
         true
     }
 
-    fn note_fall(&mut self, dev: u8) {
-        self.fall(dev as usize, Event::Fell { device: dev });
+    fn note_failure(&mut self, dev: u8) {
+        self.fail_device(dev as usize, Event::DeviceFailed { device: dev });
     }
 
     fn note_loss(&mut self, dev: u8, at: u32, value: &Sector) {
         let value = *value;
-        self.fall(
+        self.fail_device(
             dev as usize,
             Event::Lost {
                 device: dev,

@@ -4,7 +4,7 @@ use crate::testing::{Step, image_of, play, same};
 use crate::{Bank, Plan, Refusal};
 use std::process::Abort;
 
-mod after_stop;
+mod after_crash;
 
 /// The slot without a device.
 const EMPTY: u8 = 3;
@@ -112,7 +112,7 @@ fn calls_are_numbered_from_0(rt: HostRuntime) {
 }
 
 #[test]
-fn a_stop_takes_each_device_down_at_its_next_call(rt: HostRuntime) {
+fn a_crash_takes_each_device_down_at_its_next_call(rt: HostRuntime) {
     const STEPS: &[Step] = &[
         Writes(0, 0, 9),
         Flushes(0),

@@ -1,9 +1,9 @@
-//! Sets are looked at.
+//! Sets are inspected.
 ghost use Rattle.std.specs.Prelude.{◌≡◌, ◌≢◌, ◌≤◌, ◌↔◌, IfErr, IfOk, OnOk, [], string_bytes};
 ghost use Rattle.sector_model.specs.declared.refusal.Refusal.{Refusal};
 ghost use Rattle.recovery.specs.SeenBank.{bank_seen};
-ghost use Rattle.set_commands.specs.Healths.{HealthAbove, HealthAt, LooksHealth};
-ghost use Rattle.set_commands.specs.Examining.{ExaminesOn, ExaminesPartOn, IsExamineEnd, IsLookEnd, IsLookText, Looks, LooksAbove, LooksAt, Puts};
+ghost use Rattle.set_commands.specs.Healths.{HealthAbove, HealthAt, InspectsHealth};
+ghost use Rattle.set_commands.specs.Examining.{ExaminesOn, ExaminesPartOn, IsExamineEnd, IsInspectionEnd, IsInspectionText, Inspects, InspectsAbove, InspectsOne, Puts};
 
 use super::health::{Health, foreseen, worse};
 use recovery::{Examined, examine, id_above};
@@ -16,7 +16,7 @@ use std::io::Write;
 /// The most sets of which superblocks count on a bank: ten slots have two places each.
 const MOST_SETS: u8 = 20;
 
-/// Looks at the set of this id on a bank of devices, or at each set that it has, in rising order of ids, where no id is given, by
+/// Inspects the set of this id on a bank of devices, or each set that it has, in rising order of ids, where no id is given, by
 /// reads alone, and writes what it found: as lines of text, or as JSON, a line for each set; and says how well the worst is, or
 /// what was said before, if that is worse.
 ///
@@ -30,16 +30,16 @@ pub fn examine_on<W: Write, B: Bank + Drop>(
     out: &mut W,
     health: &mut Health,
 ) -> Result<(), Refusal>
-    ensures health { OnOk result (LooksHealth (B.honest bank) id (bank_seen B.Bank bank) health.old health.new) }
+    ensures health { OnOk result (InspectsHealth (B.honest bank) id (bank_seen B.Bank bank) health.old health.new) }
     ensures examined { OnOk result (ExaminesOn (B.honest bank) id json (bank_seen B.Bank bank) (W.contents out.old) (W.contents out.new)) }
     ensures end { IfErr result IsExamineEnd }
-    ensures none { IfErr result (λ refusal. refusal ≡ Refusal.NoSet → Looks (B.honest bank) id json (bank_seen B.Bank bank) []) }
+    ensures none { IfErr result (λ refusal. refusal ≡ Refusal.NoSet → Inspects (B.honest bank) id json (bank_seen B.Bank bank) []) }
     ensures unwritten { IfErr result (λ refusal. refusal ≢ Refusal.WriteFault → out.new ≡ out.old) }
     ensures cut { IfErr result (λ refusal. refusal ≡ Refusal.WriteFault
         → ExaminesPartOn (B.honest bank) id json (bank_seen B.Bank bank) (W.contents out.old) (W.contents out.new)) }
 {
     let mut bank = bank;
-    let text = looks(alloc, &mut bank, id, json, health)?;
+    let text = inspections(alloc, &mut bank, id, json, health)?;
     if text.is_empty() {
         return Err(Refusal::NoSet);
     }
@@ -47,27 +47,27 @@ pub fn examine_on<W: Write, B: Bank + Drop>(
 }
 
 // What is found of the set of this id, or of each one.
-fn looks<B: Bank>(
+fn inspections<B: Bank>(
     alloc: Global,
     bank: &mut B,
     id: Option<[u8; 16]>,
     json: bool,
     health: &mut Health,
 ) -> Result<String, Refusal>
-    ensures health { OnOk result (LooksHealth (B.honest bank.old) id (bank_seen B.Bank bank.old) health.old health.new) }
-    ensures looks { IfOk result (λ text. Looks (B.honest bank.old) id json (bank_seen B.Bank bank.old) (string_bytes text)) }
-    ensures err { IfErr result IsLookEnd }
+    ensures health { OnOk result (InspectsHealth (B.honest bank.old) id (bank_seen B.Bank bank.old) health.old health.new) }
+    ensures inspections { IfOk result (λ text. Inspects (B.honest bank.old) id json (bank_seen B.Bank bank.old) (string_bytes text)) }
+    ensures err { IfErr result IsInspectionEnd }
 {
     let mut text = String::new(alloc);
     match id {
-        Some(id) => look_at(alloc, bank, &id, json, &mut text, health)?,
-        None => look_above(alloc, bank, None, MOST_SETS, json, &mut text, health)?,
+        Some(id) => inspect_one(alloc, bank, &id, json, &mut text, health)?,
+        None => inspect_above(alloc, bank, None, MOST_SETS, json, &mut text, health)?,
     }
     Ok(text)
 }
 
 // Appends what is found of each set with an id above this one, of so many at most.
-fn look_above<B: Bank>(
+fn inspect_above<B: Bank>(
     alloc: Global,
     bank: &mut B,
     above: Option<[u8; 16]>,
@@ -79,8 +79,8 @@ fn look_above<B: Bank>(
     ensures health { OnOk result (HealthAbove (B.honest bank.old) most above (bank_seen B.Bank bank.old) (bank_seen B.Bank bank.new) health.old health.new) }
     ensures honest { B.honest bank.old ↔ B.honest bank.new }
     ensures puts { OnOk result (Puts (string_bytes text.old) (string_bytes text.new)
-        (LooksAbove (B.honest bank.old) json most above (bank_seen B.Bank bank.old) (bank_seen B.Bank bank.new))) }
-    ensures err { IfErr result IsLookEnd }
+        (InspectsAbove (B.honest bank.old) json most above (bank_seen B.Bank bank.old) (bank_seen B.Bank bank.new))) }
+    ensures err { IfErr result IsInspectionEnd }
 {
     if most == 0 {
         return Ok(());
@@ -88,12 +88,12 @@ fn look_above<B: Bank>(
     let Some(id) = id_above(bank, &above)? else {
         return Ok(());
     };
-    look_at(alloc, bank, &id, json, text, health)?;
-    look_above(alloc, bank, Some(id), most - 1, json, text, health)
+    inspect_one(alloc, bank, &id, json, text, health)?;
+    inspect_above(alloc, bank, Some(id), most - 1, json, text, health)
 }
 
 // Appends what is found of the set of this id, if it is there.
-fn look_at<B: Bank>(
+fn inspect_one<B: Bank>(
     alloc: Global,
     bank: &mut B,
     id: &[u8; 16],
@@ -104,26 +104,26 @@ fn look_at<B: Bank>(
     ensures health { OnOk result (HealthAt (B.honest bank.old) id.now (bank_seen B.Bank bank.old) (bank_seen B.Bank bank.new) health.old health.new) }
     ensures honest { B.honest bank.old ↔ B.honest bank.new }
     ensures puts { OnOk result (Puts (string_bytes text.old) (string_bytes text.new)
-        (LooksAt (B.honest bank.old) id.now json (bank_seen B.Bank bank.old) (bank_seen B.Bank bank.new))) }
-    ensures err { IfErr result IsLookEnd }
+        (InspectsOne (B.honest bank.old) id.now json (bank_seen B.Bank bank.old) (bank_seen B.Bank bank.new))) }
+    ensures err { IfErr result IsInspectionEnd }
 {
     match examine(bank, id)? {
         Some(examined) => {
             *health = worse(*health, foreseen(&examined.outlook));
-            put_look(alloc, &examined, json, text)
+            put_inspection(alloc, &examined, json, text)
         }
         None => Ok(()),
     }
 }
 
-// Appends the text of a look, or its JSON and a newline.
-fn put_look(
+// Appends the text of an inspection, or its JSON and a newline.
+fn put_inspection(
     alloc: Global,
     examined: &Examined,
     json: bool,
     text: &mut String,
 ) -> Result<(), Refusal>
-    ensures puts { OnOk result (Puts (string_bytes text.old) (string_bytes text.new) (IsLookText json examined.now)) }
+    ensures puts { OnOk result (Puts (string_bytes text.old) (string_bytes text.new) (IsInspectionText json examined.now)) }
     ensures err { IfErr result (λ refusal. refusal ≡ Refusal.Memory) }
 {
     if json {

@@ -3,7 +3,7 @@ ghost use Rattle.std.specs.Prelude.{◌≡◌, ◌≢◌, ◌⊎◌, ℕ, List, 
 ghost use Rattle.sector_model.specs.Memory.{sectors_in};
 ghost use Rattle.sector_model.specs.Plans.{fails_at};
 ghost use Rattle.array_io.specs.Believed.OpenArray.{array_view};
-ghost use Rattle.recovery.specs.Making.{IsQuietBehind};
+ghost use Rattle.recovery.specs.Making.{IsQuietBeyond};
 ghost use Rattle.recovery.specs.SeenBank.{bank_seen};
 ghost use Rattle.volume_table.specs.OpenStore.{store_view};
 ghost use Rattle.set_commands.specs.Fresh.{HasNoVolumes, IsFreshEnd, IsFreshRefusal, IsMadeFresh, RunsFresh, fresh_devices};
@@ -73,7 +73,7 @@ fn fresh_array(alloc: Global) -> Result<Array<MemBank>, Refusal>
 // flushes.
 fn fresh_bank(alloc: Global) -> Result<MemBank, Refusal>
     ensures devices { IfOk result (λ bank. (⟦<MemBank as Bank>⟧.panel bank).devices ≡ 5) }
-    ensures quiet { (id : List ℕ) → IfOk result (λ bank. IsQuietBehind id 5 (bank_seen ⟦<MemBank as Bank>⟧ bank)) }
+    ensures quiet { (id : List ℕ) → IfOk result (λ bank. IsQuietBeyond id 5 (bank_seen ⟦<MemBank as Bank>⟧ bank)) }
     ensures plan { IfOk result (λ bank. (device call : ℕ) → fails_at bank.plan device call ≡ false) }
     ensures room { IfOk result (λ bank. bank.room ≡ 20000) }
     ensures err { IfErr result (λ refusal. refusal ≡ Refusal.Memory) }

@@ -171,7 +171,7 @@ fn calls_of_store(
 }
 
 #[test]
-fn no_call_behind_a_command(rt: HostRuntime) {
+fn no_call_after_a_command(rt: HostRuntime) {
     for command in COMMANDS {
         let wanted = calls_of_store(&rt, *command);
         assert!(rt; wanted.1.is_ok() && wanted.2 > 0);

@@ -245,7 +245,7 @@ static SCRUBBED: &[Row] = &[
 ];
 
 #[test]
-fn rows_are_looked_at(rt: HostRuntime) {
+fn rows_are_inspected(rt: HostRuntime) {
     for row in SCRUBBED {
         is_done(&rt, row);
     }

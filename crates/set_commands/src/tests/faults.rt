@@ -1,5 +1,5 @@
 //! Readers and writers that fail in the middle, and devices that go down.
-use super::{Row, SET_A, answers, fall_at, fresh_store, plays, served};
+use super::{Row, SET_A, answers, fail_at, fresh_store, plays, served};
 use crate::testing::same;
 use crate::testing::streams::WHOLE;
 use sector_model::{Bank, MemBank, Refusal};
@@ -75,7 +75,7 @@ fn a_writer_that_fails(rt: HostRuntime) {
 
 // A store with a volume of four blocks, of which the last is written. From now on these slots go down at their next
 // call, and these scripts are run.
-fn falls(rt: &(impl Abort + AllocGlobal), slots: &[usize], rows: &[Row]) -> Store<MemBank> {
+fn with_failures(rt: &(impl Abort + AllocGlobal), slots: &[usize], rows: &[Row]) -> Store<MemBank> {
     let mut store = fresh_store(rt, SET_A);
     answers(
         rt,
@@ -83,21 +83,21 @@ fn falls(rt: &(impl Abort + AllocGlobal), slots: &[usize], rows: &[Row]) -> Stor
         b"create a 4\nwrite a 3 ab*512\n",
         b"ok\nok\n",
     );
-    fall_at(rt, &mut store, slots, 0);
+    fail_at(rt, &mut store, slots, 0);
     plays(rt, &mut store, rows);
     store
 }
 
 // The same for each of these choices of slots.
-fn each_falls(rt: &(impl Abort + AllocGlobal), cases: &[&[usize]], rows: &[Row]) {
+fn each_fails(rt: &(impl Abort + AllocGlobal), cases: &[&[usize]], rows: &[Row]) {
     for slots in cases {
-        let _ = falls(rt, slots, rows);
+        let _ = with_failures(rt, slots, rows);
     }
 }
 
 #[test]
 fn one_device_that_goes_down(rt: HostRuntime) {
-    each_falls(
+    each_fails(
         &rt,
         &[&[0], &[1], &[2], &[3], &[4]],
         &[(
@@ -111,7 +111,7 @@ fn one_device_that_goes_down(rt: HostRuntime) {
 // Slots 3 and 4 are the journals.
 #[test]
 fn two_devices_that_go_down(rt: HostRuntime) {
-    each_falls(
+    each_fails(
         &rt,
         &[&[0, 1], &[0, 2], &[1, 2], &[0, 3], &[2, 4], &[3, 4]],
         &[(
@@ -142,7 +142,7 @@ const AFTER_THE_END: &[Row] = &[
 
 #[test]
 fn a_store_that_was_ended(rt: HostRuntime) {
-    let mut store = falls(&rt, &[0, 1], &[(b"write a 0 5a*512\n", TWO_LOST, Some(0))]);
+    let mut store = with_failures(&rt, &[0, 1], &[(b"write a 0 5a*512\n", TWO_LOST, Some(0))]);
     let calls = store.bank().now();
     plays(&rt, &mut store, AFTER_THE_END);
     same(&rt, store.bank().now(), calls);
@@ -151,7 +151,7 @@ fn a_store_that_was_ended(rt: HostRuntime) {
 
 #[test]
 fn the_refusal_that_ends_a_script_is_cut_off(rt: HostRuntime) {
-    let mut store = falls(&rt, &[0, 1], &[]);
+    let mut store = with_failures(&rt, &[0, 1], &[]);
     let script = b"write a 0 5a*512\nlist\n";
     let cut = b"refused 15 TwoLost";
     let end = Err(Refusal::WriteFault);

@@ -1,6 +1,6 @@
 //! Small scripts over set A, with what they are answered.
 use super::{
-    MEMBER_DOWN, SET_A, answers, bank_of, fall_at, fresh_store, image_now, writes, writes_joined,
+    MEMBER_DOWN, SET_A, answers, bank_of, fail_at, fresh_store, image_now, writes, writes_joined,
 };
 use crate::testing::{ID, same};
 use crate::{Health, serve_on, tell_on};
@@ -133,7 +133,7 @@ fn first_refusals(rt: HostRuntime) {
 fn written(rt: &(impl Abort + AllocGlobal), call: u64) -> Store<MemBank> {
     let mut store = fresh_store(rt, SET_A);
     answers(rt, &mut store, b"create a 64\n", b"ok\n");
-    fall_at(rt, &mut store, &[2], call);
+    fail_at(rt, &mut store, &[2], call);
     answers(rt, &mut store, b"write a 0 66*512\n", b"ok\n");
     store
 }

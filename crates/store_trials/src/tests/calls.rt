@@ -48,7 +48,7 @@ impl CommitSize {
         self.before_members() + member_calls(self.rows)
     }
 
-    /// The last call to a slot, counted from 0: the read of its last row, the flush behind its rows, or the one behind its seal.
+    /// The last call to a slot, counted from 0: the read of its last row, the flush after its rows, or the one after its seal.
     pub(crate) fn last_call(&self, slot: u8) -> u64 {
         let at = u64::from(slot);
         if at >= MEMBERS {
@@ -57,7 +57,7 @@ impl CommitSize {
         if slot == self.read {
             return u64::from(self.rows).saturating_sub(1);
         }
-        // Each of the two others has its rows and a flush, one member behind the other.
+        // Each of the two others has its rows and a flush, one member after the other.
         let place = if slot < self.read {
             slot
         } else {

@@ -98,7 +98,7 @@ fn new_blocks_alone_are_zero(rt: HostRuntime) {
     check_new(&rt, SET_A, STEPS);
 }
 
-// Record 1 and extent 1 are free, and extent 3 behind those of the two other volumes. Block 64 of `d` lies at the front of extent 3, and the block of
+// Record 1 and extent 1 are free, and extent 3 after those of the two other volumes. Block 64 of `d` lies at the front of extent 3, and the block of
 // `c` at that of extent 2.
 #[test]
 fn lowest_record_and_extents(rt: HostRuntime) {

@@ -4,14 +4,15 @@ use super::Call::{Create, Extend, Fail, List, Read, Remove, Rename, Write};
 use super::Step::{Apply, Holds};
 use super::calls::OF_TABLE;
 use super::{
-    SET_A, SMALL, Step, TestStore, Volumes, again, check, check_new, fall, fresh_store, unlike,
+    SET_A, SMALL, Step, TestStore, Volumes, again, check, check_new, fail_devices, fresh_store,
+    unlike,
 };
 use crate::testing::same;
 use sector_model::{Bank, Choice, MemBank, Refusal};
 use std::process::Abort;
 use volume_table::Event;
 
-// Runs these events on a store. Its acks have to be these, counted from the call that is now the next, and the last of them that behind the run.
+// Runs these events on a store. Its acks have to be these, counted from the call that is now the next, and the last of them that after the run.
 fn run(
     rt: &(impl Abort + AllocGlobal),
     store: &mut TestStore,
@@ -174,7 +175,7 @@ const EVENTS: &[Event] = &[
 ];
 
 // Their acks. A commit of a block makes 15 calls, one of two sectors in two rows 22, as that of the table where a volume is made or removed, and one of
-// three in three 29. A read of 3 blocks makes 3 calls. What is refused makes none, and the events behind it are done.
+// three in three 29. A read of 3 blocks makes 3 calls. What is refused makes none, and the events after it are done.
 const ACKS: &[u64] = &[37, 52, 52, 103, 125, 128, 150, 187, 187];
 
 // The volumes after each of them.
@@ -199,8 +200,13 @@ fn refused_in_a_run(rt: HostRuntime) {
     check(&rt, &mut store, STEPS);
 }
 
-// Checks stops at these calls, with each one slot absent or none: the volumes have to be these.
-fn check_stops(rt: &(impl Abort + AllocGlobal), bank: &MemBank, calls: &[u64], after: &[Volumes]) {
+// Checks crashes at these calls, with each one slot absent or none: the volumes have to be these.
+fn check_crashes(
+    rt: &(impl Abort + AllocGlobal),
+    bank: &MemBank,
+    calls: &[u64],
+    after: &[Volumes],
+) {
     same(rt, calls.len(), after.len());
     for at in 0..calls.len().min(after.len()) {
         for choice in [Choice::Oldest, Choice::Newest, Choice::Mixed(3)] {
@@ -213,15 +219,15 @@ fn check_stops(rt: &(impl Abort + AllocGlobal), bank: &MemBank, calls: &[u64], a
     }
 }
 
-// A stop at the call of an ack keeps the event, without any one slot too.
+// A crash at the call of an ack keeps the event, without any one slot too.
 #[test]
-fn stops_at_acks(rt: HostRuntime) {
+fn crashes_at_acks(rt: HostRuntime) {
     let mut store = fresh_store(&rt, SMALL);
     let acks = run(&rt, &mut store, EVENTS, ACKS);
-    check_stops(&rt, store.bank(), &acks, AFTER);
+    check_crashes(&rt, store.bank(), &acks, AFTER);
 }
 
-// Runs events on a store that was ended or ends behind the first of them. The acks have to be 7, which was there before, and that one's.
+// Runs events on a store that was ended or ends after the first of them. The acks have to be 7, which was there before, and that one's.
 fn check_ended_run(
     rt: &(impl Abort + AllocGlobal),
     store: &mut TestStore,
@@ -234,7 +240,7 @@ fn check_ended_run(
     same(rt, acks.as_slice(), &[7, done]);
 }
 
-// Two devices go down behind the first of three events, which makes two commits of two sectors. Acks that were there stay.
+// Two devices go down after the first of three events, which makes two commits of two sectors. Acks that were there stay.
 #[test]
 fn run_that_ends_the_store(rt: HostRuntime) {
     const STEPS: &[Step] = &[
@@ -258,7 +264,7 @@ fn run_that_ends_the_store(rt: HostRuntime) {
     let mut store = fresh_store(&rt, SET_A);
     let made = 2 * OF_TABLE.calls();
     let done = store.bank().now().saturating_add(made);
-    fall(&rt, &mut store, &[1, 3], made);
+    fail_devices(&rt, &mut store, &[1, 3], made);
     let mut acks = Vec::new(rt.alloc());
     acks.push(7).expect(&rt, "memory");
     check_ended_run(&rt, &mut store, EVENTS, &mut acks, done);

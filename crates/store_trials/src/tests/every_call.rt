@@ -1,4 +1,4 @@
-//! One list of events on set A, and the volumes after each number of them: tests stop it at every device call, and let each device go down at every call.
+//! One list of events on set A, and the volumes after each number of them: tests crash it at every device call, and let each device go down at every call.
 use super::{
     SET_A, TestStore, Volumes, assembled, fresh_store, image_now, opened, unlike, version_of,
 };
@@ -6,10 +6,10 @@ use sector_model::Image;
 use std::process::Abort;
 use volume_table::Event;
 
-mod falls;
+mod crashes;
+mod crashes_twice;
+mod failures;
 mod replaced;
-mod stops;
-mod stops_twice;
 
 /// The events. The last one leaves the volumes as they are, and gives their table version 2.
 pub(crate) static EVENTS: [Event; 9] = [

@@ -82,7 +82,7 @@ fn name_of(
     names[at]
 }
 
-// A block of a volume, or one of the two behind its last: in one of sixteen cases the last of all numbers.
+// A block of a volume, or one of the two after its last: in one of sixteen cases the last of all numbers.
 fn block_of(rt: &impl Abort, numbers: &mut Numbers, map: &Map, name: &[u8]) -> u32 {
     if numbers.below(rt, 16) == 0 {
         return 4_294_967_295;

@@ -1,7 +1,7 @@
 //! A set that gets whole again by the calls of its store, and by the events of these.
 use super::Answer::{Blocks, Done, Refused, Scrubbed, Stepped};
 use super::Call::{Create, Fail, Read, RebuildStep, Replace, Scrub, Write};
-use super::Step::{Apply, Do, Ended, Fall, Slot, Status};
+use super::Step::{Apply, Do, Ended, Failure, Slot, Status};
 use super::calls::OF_ONE;
 use super::{
     NO_SLOT, SET_A, SMALL, Step, TestStore, again, assembled, check, check_missing, check_new,
@@ -106,7 +106,10 @@ fn old_member_returns(rt: HostRuntime) {
     check(
         &rt,
         &mut store,
-        &[Do(Create(b"a", 64), Done), Fall(&[2], OF_ONE.last_call(2))],
+        &[
+            Do(Create(b"a", 64), Done),
+            Failure(&[2], OF_ONE.last_call(2)),
+        ],
     );
     check(
         &rt,
@@ -186,7 +189,7 @@ fn with_earlier(rt: &(impl Abort + AllocGlobal), bank: &MemBank, earlier: &MemBa
     opened(rt, assembled(rt, image))
 }
 
-// A replacement that was given up is not what the table counts on, by its incarnation, when it returns behind the next one. The table is the first
+// A replacement that was given up is not what the table counts on, by its incarnation, when it returns after the next one. The table is the first
 // when the set is made, and a further one by each `fail` and `replace`, by the step, and by the start with the old device.
 #[test]
 fn returned_replacement(rt: HostRuntime) {
@@ -213,14 +216,14 @@ fn put_back(rt: &impl Abort, image: &mut Image, mut earlier: Image, slot: usize)
 
 // A device of no use leaves its slot missing, and its store open; that of another slot ends it.
 #[test]
-fn falls_in_a_replace(rt: HostRuntime) {
+fn failures_in_a_replace(rt: HostRuntime) {
     let mut store = fresh_store(&rt, SMALL);
     check(
         &rt,
         &mut store,
         &[
             Do(Fail(0), Done),
-            Fall(&[0], 0),
+            Failure(&[0], 0),
             Do(Replace(0), Refused(Refusal::NotUsable)),
             Do(Replace(0), Refused(Refusal::NotUsable)),
         ],
@@ -231,16 +234,16 @@ fn falls_in_a_replace(rt: HostRuntime) {
         SMALL,
         &[
             Do(Fail(0), Done),
-            Fall(&[1], 0),
+            Failure(&[1], 0),
             Apply(Replace(0), Refused(Refusal::TwoLost)),
             Ended(Refusal::TwoLost),
         ],
     );
 }
 
-// The rebuilding member is missing once its device is down; another slot's fall ends the store.
+// The rebuilding member is missing once its device is down; another slot's failure ends the store.
 #[test]
-fn falls_in_a_step(rt: HostRuntime) {
+fn failures_in_a_step(rt: HostRuntime) {
     let mut store = fresh_store(&rt, SMALL);
     check(
         &rt,
@@ -248,7 +251,7 @@ fn falls_in_a_step(rt: HostRuntime) {
         &[
             Do(Fail(0), Done),
             Do(Replace(0), Done),
-            Fall(&[0], 0),
+            Failure(&[0], 0),
             Do(RebuildStep(64), Refused(Refusal::NothingToRebuild)),
             Do(RebuildStep(64), Refused(Refusal::NothingToRebuild)),
         ],
@@ -260,22 +263,22 @@ fn falls_in_a_step(rt: HostRuntime) {
         &[
             Do(Fail(0), Done),
             Do(Replace(0), Done),
-            Fall(&[1], 0),
+            Failure(&[1], 0),
             Apply(RebuildStep(64), Refused(Refusal::TwoLost)),
             Ended(Refusal::TwoLost),
         ],
     );
 }
 
-// A member that falls in a scrub is missing, and the store goes on.
+// A member that fails in a scrub is missing, and the store goes on.
 #[test]
-fn fall_in_a_scrub(rt: HostRuntime) {
+fn failure_in_a_scrub(rt: HostRuntime) {
     let mut store = fresh_store(&rt, SMALL);
     check(
         &rt,
         &mut store,
         &[
-            Fall(&[1], 0),
+            Failure(&[1], 0),
             Apply(Scrub, Refused(Refusal::Incomplete)),
             Apply(Create(b"a", 1), Done),
         ],

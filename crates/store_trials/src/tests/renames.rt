@@ -5,7 +5,7 @@ use super::Step::{Apply, Do, Ended, Holds, Makes, Owner, Record, Shows, Table, V
 use super::{SET_A, Step, check, check_new, fresh_store, next_run};
 use sector_model::Refusal;
 
-mod falls;
+mod failures;
 mod largest;
 
 // Nothing.
@@ -146,7 +146,7 @@ const OF_63: &[u8] = b"a-name-of-twenty-four-bytes-and-of-thirty-nine-more-behin
 
 const OF_64: &[u8] = b"a-name-of-twenty-four-bytes-and-of-thirty-nine-more-behind-them_";
 
-// The longest names have 24 bytes, and 63 behind an upgrade. A name that is longer names no volume.
+// The longest names have 24 bytes, and 63 after an upgrade. A name that is longer names no volume.
 #[test]
 fn renames_to_long_names(rt: HostRuntime) {
     static STEPS: [Step; 14] = [

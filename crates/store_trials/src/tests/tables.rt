@@ -73,7 +73,7 @@ fn check_damaged(rt: &(impl Abort + AllocGlobal), logical: usize, by: u8, sector
     same(rt, got, (logical, Refusal::BadTable, sectors, room));
 }
 
-// Sector 0 then has a version that there is not, behind which nothing is read; sectors 1 and 2 have a record of a name that is not good, and sectors 3
+// Sector 0 then has a version that there is not, after which nothing is read; sectors 1 and 2 have a record of a name that is not good, and sectors 3
 // and 7 an owner without a record.
 #[test]
 fn bad_table(rt: HostRuntime) {

@@ -14,11 +14,11 @@ use std::process::Abort;
 use stripe_journal::Form;
 use stripe_journal::oracle::last_sealed_in;
 
+mod crashes;
 mod events;
-mod falls;
+mod failures;
 mod forged;
 mod limits;
-mod stops;
 
 // Of set A sectors 0 to 7 of the table lie on member 0 and 8 to 15 on member 1, in rows 0 to 7, whose parity is on member 2. Sectors 16 to 23 lie on
 // member 2 and sector 24 on member 0, in rows 8 to 15, whose parity is on member 1. So rows 0 to 8 are written whole, and rows 9 to 15 but for member 0,
@@ -34,7 +34,7 @@ pub(crate) const BEFORE_SEALS: u64 = READS + 2 * (HELD + 1);
 /// The calls of an upgrade before its first write to a member.
 pub(crate) const BEFORE_MEMBERS: u64 = BEFORE_SEALS + SEAL_CALLS;
 
-/// The calls of an upgrade: behind the seals each sector is written to its member, and each of three members is flushed.
+/// The calls of an upgrade: after the seals each sector is written to its member, and each of three members is flushed.
 pub(crate) const CALLS: u64 = BEFORE_MEMBERS + HELD + 3;
 
 // Nothing.

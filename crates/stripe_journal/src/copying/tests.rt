@@ -90,19 +90,19 @@ fn a_copy_has_what_the_entry_holds(rt: HostRuntime) {
 }
 
 // How many calls a copy makes, whether it is answered, and the number of the last entry of the other journal then.
-type Fall = (u64, bool, u64);
+type Failure = (u64, bool, u64);
 
 // Copies over a journal that goes down: in row r it is down from call r of the copy on.
-fn check_falls(
+fn check_failures(
     rt: &(impl Abort + AllocGlobal),
     (dev, other): (u8, u8),
     number: u8,
-    falls: &[Fall; 15],
+    failures: &[Failure; 15],
 ) {
     assert!(rt; dev < 10);
     for row in 0..15u8 {
         let call = u64::from(row);
-        let (made, is_answered, last) = falls[row as usize];
+        let (made, is_answered, last) = failures[row as usize];
         let answer = if is_answered {
             Ok(())
         } else {
@@ -118,7 +118,7 @@ fn check_falls(
 #[test]
 fn a_copy_whose_source_goes_down(rt: HostRuntime) {
     // Each second call is a read, and the last of them call 10, from 0.
-    const FALLS: [Fall; 15] = [
+    const FAILURES: [Failure; 15] = [
         (1, false, 0),
         (3, false, 0),
         (3, false, 0),
@@ -135,13 +135,13 @@ fn a_copy_whose_source_goes_down(rt: HostRuntime) {
         (CALLS, true, 1),
         (CALLS, true, 1),
     ];
-    check_falls(&rt, (FROM, TO), 1, &FALLS)
+    check_failures(&rt, (FROM, TO), 1, &FAILURES)
 }
 
 #[test]
 fn a_copy_whose_target_goes_down(rt: HostRuntime) {
     // Below call 12 it is only written, at each second call.
-    const FALLS: [Fall; 15] = [
+    const FAILURES: [Failure; 15] = [
         (2, false, 2),
         (2, false, 2),
         (4, false, 2),
@@ -158,5 +158,5 @@ fn a_copy_whose_target_goes_down(rt: HostRuntime) {
         (14, false, 2),
         (15, false, 2),
     ];
-    check_falls(&rt, (TO, FROM), 2, &FALLS)
+    check_failures(&rt, (TO, FROM), 2, &FAILURES)
 }

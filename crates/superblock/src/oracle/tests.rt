@@ -40,7 +40,7 @@ fn sector_of(role: u8, standing: Standing) -> Sector {
     }
 }
 
-// A device with these sectors in place 0 and place 1, and zeros behind them.
+// A device with these sectors in place 0 and place 1, and zeros after them.
 fn device(
     rt: &(impl Abort + AllocGlobal),
     sectors: u16,

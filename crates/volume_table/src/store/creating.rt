@@ -12,7 +12,7 @@ use sector_model::{Bank, Refusal};
 
 impl<B: Bank> Store<B> {
     /// Makes a volume of this name with so many zero blocks, 1 to 65,536. The blocks are made zero while no volume shows them, and then one
-    /// commit changes the table: at each moment a stop leaves the volumes as they were, or with the new one. Its record is the lowest one that was
+    /// commit changes the table: at each moment a crash leaves the volumes as they were, or with the new one. Its record is the lowest one that was
     /// not used.
     ///
     /// Refused, in this order, with `BadName` where the name is not 1 to 24 bytes (63 with a table of version 2), the first `a` to `z`, the others `a` to

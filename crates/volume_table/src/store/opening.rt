@@ -6,7 +6,7 @@ ghost use Rattle.superblock.specs.Cases.{Lost};
 ghost use Rattle.array_io.specs.Believed.Views.{IsEndOf, RestsOn};
 ghost use Rattle.extents.specs.declared.volume_table.VolumeTable.{VolumeTable};
 ghost use Rattle.extents.specs.TableSpelling.{Spell};
-ghost use Rattle.array_io.specs.Believed.ReadWhole.{NoneFell, list_read};
+ghost use Rattle.array_io.specs.Believed.ReadWhole.{NoDeviceFailed, list_read};
 ghost use Rattle.array_io.specs.Believed.OpenArray.{IsHonest, array_view};
 ghost use Rattle.volume_table.specs.ListChanges.{ChangesList, IsSame};
 ghost use Rattle.volume_table.specs.Opening.{Opens, given_back, opened};
@@ -66,7 +66,7 @@ fn read_table<B: Bank>(
         → IsEndOf (array_view array.old) (array_view array.new) ⊥ refusal }
     ensures gives { IsHonest array.old → OnOk result ((lost : Option Lost) (V : List Bytes) (table : VolumeTable)
         → RestsOn (array_view array.old) lost V → Spell sectors.new table ↔ Spell V table) }
-    ensures spelled { IsHonest array.old → OnOk result (NoneFell (B.panel array.old.bank) (B.panel array.new.bank)
+    ensures spelled { IsHonest array.old → OnOk result (NoDeviceFailed (B.panel array.old.bank) (B.panel array.new.bank)
         → (table : VolumeTable) → Spell (list_read (array_view array.old)) table → Spell sectors.new table) }
 {
     array.read(0, &mut sectors[0])?;
@@ -90,7 +90,7 @@ fn read_from<B: Bank>(
         → IsEndOf (array_view array.old) (array_view array.new) ⊥ refusal }
     ensures gives { IsHonest array.old → OnOk result ((lost : Option Lost) (V : List Bytes)
         → RestsOn (array_view array.old) lost V → sectors.new ≡ take (length sectors.old) (drop first V)) }
-    ensures reads { IsHonest array.old → OnOk result (NoneFell (B.panel array.old.bank) (B.panel array.new.bank)
+    ensures reads { IsHonest array.old → OnOk result (NoDeviceFailed (B.panel array.old.bank) (B.panel array.new.bank)
         → (k : ℕ) → k < length sectors.old
         → length (slice_index_or (list_read (array_view array.old)) (first + k) []) ≡ 512
         → slice_index_or sectors.new k [] ≡ slice_index_or (list_read (array_view array.old)) (first + k) []) }

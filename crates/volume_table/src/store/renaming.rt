@@ -26,7 +26,7 @@ pub struct Renaming {
 }
 
 impl<B: Bank> Store<B> {
-    /// Gives the volume of this name another, by one commit: at each moment a stop leaves the volumes as they were, or with the new name in place of
+    /// Gives the volume of this name another, by one commit: at each moment a crash leaves the volumes as they were, or with the new name in place of
     /// the old one. The volume keeps its record's number, its extents and its blocks, none of which is written. It takes no memory.
     ///
     /// Refused, in this order, with `NoVolume` where no volume has the old name; `BadName` where the new one is not a good name by the table's version, as

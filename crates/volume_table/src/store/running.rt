@@ -12,8 +12,8 @@ use sector_model::{Bank, Refusal};
 use std::alloc::Global;
 
 impl<B: Bank> Store<B> {
-    /// Does the events in order. Behind each one that was answered, also where that was a refusal, `acks` gets the number of device calls made until
-    /// then: a stop at that call or later keeps what the event did.
+    /// Does the events in order. After each one that was answered, also where that was a refusal, `acks` gets the number of device calls made until
+    /// then: a crash at that call or later keeps what the event did.
     ///
     /// `Memory` where there is no room for all acks, and none to be had; then nothing was done. `TwoLost` and `Worn` end the run with the store, at the first event that is
     /// answered so, which gets no ack. A store that was ended answers the refusal that ended it.
@@ -38,7 +38,7 @@ impl<B: Bank> Store<B> {
         Ok(())
     }
 
-    // Does one event of an open store (condition), and puts its ack behind those that are there, for which there is room (condition). The refusal is
+    // Does one event of an open store (condition), and puts its ack after those that are there, for which there is room (condition). The refusal is
     // one that ended the store.
     fn acknowledge(
         &mut self,

@@ -11,7 +11,7 @@ use arrayvec::ArrayVec;
 use extents::{TABLE_SECTORS, VolumeTable, table_length};
 use sector_model::{Bank, Refusal, Sector};
 
-/// Sectors that begin with the spelling of a table; those behind it are zeros.
+/// Sectors that begin with the spelling of a table; those after it are zeros.
 pub fn spelled(table: &VolumeTable) -> [Sector; TABLE_SECTORS]
     ensures { Spell result table.now }
 {

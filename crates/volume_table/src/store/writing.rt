@@ -11,7 +11,7 @@ use crate::event::MOST_BLOCKS_AT_ONCE;
 use sector_model::{Bank, Refusal, Sector};
 
 impl<B: Bank> Store<B> {
-    /// Writes 1 to 32 blocks of the volume of this name, from block `at` on, by one commit: at each moment a stop leaves all of them as they were,
+    /// Writes 1 to 32 blocks of the volume of this name, from block `at` on, by one commit: at each moment a crash leaves all of them as they were,
     /// or all as given.
     ///
     /// Refused, in this order, with `NoVolume` where no volume has the name, `BadCount` where there are 0 blocks or more than 32, and `OutOfRange`

@@ -41,10 +41,10 @@ returns-then-not-is_at-clause-has c =
     let within : c.place_in-place.result ≤ length rows = omega (arith, ap length c.deref.ensures.0, c.place_in-place.ensures.within) in
     subst (λ (list : List ℕ). HasRow list c.args.row) (sym c.insert.ensures.items) (new_has rows c.args.row c.place_in-place.result within)
 
--- rows rise with one more where it is above those before and below those behind
+-- rows rise with one more where it is above those before and below those after
 still_rises : (rows : List ℕ) (row place : ℕ) → IsStrictlyIncreasing rows → place ≤ length rows → ((i : ℕ) → i < place → row_at rows i < row)
     → (place < length rows → row < row_at rows place) → IsStrictlyIncreasing (insert rows place row)
-still_rises rows row place rising within below behind = λ k inside.
+still_rises rows row place rising within below beyond = λ k inside.
     let long = length-insert rows place row within in
     elim (cases_lt k place) [
       | inl before ↦
@@ -56,7 +56,7 @@ still_rises rows row place rising within below behind = λ k inside.
       | inr from ↦
           let next = get_or-insert_above rows place row 0 k from within in
           elim (cases_eq k place) [
-            | inl same ↦ omega (arith, next, behind (omega arith), ap (λ (n : ℕ). get_or (insert rows place row) n 0) same, get_or-insert_at rows place row 0 within, ap (row_at rows) same)
+            | inl same ↦ omega (arith, next, beyond (omega arith), ap (λ (n : ℕ). get_or (insert rows place row) n 0) same, get_or-insert_at rows place row 0 within, ap (row_at rows) same)
             | inr other ↦
                 let one : k ≡ (k - 1) + 1 = omega arith in
                 omega (arith, next, get_or-insert_above rows place row 0 (k - 1) (omega arith) within, ap (λ (n : ℕ). get_or (insert rows place row) n 0) one, ap (row_at rows) one, rising (k - 1) (omega arith))

@@ -23,7 +23,7 @@ loop-i-init g c = record {
   form = refl;
   sound = λ number k from honest below at. absurd (omega (arith, below));
   others = λ k member within skip. refl;
-  behind = λ k member within from. refl;
+  beyond = λ k member within from. refl;
 }
 
 pub form_row-requires-clause-row : goal.form_row-requires-clause-row
@@ -41,7 +41,7 @@ pub form_row-requires-clause-zeros : goal.form_row-requires-clause-zeros
 form_row-requires-clause-zeros g c = λ member parity.
     let same = same_set (g.B.Bank.honest c.args.bank.now) c.args.table.now c.loop-i.table (g.B.Bank.panel c.args.bank.now) (g.B.Bank.panel c.loop-i.bank) (g.B.Bank.history c.args.bank.now) (g.B.Bank.history c.loop-i.bank) c.loop-i.invariant.steps in
     let here = subst (λ (x : Geometry). HasParityOn x (row_at c.args.rows.now c.loop-i.i) member) same parity in
-    c.loop-i.invariant.behind c.loop-i.i member (omega (arith, here.in_set, c.args.table.now.geometry.limits.members_most)) (omega arith)
+    c.loop-i.invariant.beyond c.loop-i.i member (omega (arith, here.in_set, c.args.table.now.geometry.limits.members_most)) (omega arith)
     ∙ c.requires.zeros c.loop-i.i member c.loop-i-test.true here
 
 pub returns-in_err-form_row-clause-honest : goal.returns-in_err-form_row-clause-honest
@@ -95,7 +95,7 @@ loop-i-preserved g c =
       others = λ k member within skip. forms.others k member within (λ same_row is. skip
           (subst (λ (n : ℕ). HasParityOn geometry (row_at rows n) member) (sym same_row) (subst (λ (x : Geometry). HasParityOn x (row_at rows now.i) member) same is)))
           ∙ now.invariant.others k member within skip;
-      behind = λ k member within after. forms.others k member within (λ here. absurd (omega (arith, here, after))) ∙ now.invariant.behind k member within (omega (arith, after));
+      beyond = λ k member within after. forms.others k member within (λ here. absurd (omega (arith, here, after))) ∙ now.invariant.beyond k member within (omega (arith, after));
     }
 
 pub returns-clause-sound : goal.returns-clause-sound

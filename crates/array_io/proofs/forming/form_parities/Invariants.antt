@@ -19,5 +19,5 @@ invariant-loop-i g l = record {
       → Between (g.B.Bank.panel l.initial.bank).devices number from l.initial.table (g.B.Bank.history l.initial.bank)
       → HasSoundRow l.initial.table.geometry from.logical l.entry k (row_at l.rows k);
   others : (k member : ℕ) → member < MOST_MEMBERS → ¬ HasParityOn l.initial.table.geometry (row_at l.rows k) member → sector_at l.entry k member ≡ sector_at l.initial.entry k member;
-  behind : (k member : ℕ) → member < MOST_MEMBERS → l.i ≤ k → sector_at l.entry k member ≡ sector_at l.initial.entry k member;
+  beyond : (k member : ℕ) → member < MOST_MEMBERS → l.i ≤ k → sector_at l.entry k member ≡ sector_at l.initial.entry k member;
 }

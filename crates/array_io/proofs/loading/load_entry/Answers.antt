@@ -38,14 +38,14 @@ loop-i-preserved g c =
     let form = c.args.seal.now.form in
     let few : members ≤ MOST_MEMBERS = omega (arith, c.args.geometry.now.limits.members_most) in
     record {
-      place = omega (arith, now.invariant.place, c.in_ok-at.ensures.behind, before_on members form now.i);
+      place = omega (arith, now.invariant.place, c.in_ok-at.ensures.beyond, before_on members form now.i);
       numbers = numbers_more rows _ _ _ now.i _ (omega (arith, ap length deref, c.loop-i-test.true)) (ap (λ (list : List ℕ). get_or list now.i 0) deref) now.invariant.numbers c.push.ensures.numbers c.load_row.ensures.numbers;
       count = omega (arith, ap length c.load_row.ensures.numbers, ap length c.push.ensures.numbers, length-append {A = ℕ}, now.invariant.count);
       panel = later_both _ _ _ now.invariant.panel c.load_row.ensures.panel;
       honest = λ honest. c.load_row.ensures.honest.0 (now.invariant.honest honest);
       still = λ honest. now.invariant.still (c.load_row.ensures.honest.1 honest);
       read = λ honest. read_both (now.invariant.read honest) (c.load_row.ensures.read (now.invariant.honest honest));
-      stays = λ device honest. c.in_ok-at.ensures.none_fell device (now.invariant.honest honest) ∙ now.invariant.stays device honest;
+      stays = λ device honest. c.in_ok-at.ensures.none_failed device (now.invariant.honest honest) ∙ now.invariant.stays device honest;
       held = held_more members now.i form now.entry c.push.new.self c.load_row.new.entry c.mask.result few now.invariant.count
           c.load_row.ensures.form c.mask.ensures c.push.ensures.mask c.push.ensures.masks now.invariant.held;
       loaded = λ k member honest below within on. elim (cases_eq k now.i) [
@@ -107,8 +107,8 @@ returns-in_err-at-clause-loaded g c = λ i member honest below within on. rw (er
 pub returns-in_err-at-clause-others_stay : goal.returns-in_err-at-clause-others_stay
 returns-in_err-at-clause-others_stay g c = λ other honest apart. c.load_row.ensures.others_stay other (c.loop-i.invariant.honest honest) apart ∙ c.loop-i.invariant.stays other honest
 
-pub returns-in_err-at-clause-none_fell : goal.returns-in_err-at-clause-none_fell
-returns-in_err-at-clause-none_fell g c = λ device honest. rw (err_from_is_err_and c.from_residual.result c.from_residual.ensures.1).1 tt
+pub returns-in_err-at-clause-none_failed : goal.returns-in_err-at-clause-none_failed
+returns-in_err-at-clause-none_failed g c = λ device honest. rw (err_from_is_err_and c.from_residual.result c.from_residual.ensures.1).1 tt
 
 pub returns-in_err-at-clause-err : goal.returns-in_err-at-clause-err
 returns-in_err-at-clause-err g c =
@@ -134,8 +134,8 @@ returns-clause-loaded g c = λ k member honest below within on.
 pub returns-clause-others_stay : goal.returns-clause-others_stay
 returns-clause-others_stay g c = λ other honest apart. c.loop-i.invariant.stays other honest
 
-pub returns-clause-none_fell : goal.returns-clause-none_fell
-returns-clause-none_fell g c = c.loop-i.invariant.stays
+pub returns-clause-none_failed : goal.returns-clause-none_failed
+returns-clause-none_failed g c = c.loop-i.invariant.stays
 
 pub returns-clause-err : goal.returns-clause-err
 returns-clause-err g c = tt

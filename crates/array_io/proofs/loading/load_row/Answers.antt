@@ -6,7 +6,7 @@ use Rattle.layout_map.specs.declared.sizes.TheConstants.{ENTRY_ROWS, MOST_MEMBER
 use Rattle.stripe_journal.specs.declared.form.Form.{Form}
 use Rattle.stripe_journal.specs.Forms.{count_held, holds}
 use Rattle.stripe_journal.proofs.Entries.{sector_elsewhere}
-use Rattle.stripe_journal.proofs.Masks.{count_behind, count_on, count_over}
+use Rattle.stripe_journal.proofs.Masks.{count_beyond, count_on, count_over}
 use Rattle.degraded.proofs.Members.{up_before}
 use Rattle.array_io.proofs.Commits.LoadingEntries.{loaded_more, loaded_over, none_of_read, read_before}
 use Rattle.array_io.proofs.loading.load_row.Goals.{else-holds, then-holds+in_ok-read_sector}
@@ -89,7 +89,7 @@ read_sector-requires-clause-within g c = λ up.
       c.loop-member.invariant.panel.sectors c.args.journal,
       c.loop-member.invariant.place,
       c.requires.end,
-      count_behind in_row c.loop-member.member c.args.members held c.loop-member-test.true,
+      count_beyond in_row c.loop-member.member c.args.members held c.loop-member-test.true,
     )
 
 pub sector_mut-requires-clause-held : goal.sector_mut-requires-clause-held
@@ -102,7 +102,7 @@ pub overflow_add-at : goal.overflow_add-at
 overflow_add-at g c =
     let in_row = holds c.args.members c.args.seal.now.form c.args.i in
     let held : in_row c.loop-member.member ≡ true = sym c.holds.ensures ∙ c.if-holds.true in
-    omega (arith, c.loop-member.invariant.place, c.requires.end, count_behind in_row c.loop-member.member c.args.members held c.loop-member-test.true)
+    omega (arith, c.loop-member.invariant.place, c.requires.end, count_beyond in_row c.loop-member.member c.args.members held c.loop-member-test.true)
 
 pub returns-in_err-read_sector-clause-panel : goal.returns-in_err-read_sector-clause-panel
 returns-in_err-read_sector-clause-panel g c = later_both _ _ _ c.loop-member.invariant.panel c.read_sector.ensures.panel
@@ -127,8 +127,8 @@ returns-in_err-read_sector-clause-others g c = λ other member apart wide.
     let within : c.loop-member.member < MOST_MEMBERS = omega (arith, c.requires.members, c.loop-member-test.true) in
     sector_elsewhere c.loop-member.entry c.args.i c.loop-member.member other member _ within wide (λ same. absurd (apart same)) ∙ c.loop-member.invariant.others other member apart wide
 
-pub returns-in_err-read_sector-clause-none_fell : goal.returns-in_err-read_sector-clause-none_fell
-returns-in_err-read_sector-clause-none_fell g c = λ device honest. rw (err_from_is_err_and c.from_residual.result c.from_residual.ensures.1).1 tt
+pub returns-in_err-read_sector-clause-none_failed : goal.returns-in_err-read_sector-clause-none_failed
+returns-in_err-read_sector-clause-none_failed g c = λ device honest. rw (err_from_is_err_and c.from_residual.result c.from_residual.ensures.1).1 tt
 
 pub returns-in_err-read_sector-clause-err : goal.returns-in_err-read_sector-clause-err
 returns-in_err-read_sector-clause-err g c =
@@ -150,8 +150,8 @@ returns-clause-numbers g c = c.loop-member.invariant.numbers
 pub returns-clause-loaded : goal.returns-clause-loaded
 returns-clause-loaded g c = λ member honest within on. c.loop-member.invariant.loaded honest member (omega (arith, within, c.loop-member-test.false)) on
 
-pub returns-clause-behind : goal.returns-clause-behind
-returns-clause-behind g c =
+pub returns-clause-beyond : goal.returns-clause-beyond
+returns-clause-beyond g c =
     let end : c.loop-member.member ≡ c.args.members = omega arith in
     c.loop-member.invariant.place ∙ ap (λ (n : ℕ). c.args.first + count_held (holds c.args.members c.args.seal.now.form c.args.i) n) end
 
@@ -167,8 +167,8 @@ returns-clause-others g c = c.loop-member.invariant.others
 pub returns-clause-others_stay : goal.returns-clause-others_stay
 returns-clause-others_stay g c = λ other honest apart. c.loop-member.invariant.stays other honest
 
-pub returns-clause-none_fell : goal.returns-clause-none_fell
-returns-clause-none_fell g c = c.loop-member.invariant.stays
+pub returns-clause-none_failed : goal.returns-clause-none_failed
+returns-clause-none_failed g c = c.loop-member.invariant.stays
 
 pub returns-clause-err : goal.returns-clause-err
 returns-clause-err g c = tt

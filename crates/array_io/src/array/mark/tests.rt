@@ -1,7 +1,7 @@
 //! A set of 3 members, chunk 8 and 32 stripes, of which slots are marked missing.
 use crate::Array;
 use crate::testing::{
-    BLANK, Fall, REBUILDING_1, Slots, WHOLE, WITHOUT_1, WITHOUT_4, all, bank_of, blank,
+    BLANK, Failure, REBUILDING_1, Slots, WHOLE, WITHOUT_1, WITHOUT_4, all, bank_of, blank,
     check_sector, check_slots, holds, is_out, put, put_row, same, superblock, table_of,
 };
 use sector_model::{Bank, Image, MemBank, Refusal, Sector};
@@ -27,7 +27,7 @@ pub(crate) type Step = (Call, u64, u8, Slots);
 pub(crate) struct Set {
     pub slots: Slots,
     pub row: [u8; 4],
-    pub falls: &'static [Fall],
+    pub failures: &'static [Failure],
 }
 
 // The image of the set.
@@ -48,7 +48,7 @@ fn put_superblocks(rt: &impl Abort, image: &mut Image, slots: &Slots) {
 fn array_of(rt: &(impl Abort + AllocGlobal), set: &Set) -> Array<MemBank> {
     let table = table_of(rt, 1, &set.slots);
     let entry = Entry::new(rt.alloc()).expect(rt, "memory");
-    let bank = bank_of(rt, image_of(rt, set), set.falls);
+    let bank = bank_of(rt, image_of(rt, set), set.failures);
     check_slots(rt, &table, &bank);
     Array {
         bank,
@@ -133,7 +133,7 @@ fn check_marked(rt: &impl Abort, bank: &mut MemBank, old: &Slots, new: &Slots) {
 const FRESH: Set = Set {
     slots: WHOLE,
     row: [0; 4],
-    falls: &[],
+    failures: &[],
 };
 
 // The marking has two calls of each other slot. When it is missing already, no device is called. Another one may not go.
@@ -151,7 +151,7 @@ fn slot_is_marked(rt: HostRuntime) {
 const REBUILDING: Set = Set {
     slots: REBUILDING_1,
     row: [0; 4],
-    falls: &[],
+    failures: &[],
 };
 
 // The position is 64 before, and 0 then.
@@ -163,19 +163,19 @@ fn rebuilding_slot_is_marked(rt: HostRuntime) {
 }
 
 // Device 2 goes down at its flush: calls 0 to 3 are writes to slots 0 to 3, and call 6 is the flush of slot 2.
-const FALLING: Set = Set {
+const FAILING: Set = Set {
     slots: WHOLE,
     row: [0; 4],
-    falls: &[(2, 6)],
+    failures: &[(2, 6)],
 };
 
 // In memory the slot is missing, so that two are out.
-const FALLS: &[Step] = &[
+const FAILURES: &[Step] = &[
     (Call::Mark(4, Err(Refusal::TwoLost)), 7, 2, WITHOUT_4),
     (Call::Down(2), 0, 2, WITHOUT_4),
 ];
 
 #[test]
 fn device_down_meanwhile(rt: HostRuntime) {
-    check(&rt, &FALLING, FALLS);
+    check(&rt, &FAILING, FAILURES);
 }

@@ -10,7 +10,7 @@ const ROW_WITHOUT_2: [u8; 4] = [0x33, 0x22, 0xee, 0];
 const USED: Set = Set {
     slots: WHOLE,
     row: ROW,
-    falls: &[],
+    failures: &[],
 };
 
 const READS: &[Step] = &[
@@ -28,7 +28,7 @@ fn one_call_reads_a_sector(rt: HostRuntime) {
 const MISSING: Set = Set {
     slots: WITHOUT_2,
     row: ROW_WITHOUT_2,
-    falls: &[],
+    failures: &[],
 };
 
 const READS_MISSING: &[Step] = &[
@@ -44,7 +44,7 @@ fn the_others_give_a_missing_member(rt: HostRuntime) {
 const TO_32: Set = Set {
     slots: REBUILDING_2_TO_32,
     row: ROW_WITHOUT_2,
-    falls: &[],
+    failures: &[],
 };
 
 const READS_TO_32: &[Step] = &[(Call::Read(64, 0x11), 2, 1, REBUILDING_2_TO_32)];
@@ -52,7 +52,7 @@ const READS_TO_32: &[Step] = &[(Call::Read(64, 0x11), 2, 1, REBUILDING_2_TO_32)]
 const TO_33: Set = Set {
     slots: REBUILDING_2_TO_33,
     row: ROW,
-    falls: &[],
+    failures: &[],
 };
 
 const READS_TO_33: &[Step] = &[(Call::Read(64, 0x11), 1, 1, REBUILDING_2_TO_33)];
@@ -63,28 +63,28 @@ fn a_rebuilding_member_counts_below_its_position(rt: HostRuntime) {
     check(&rt, &TO_33, READS_TO_33);
 }
 
-const FALLING: Set = Set {
+const FAILING: Set = Set {
     slots: WHOLE,
     row: ROW,
-    falls: &[(2, 0)],
+    failures: &[(2, 0)],
 };
 
 // Member 2 goes down at the read of its sector: its superblock is written to the four others, which are flushed, and
 // then its sector is read from the two other members.
-const READS_FALLING: &[Step] = &[
+const READS_FAILING: &[Step] = &[
     (Call::Read(64, 0x11), 1 + 8 + 2, 2, WITHOUT_2),
     (Call::Read(72, 0x33), 1, 2, WITHOUT_2),
 ];
 
 #[test]
 fn a_member_goes_down_at_its_read(rt: HostRuntime) {
-    check(&rt, &FALLING, READS_FALLING);
+    check(&rt, &FAILING, READS_FAILING);
 }
 
 const MISSING_AND_0: Set = Set {
     slots: WITHOUT_2,
     row: ROW,
-    falls: &[(0, 0)],
+    failures: &[(0, 0)],
 };
 
 const READS_WITHOUT_0: &[Step] = &[(Call::Lost(64), 1, 1, WITHOUT_2)];
@@ -92,7 +92,7 @@ const READS_WITHOUT_0: &[Step] = &[(Call::Lost(64), 1, 1, WITHOUT_2)];
 const MISSING_AND_1: Set = Set {
     slots: WITHOUT_2,
     row: ROW,
-    falls: &[(1, 0)],
+    failures: &[(1, 0)],
 };
 
 // The parity isn't read for data that is there.
@@ -101,18 +101,18 @@ const READS_WITHOUT_1: &[Step] = &[
     (Call::Lost(64), 2, 1, WITHOUT_2),
 ];
 
-const FALLING_TWICE: Set = Set {
+const FAILING_TWICE: Set = Set {
     slots: WHOLE,
     row: ROW,
-    falls: &[(2, 0), (0, 9)],
+    failures: &[(2, 0), (0, 9)],
 };
 
 // Member 2 goes down first, and then member 0 in the reads without it.
-const READS_FALLING_TWICE: &[Step] = &[(Call::Lost(64), 1 + 8 + 1, 2, WITHOUT_2)];
+const READS_FAILING_TWICE: &[Step] = &[(Call::Lost(64), 1 + 8 + 1, 2, WITHOUT_2)];
 
 #[test]
 fn a_second_member_goes_down(rt: HostRuntime) {
     check(&rt, &MISSING_AND_0, READS_WITHOUT_0);
     check(&rt, &MISSING_AND_1, READS_WITHOUT_1);
-    check(&rt, &FALLING_TWICE, READS_FALLING_TWICE);
+    check(&rt, &FAILING_TWICE, READS_FAILING_TWICE);
 }

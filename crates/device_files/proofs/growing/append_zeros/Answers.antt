@@ -1,5 +1,5 @@
 use Rattle.std.proofs.Common.{◌≡◌, ◌+◌, ◌-◌, arith}
-use Rattle.device_files.proofs.Appended.{zeros_behind}
+use Rattle.device_files.proofs.Appended.{zeros_after}
 use Rattle.device_files.proofs.growing.append_zeros.Goals as goal
 
 pub loop-left-preserved : goal.loop-left-preserved
@@ -10,5 +10,5 @@ loop-left-preserved g c =
     record {
       done = was.done + n;
       split = split;
-      grown = λ tells. zeros_behind _ _ _ was.done n (was.grown tells) (c.in_ok-left.ensures.grown tells);
+      grown = λ tells. zeros_after _ _ _ was.done n (was.grown tells) (c.in_ok-left.ensures.grown tells);
     }

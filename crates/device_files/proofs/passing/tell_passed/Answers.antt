@@ -17,7 +17,7 @@ loop-slot-preserved g c = elim c.match-barred-slot.branch [
       let told = told_line wrote.result (slot_line (codes "without ") c.loop-slot.slot w.words_of.result.now) _ _ wrote.ensures.ok wrote.ensures.part in
       let reason_is : barred_in c.args.barred.now c.loop-slot.slot ≡ Some w.in-Some.reason = search rules in
       rw w.err-is (passes_next g.E.Write.contents c.args.barred.now c.loop-slot.slot c.args.err.now c.loop-slot.err wrote.new.writer c.loop-slot.invariant
-      (rw reason_is (subst (λ (behind : List ℕ). IsToldLine (slot_line (codes "without ") c.loop-slot.slot behind) (g.E.Write.contents c.loop-slot.err)
+      (rw reason_is (subst (λ (beyond : List ℕ). IsToldLine (slot_line (codes "without ") c.loop-slot.slot beyond) (g.E.Write.contents c.loop-slot.err)
       (g.E.Write.contents wrote.new.writer)) w.words_of.ensures.words told)))
   | in_default w ↦
       let none_is : barred_in c.args.barred.now c.loop-slot.slot ≡ None = search rules in

@@ -1,7 +1,7 @@
 use Rattle.std.proofs.Common.{◌*◌, IsSomeAnd, rules}
 use Rattle.superblock.specs.Counted.{least_sectors}
 use Rattle.device_files.specs.DeviceFiles.{Begins, IsCreated, slot_path}
-use Rattle.device_files.proofs.SlotBySlot.{made_behind, untouched_next}
+use Rattle.device_files.proofs.SlotBySlot.{made_after, untouched_next}
 use Rattle.raidtool.proofs.MadeFiles.{kept_next, long_next, noted_next, notes_next}
 use Rattle.raidtool.proofs.make.make_each.Goals as goal
 
@@ -23,7 +23,7 @@ loop-slot-preserved g c =
           (λ k. 512 * least_sectors c.args.geometry.now k) first was is c.args.files.now.before c.loop-slot.files.before c.lengthen_slot.new.files.before
           c.loop-slot.slot c.bytes_of-bytes.result (inv.noted tells) inv.untouched inv.unnoted c.bytes_of-bytes.ensures done.others done.other_notes (done.noted tells);
       unnoted = notes_next c.args.files.now.before c.loop-slot.files.before c.lengthen_slot.new.files.before c.loop-slot.slot inv.unnoted done.other_notes;
-      safe = made_behind (λ k file. IsSomeAnd file g.D.File.Growing.is_safe) was is c.loop-slot.slot inv.safe done.others done.safe;
+      safe = made_after (λ k file. IsSomeAnd file g.D.File.Growing.is_safe) was is c.loop-slot.slot inv.safe done.others done.safe;
       untouched = untouched_next first was is c.loop-slot.slot inv.untouched done.others;
     }
 

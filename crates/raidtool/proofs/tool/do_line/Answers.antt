@@ -2,7 +2,7 @@ use Rattle.std.proofs.Common.{◌⊎◌, refl}
 use Rattle.std.proofs.lemmas.Result.{IfErr-weaker}
 use Rattle.raidtool.specs.Done.{OfFiles}
 use Rattle.set_commands.specs.Run.{streams}
-use Rattle.raidtool.proofs.LooksTold.{looks_cut}
+use Rattle.raidtool.proofs.InspectionsTold.{inspections_cut}
 use Rattle.raidtool.proofs.DoneLines.{both_done, made_done, no_make, passes_some, replaced_done, served_blamed, served_in}
 use Rattle.raidtool.proofs.tool.do_line.Goals as goal
 
@@ -37,12 +37,12 @@ pub returns-in_default : goal.returns-in_default
 returns-in_default g c =
     let served = c.serve_folder.ensures in
     record {
-      in_folder = served_in (g.D.SlotFiles.opens c.args.disk.now) _ (g.D.LookFiles.looks c.args.disk.now) (λ folder. g.D.FolderSync.is_safe c.args.disk.now folder ⊎ g.D.FolderSync.is_never c.args.disk.now folder)
+      in_folder = served_in (g.D.SlotFiles.opens c.args.disk.now) _ (g.D.InspectFiles.inspects c.args.disk.now) (λ folder. g.D.FolderSync.is_safe c.args.disk.now folder ⊎ g.D.FolderSync.is_never c.args.disk.now folder)
           c.args.line c.serve_folder.result c.in_default.not-Make c.in_default.not-Replace c.in_default.not-Examine served.opened;
       does = served.does;
       read = served.read;
       stopped = served.stopped;
-      named = served_blamed (g.D.SlotFiles.opens c.args.disk.now) (g.D.SlotFiles.creates c.args.disk.now) _ (g.D.LookFiles.looks c.args.disk.now)
+      named = served_blamed (g.D.SlotFiles.opens c.args.disk.now) (g.D.SlotFiles.creates c.args.disk.now) _ (g.D.InspectFiles.inspects c.args.disk.now)
           c.args.line c.serve_folder.result c.in_default.not-Examine served.named;
       alone = served.alone;
       unwritten = served.unwritten;
@@ -56,7 +56,7 @@ returns-in_default g c =
 
 pub returns-in-Examine-clause-cut : goal.returns-in-Examine-clause-cut
 returns-in-Examine-clause-cut g c = λ _. IfErr-weaker c.examine_folder.result _ _ (λ fault part cut.
-    rw c.in-Examine.is (looks_cut OfFiles c.in-Examine.id c.in-Examine.json (part cut).0 _ _ (part cut).1)) c.examine_folder.ensures.cut
+    rw c.in-Examine.is (inspections_cut OfFiles c.in-Examine.id c.in-Examine.json (part cut).0 _ _ (part cut).1)) c.examine_folder.ensures.cut
 
 pub returns-in-Examine-clause-does : goal.returns-in-Examine-clause-does
 returns-in-Examine-clause-does g c = rw c.in-Examine.is c.examine_folder.ensures.examined

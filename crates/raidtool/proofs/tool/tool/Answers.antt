@@ -124,14 +124,14 @@ returns-in-Ok-clause-written g c = λ line asked is.
 
 pub returns-in-Ok-clause-in_folder : goal.returns-in-Ok-clause-in_folder
 returns-in-Ok-clause-in_folder g c = λ line asked is.
-    done_in_too (g.D.SlotFiles.opens c.args.disk.now) _ (g.D.LookFiles.looks c.args.disk.now) (λ folder. g.D.FolderSync.is_safe c.args.disk.now folder ⊎ g.D.FolderSync.is_never c.args.disk.now folder)
+    done_in_too (g.D.SlotFiles.opens c.args.disk.now) _ (g.D.InspectFiles.inspects c.args.disk.now) (λ folder. g.D.FolderSync.is_safe c.args.disk.now folder ⊎ g.D.FolderSync.is_never c.args.disk.now folder)
     line c.in-Ok.line (one_invocation (texts c.args.words.now) line c.in-Ok.line asked c.in-Ok.ensures.ok)
     (done_by _ c.do_line-done.result c.folder_status-status.result c.folder_status-status.ensures.status (zero_of c.in-Ok.line c.do_line-done.result c.folder_status-status.result c.do_line-done.new.health c.checked.result c.checked.ensures c.folder_status-status.ensures.status is) c.do_line-done.ensures.in_folder)
 
 pub returns-in-Ok-clause-refused : goal.returns-in-Ok-clause-refused
 returns-in-Ok-clause-refused g c = λ is.
     let stop = stopped_by _ _ c.do_line-done.result c.folder_status-status.result c.folder_status-status.ensures.status (one_of c.in-Ok.line c.do_line-done.result c.folder_status-status.result c.do_line-done.new.health c.checked.result c.checked.ensures c.folder_status-status.ensures.status is) c.do_line-done.ensures.stopped c.folder_status-status.ensures.told in
-    was_stopped (texts c.args.words.now) (IsBlamedIn (g.D.SlotFiles.opens c.args.disk.now) (g.D.SlotFiles.creates c.args.disk.now) _ (g.D.LookFiles.looks c.args.disk.now)) c.in-Ok.line _
+    was_stopped (texts c.args.words.now) (IsBlamedIn (g.D.SlotFiles.opens c.args.disk.now) (g.D.SlotFiles.creates c.args.disk.now) _ (g.D.InspectFiles.inspects c.args.disk.now)) c.in-Ok.line _
     (λ text. IsToldAfter g.E.Write.contents text c.args.err.now c.folder_status-status.new.err) _ stop.0
     c.in-Ok.ensures.ok c.folder_of.ensures stop.2 (rw stop.1 at c.do_line-done.ensures.named) (c.do_line-done.new.err, c.do_line-done.ensures.passed, stop.3) (rw stop.1 at c.do_line-done.ensures.alone)
     (λ refusal same. none_of_four c.in-Ok.line c.do_line-done.result c.folder_status-status.result c.do_line-done.new.health c.checked.result c.checked.ensures is refusal (stop.1 ∙ ap Err same))

@@ -3,7 +3,7 @@ use Rattle.std.proofs.lemmas.Result.{err_from_is_err_and}
 use Rattle.sector_model.specs.declared.sector.Stop.TheVariants.{Down}
 use Rattle.array_io.proofs.Images.Codecs.{spellings}
 use Rattle.array_io.proofs.Reading.ReadValue.{marks_as}
-use Rattle.rebuild.proofs.JoinedLast.{joined_all, joined_and_fell, joined_and_refused, joined_two, joined_worn}
+use Rattle.rebuild.proofs.JoinedLast.{joined_all, joined_and_failed, joined_and_refused, joined_two, joined_worn}
 use Rattle.rebuild.proofs.joining.publish_last.Goals as goal
 
 pub returns-in_err-mark_slot-in-Err-Down-clause-publishes : goal.returns-in_err-mark_slot-in-Err-Down-clause-publishes
@@ -41,7 +41,7 @@ returns-in_ok-mark_slot-in-Err-Down-clause-honest g c =
 
 pub returns-in_ok-mark_slot-in-Err-Down-clause-publishes : goal.returns-in_ok-mark_slot-in-Err-Down-clause-publishes
 returns-in_ok-mark_slot-in-Err-Down-clause-publishes g c number =
-    joined_and_fell spellings (g.B.Bank.honest c.args.bank.now) number c.args.table.now c.args.next.now c.args.slot (g.B.Bank.panel c.args.bank.now) (g.B.Bank.panel c.publish.new.bank)
+    joined_and_failed spellings (g.B.Bank.honest c.args.bank.now) number c.args.table.now c.args.next.now c.args.slot (g.B.Bank.panel c.args.bank.now) (g.B.Bank.panel c.publish.new.bank)
     (g.B.Bank.history c.args.bank.now) (g.B.Bank.history c.publish.new.bank) c.publish.result
     (record { step = c.requires.step; out = c.requires.out; there = c.requires.there; its_slots = c.requires.its_slots; up = c.requires.up; fits = c.requires.fits })
     c.publish.ensures.publishes (g.met.B.Bank.true_to c.args.bank.now) (λ fair. g.met.B.Bank.true_to c.publish.new.bank (c.publish.ensures.honest.0 fair))

@@ -3,7 +3,7 @@ use Rattle.std.proofs.lemmas.Result.{err_from_is_err_and}
 use Rattle.sector_model.specs.declared.sector.Stop.TheVariants.{Down}
 use Rattle.array_io.proofs.Calls.DeviceSteps.{its_slots_later}
 use Rattle.rebuild.proofs.JoinedLast.{published_as}
-use Rattle.rebuild.proofs.Replaced.{replace_ended, replace_fell, replace_joined, replace_other_down, replace_own_down, replace_refused, replace_worn}
+use Rattle.rebuild.proofs.Replaced.{replace_ended, replace_failed, replace_joined, replace_other_down, replace_own_down, replace_refused, replace_worn}
 use Rattle.rebuild.proofs.replacing.replace.Goals as goal
 
 pub returns-in_err-check_slot-clause-replaces : goal.returns-in_err-check_slot-clause-replaces
@@ -64,7 +64,7 @@ returns-then-branch-clause-replaces g c = replace_joined (g.B.Bank.honest c.args
     c.publish_last.result (published_as c.prepare.ensures.honest.0 (c.publish_last.ensures.publishes c.args.array.now.entry)) (c.in_ok-publish_last.was ∙ ap Ok c.if-branch.true)
 
 pub returns-else-branch-clause-replaces : goal.returns-else-branch-clause-replaces
-returns-else-branch-clause-replaces g c = replace_fell (g.B.Bank.honest c.args.array.now.bank) c.args.slot c.args.array.now.entry c.args.array.now.table (g.B.Bank.panel c.args.array.now.bank)
+returns-else-branch-clause-replaces g c = replace_failed (g.B.Bank.honest c.args.array.now.bank) c.args.slot c.args.array.now.entry c.args.array.now.table (g.B.Bank.panel c.args.array.now.bank)
     (g.B.Bank.panel c.prepare.new.bank) (g.B.Bank.history c.args.array.now.bank) (g.B.Bank.history c.prepare.new.bank) c.prepare.result c.in_ok-check_slot.ensures.may
     (c.prepare.ensures.prepares c.args.array.now.entry) c.in-Ok.is c.joined-next.result c.publish_last.new.table c.joined-next.ensures (g.B.Bank.panel c.publish_last.new.bank) (g.B.Bank.history c.publish_last.new.bank)
     c.publish_last.result (published_as c.prepare.ensures.honest.0 (c.publish_last.ensures.publishes c.args.array.now.entry)) (c.in_ok-publish_last.was ∙ ap Ok c.if-branch.false)

@@ -2,7 +2,7 @@ use Rattle.std.proofs.Common.{◌≡◌, ◌+◌, Bool, false, Ok, Err, Result, 
 use Rattle.std.proofs.lemmas.Result.{err_from_is_err_and}
 use Rattle.sector_model.specs.declared.refusal.Refusal.{Refusal}
 use Rattle.superblock.specs.declared.table.Table.{Table}
-use Rattle.rebuild.specs.RowSteps.{FillsOrMarks, FillsRows}
+use Rattle.rebuild.specs.RowSteps.{FillsOrFailsSlot, FillsRows}
 use Rattle.rebuild.proofs.RowsFilled.{fills_next, fills_none, then_row, was_done}
 use Rattle.rebuild.proofs.rows.fill_rows.Goals as goal
 
@@ -27,7 +27,7 @@ returns-in_err-fill_row-clause-fills g c =
     (g.B.Bank.panel c.args.bank.now) (g.B.Bank.panel c.loop-row.bank) (g.B.Bank.panel c.fill_row.new.bank)
     (g.B.Bank.history c.args.bank.now) (g.B.Bank.history c.loop-row.bank) (g.B.Bank.history c.fill_row.new.bank)
     (Err c.in_err-fill_row.field-0.0) c.loop-row.invariant.fills (λ is. cc) (c.loop-row.row + 1)
-    (subst (λ (t : Table). FillsOrMarks (g.B.Bank.honest c.loop-row.bank) t c.fill_row.new.table c.args.member
+    (subst (λ (t : Table). FillsOrFailsSlot (g.B.Bank.honest c.loop-row.bank) t c.fill_row.new.table c.args.member
     c.loop-row.row (c.loop-row.row + 1) (g.B.Bank.panel c.loop-row.bank)
     (g.B.Bank.panel c.fill_row.new.bank) (g.B.Bank.history c.loop-row.bank) (g.B.Bank.history c.fill_row.new.bank)
     (Err c.in_err-fill_row.field-0.0)) c.loop-row.invariant.same c.in_err-fill_row.ensures.fills))
@@ -43,11 +43,11 @@ returns-then-not-branch-clause-fills g c =
     (g.B.Bank.panel c.args.bank.now) (g.B.Bank.panel c.loop-row.bank) (g.B.Bank.panel c.fill_row.new.bank)
     (g.B.Bank.history c.args.bank.now) (g.B.Bank.history c.loop-row.bank) (g.B.Bank.history c.fill_row.new.bank)
     (Ok false) c.loop-row.invariant.fills (λ is. cc) (c.loop-row.row + 1)
-    (subst (λ (r : Result Bool Refusal). FillsOrMarks (g.B.Bank.honest c.loop-row.bank) c.args.table.now
+    (subst (λ (r : Result Bool Refusal). FillsOrFailsSlot (g.B.Bank.honest c.loop-row.bank) c.args.table.now
     c.fill_row.new.table c.args.member c.loop-row.row (c.loop-row.row + 1) (g.B.Bank.panel c.loop-row.bank)
     (g.B.Bank.panel c.fill_row.new.bank) (g.B.Bank.history c.loop-row.bank) (g.B.Bank.history c.fill_row.new.bank) r)
     ended
-    (subst (λ (t : Table). FillsOrMarks (g.B.Bank.honest c.loop-row.bank) t c.fill_row.new.table c.args.member
+    (subst (λ (t : Table). FillsOrFailsSlot (g.B.Bank.honest c.loop-row.bank) t c.fill_row.new.table c.args.member
     c.loop-row.row (c.loop-row.row + 1) (g.B.Bank.panel c.loop-row.bank)
     (g.B.Bank.panel c.fill_row.new.bank) (g.B.Bank.history c.loop-row.bank)
     (g.B.Bank.history c.fill_row.new.bank) c.fill_row.result) c.loop-row.invariant.same c.fill_row.ensures.fills))

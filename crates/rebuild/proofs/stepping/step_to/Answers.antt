@@ -7,7 +7,7 @@ use Rattle.array_io.specs.Believed.Holds.{row_count}
 use Rattle.array_io.specs.Believed.Views.{view_of}
 use Rattle.array_io.specs.Believed.OpenArray.{array_view}
 use Rattle.rebuild.proofs.JoinedLast.{published_as}
-use Rattle.rebuild.proofs.Stepped.{next_step, next_there, rebuilding_fits, rebuilding_out, step_fell, step_not_written, step_worn_out, steps_by}
+use Rattle.rebuild.proofs.Stepped.{next_step, next_there, rebuilding_fits, rebuilding_out, step_failed, step_not_written, step_worn_out, steps_by}
 use Rattle.rebuild.specs.Rebuilding.{IsRebuilding}
 use Rattle.rebuild.proofs.stepping.step_to.Goals as goal
 
@@ -25,7 +25,7 @@ returns-in_err-write_rows-clause-steps g c rows is least =
     c.in_err-write_rows.field-0.0 c.in_err-write_rows.was)
 
 pub returns-then-not-branch-clause-steps : goal.returns-then-not-branch-clause-steps
-returns-then-not-branch-clause-steps g c rows is least = step_fell (g.B.Bank.honest c.args.array.now.bank) c.args.member c.args.end rows
+returns-then-not-branch-clause-steps g c rows is least = step_failed (g.B.Bank.honest c.args.array.now.bank) c.args.member c.args.end rows
     (array_view c.args.array.now)
     (view_of (g.B.Bank.panel c.write_rows.new.bank) (g.B.Bank.history c.write_rows.new.bank) c.write_rows.new.table c.args.array.now.entry) c.write_rows.result
     c.requires.rebuilding (c.requires.further, is, least) (c.write_rows.ensures.writes c.args.array.now.entry)
@@ -85,7 +85,7 @@ returns-then-not-branch-2-clause-steps g c rows is least = (steps_by (g.B.Bank.h
     (g.B.Bank.history c.write_rows.new.bank) (g.B.Bank.history c.publish_last.new.bank) c.write_rows.result c.publish_last.result c.requires.rebuilding (c.requires.further, is, least)
     (c.write_rows.ensures.writes c.args.array.now.entry) (c.in_ok-write_rows.was ∙ ap Ok c.if-not-branch.false) c.next_of-next.ensures
     (λ fair. g.met.B.Bank.true_to c.write_rows.new.bank (c.write_rows.ensures.honest.0 fair))
-    (published_as c.write_rows.ensures.honest.0 (c.publish_last.ensures.publishes c.args.array.now.entry))).fell (c.in_ok-publish_last.was ∙ ap Ok c.if-not-branch-2.true)
+    (published_as c.write_rows.ensures.honest.0 (c.publish_last.ensures.publishes c.args.array.now.entry))).failed (c.in_ok-publish_last.was ∙ ap Ok c.if-not-branch-2.true)
 
 pub progress_at-requires : goal.progress_at-requires
 progress_at-requires g c = subst (λ (x : Geometry). c.args.end ≤ rows_of x.chunk x.stripes)

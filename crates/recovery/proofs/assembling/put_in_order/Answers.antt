@@ -2,7 +2,7 @@ use Rattle.std.proofs.Common.{rules, ◌≡◌, None, Ok, Err, refl, ap}
 use Rattle.std.proofs.lemmas.Result.{err_from_is_err_and}
 use Rattle.array_io.proofs.Images.Codecs.{spellings}
 use Rattle.recovery.specs.Making.{bank_view}
-use Rattle.recovery.proofs.AssembledEnds.{assembled_whole, brought_worn, marks_fallen, marks_one, can_bring}
+use Rattle.recovery.proofs.AssembledEnds.{assembled_whole, brought_worn, marks_failed, marks_one, can_bring}
 use Rattle.recovery.proofs.AssembledLaw.{assembled_none, assembled_two, assembled_worn, has_surveyed}
 use Rattle.recovery.proofs.AssembledMarked.{assembled_without, not_assembled}
 use Rattle.array_io.proofs.Calls.DeviceSteps.{its_slots_later}
@@ -38,8 +38,8 @@ returns-in-Err-Worn-clause-puts g c =
 pub returns-in-Ok-mark_slot-clause-puts : goal.returns-in-Ok-mark_slot-clause-puts
 returns-in-Ok-mark_slot-clause-puts g c =
     let has = (has_surveyed (g.B.Bank.honest c.args.bank.now) c.args.id.now (bank_view (g.B.Bank.panel c.args.bank.now) (g.B.Bank.history c.args.bank.now)) (bank_view (g.B.Bank.panel c.survey_bank.new.bank) (g.B.Bank.history c.survey_bank.new.bank)) (Ok c.in_ok-survey.field-0) c.in-Some.survey c.in_ok-survey.ensures.surveyed (ap Ok c.in-Some.is)) in
-    let fallen = marks_fallen spellings (g.B.Bank.honest c.args.bank.now) (g.B.Bank.honest c.survey_bank.new.bank) (λ honest. c.survey_bank.ensures.honest.0 honest) c.args.id.now (bank_view (g.B.Bank.panel c.args.bank.now) (g.B.Bank.history c.args.bank.now)) (bank_view (g.B.Bank.panel c.survey_bank.new.bank) (g.B.Bank.history c.survey_bank.new.bank)) c.in-Some.survey.table has c.in-Nobody.ensures (g.B.Bank.panel c.bring_up.new.bank) (g.B.Bank.history c.bring_up.new.bank) (Err c.in-Err-Down.field-0) c.in-Err-Down.ensures.brings (λ honest. g.met.B.Bank.true_to _ (c.bring_up.ensures.honest.0 (c.survey_bank.ensures.honest.0 honest))) c.in-Err-Down.slot (ap Err c.in-Err-Down.field-0-is) in
-    assembled_without spellings (g.B.Bank.honest c.args.bank.now) (g.B.Bank.honest c.bring_up.new.bank) (λ honest. c.bring_up.ensures.honest.0 (c.survey_bank.ensures.honest.0 honest)) c.args.id.now (bank_view (g.B.Bank.panel c.args.bank.now) (g.B.Bank.history c.args.bank.now)) (bank_view (g.B.Bank.panel c.survey_bank.new.bank) (g.B.Bank.history c.survey_bank.new.bank)) (bank_view (g.B.Bank.panel c.bring_up.new.bank) (g.B.Bank.history c.bring_up.new.bank)) c.in-Some.survey.table c.in-Err-Down.slot fallen
+    let failure = marks_failed spellings (g.B.Bank.honest c.args.bank.now) (g.B.Bank.honest c.survey_bank.new.bank) (λ honest. c.survey_bank.ensures.honest.0 honest) c.args.id.now (bank_view (g.B.Bank.panel c.args.bank.now) (g.B.Bank.history c.args.bank.now)) (bank_view (g.B.Bank.panel c.survey_bank.new.bank) (g.B.Bank.history c.survey_bank.new.bank)) c.in-Some.survey.table has c.in-Nobody.ensures (g.B.Bank.panel c.bring_up.new.bank) (g.B.Bank.history c.bring_up.new.bank) (Err c.in-Err-Down.field-0) c.in-Err-Down.ensures.brings (λ honest. g.met.B.Bank.true_to _ (c.bring_up.ensures.honest.0 (c.survey_bank.ensures.honest.0 honest))) c.in-Err-Down.slot (ap Err c.in-Err-Down.field-0-is) in
+    assembled_without spellings (g.B.Bank.honest c.args.bank.now) (g.B.Bank.honest c.bring_up.new.bank) (λ honest. c.bring_up.ensures.honest.0 (c.survey_bank.ensures.honest.0 honest)) c.args.id.now (bank_view (g.B.Bank.panel c.args.bank.now) (g.B.Bank.history c.args.bank.now)) (bank_view (g.B.Bank.panel c.survey_bank.new.bank) (g.B.Bank.history c.survey_bank.new.bank)) (bank_view (g.B.Bank.panel c.bring_up.new.bank) (g.B.Bank.history c.bring_up.new.bank)) c.in-Some.survey.table c.in-Err-Down.slot failure
     (g.B.Bank.panel c.mark_slot.new.bank) c.mark_slot.new.table (g.B.Bank.history c.mark_slot.new.bank) (Ok c.in-Ok-mark_slot.field-0) c.in-Ok-mark_slot.ensures.marks (λ honest. g.met.B.Bank.true_to _ (c.mark_slot.ensures.honest.0 (c.bring_up.ensures.honest.0 (c.survey_bank.ensures.honest.0 honest)))) refl
 
 pub returns-in-Ok-mark_slot-clause-its_slots : goal.returns-in-Ok-mark_slot-clause-its_slots
@@ -48,8 +48,8 @@ returns-in-Ok-mark_slot-clause-its_slots g c = (returns-in-Ok-mark_slot-clause-p
 pub returns-in-Err-clause-puts : goal.returns-in-Err-clause-puts
 returns-in-Err-clause-puts g c =
     let has = (has_surveyed (g.B.Bank.honest c.args.bank.now) c.args.id.now (bank_view (g.B.Bank.panel c.args.bank.now) (g.B.Bank.history c.args.bank.now)) (bank_view (g.B.Bank.panel c.survey_bank.new.bank) (g.B.Bank.history c.survey_bank.new.bank)) (Ok c.in_ok-survey.field-0) c.in-Some.survey c.in_ok-survey.ensures.surveyed (ap Ok c.in-Some.is)) in
-    let fallen = marks_fallen spellings (g.B.Bank.honest c.args.bank.now) (g.B.Bank.honest c.survey_bank.new.bank) (λ honest. c.survey_bank.ensures.honest.0 honest) c.args.id.now (bank_view (g.B.Bank.panel c.args.bank.now) (g.B.Bank.history c.args.bank.now)) (bank_view (g.B.Bank.panel c.survey_bank.new.bank) (g.B.Bank.history c.survey_bank.new.bank)) c.in-Some.survey.table has c.in-Nobody.ensures (g.B.Bank.panel c.bring_up.new.bank) (g.B.Bank.history c.bring_up.new.bank) (Err c.in-Err-Down.field-0) c.in-Err-Down.ensures.brings (λ honest. g.met.B.Bank.true_to _ (c.bring_up.ensures.honest.0 (c.survey_bank.ensures.honest.0 honest))) c.in-Err-Down.slot (ap Err c.in-Err-Down.field-0-is) in
-    not_assembled spellings (g.B.Bank.honest c.args.bank.now) (g.B.Bank.honest c.bring_up.new.bank) (λ honest. c.bring_up.ensures.honest.0 (c.survey_bank.ensures.honest.0 honest)) c.args.id.now (bank_view (g.B.Bank.panel c.args.bank.now) (g.B.Bank.history c.args.bank.now)) (bank_view (g.B.Bank.panel c.survey_bank.new.bank) (g.B.Bank.history c.survey_bank.new.bank)) (bank_view (g.B.Bank.panel c.bring_up.new.bank) (g.B.Bank.history c.bring_up.new.bank)) c.in-Some.survey.table c.in-Err-Down.slot fallen
+    let failure = marks_failed spellings (g.B.Bank.honest c.args.bank.now) (g.B.Bank.honest c.survey_bank.new.bank) (λ honest. c.survey_bank.ensures.honest.0 honest) c.args.id.now (bank_view (g.B.Bank.panel c.args.bank.now) (g.B.Bank.history c.args.bank.now)) (bank_view (g.B.Bank.panel c.survey_bank.new.bank) (g.B.Bank.history c.survey_bank.new.bank)) c.in-Some.survey.table has c.in-Nobody.ensures (g.B.Bank.panel c.bring_up.new.bank) (g.B.Bank.history c.bring_up.new.bank) (Err c.in-Err-Down.field-0) c.in-Err-Down.ensures.brings (λ honest. g.met.B.Bank.true_to _ (c.bring_up.ensures.honest.0 (c.survey_bank.ensures.honest.0 honest))) c.in-Err-Down.slot (ap Err c.in-Err-Down.field-0-is) in
+    not_assembled spellings (g.B.Bank.honest c.args.bank.now) (g.B.Bank.honest c.bring_up.new.bank) (λ honest. c.bring_up.ensures.honest.0 (c.survey_bank.ensures.honest.0 honest)) c.args.id.now (bank_view (g.B.Bank.panel c.args.bank.now) (g.B.Bank.history c.args.bank.now)) (bank_view (g.B.Bank.panel c.survey_bank.new.bank) (g.B.Bank.history c.survey_bank.new.bank)) (bank_view (g.B.Bank.panel c.bring_up.new.bank) (g.B.Bank.history c.bring_up.new.bank)) c.in-Some.survey.table c.in-Err-Down.slot failure
     (g.B.Bank.panel c.mark_slot.new.bank) c.mark_slot.new.table (g.B.Bank.history c.mark_slot.new.bank) (Err c.in-Err.refusal) c.in-Err.refusal c.in-Err.ensures.marks (λ honest. g.met.B.Bank.true_to _ (c.mark_slot.ensures.honest.0 (c.bring_up.ensures.honest.0 (c.survey_bank.ensures.honest.0 honest)))) refl
 
 pub returns-in-Ok-mark_slot-2-clause-puts : goal.returns-in-Ok-mark_slot-2-clause-puts
@@ -123,8 +123,8 @@ returns-in-Err-mark_slot-clause-its_slots g c = tt
 pub returns-in-Two-clause-its_slots : goal.returns-in-Two-clause-its_slots
 returns-in-Two-clause-its_slots g c = tt
 
-pub who_is_out-requires : goal.who_is_out-requires
-who_is_out-requires g c = record { surveyed = surveyed_then _ _ _ _ _ _ _ c.survey_bank.ensures.honest.1 c.in_ok-survey.ensures.surveyed (ap Ok c.in-Some.is) }
+pub missing_slots-requires : goal.missing_slots-requires
+missing_slots-requires g c = record { surveyed = surveyed_then _ _ _ _ _ _ _ c.survey_bank.ensures.honest.1 c.in_ok-survey.ensures.surveyed (ap Ok c.in-Some.is) }
 
 pub bring_up-requires : goal.bring_up-requires
 bring_up-requires g c =

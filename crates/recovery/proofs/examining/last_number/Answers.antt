@@ -15,4 +15,4 @@ returns-in-TooShort-clause-reads g c =
     (inr c.in-TooShort.ensures)
 
 pub last_sealed_number-requires-clause-within : goal.last_sealed_number-requires-clause-within
-last_sealed_number-requires-clause-within g c = omega (arith, c.in-There.ensures.1, journal_least c.args.table.now.geometry c.args.journal c.requires.behind)
+last_sealed_number-requires-clause-within g c = omega (arith, c.in-There.ensures.1, journal_least c.args.table.now.geometry c.args.journal c.requires.beyond)

@@ -2,7 +2,7 @@ use Rattle.std.proofs.Common.{subst}
 use Rattle.sector_model.specs.declared.sector.Stop.{Stop}
 use Rattle.sector_model.specs.Bank.{IsCauseOf}
 use Rattle.recovery.specs.Making.{bank_view}
-use Rattle.recovery.proofs.ExaminedSet.{last_fallen, last_read, last_worn}
+use Rattle.recovery.proofs.ExaminedSet.{last_failed, last_read, last_worn}
 use Rattle.recovery.proofs.Finding.{is_down_then}
 use Rattle.recovery.proofs.JournalSeals.{two_reads}
 use Rattle.recovery.proofs.examining.last_sealed_number.Goals as goal
@@ -15,7 +15,7 @@ returns-in-Ok-clause-reads g c =
 
 pub returns-in-Err-Down-clause-reads : goal.returns-in-Err-Down-clause-reads
 returns-in-Err-Down-clause-reads g c =
-    last_fallen (g.B.Bank.honest c.args.bank.now) (bank_view (g.B.Bank.panel c.args.bank.now) (g.B.Bank.history c.args.bank.now))
+    last_failed (g.B.Bank.honest c.args.bank.now) (bank_view (g.B.Bank.panel c.args.bank.now) (g.B.Bank.history c.args.bank.now))
     (bank_view (g.B.Bank.panel c.last_sealed.new.bank) (g.B.Bank.history c.last_sealed.new.bank)) c.args.table.now c.args.journal
     c.last_sealed.ensures.panel (λ fair. two_reads (c.last_sealed.ensures.made fair))
     (is_down_then (g.B.Bank.panel c.last_sealed.new.bank) c.args.journal _ _ c.in-Err-Down.field-0-is c.in-Err-Down.ensures.err.1 c.in-Err-Down.ensures.err.0)

@@ -4,7 +4,7 @@ use Rattle.sector_model.specs.Bank.{IsCauseOf}
 use Rattle.sector_model.specs.History.{sector_of, seen}
 use Rattle.sector_model.proofs.Reading.{read_one}
 use Rattle.recovery.specs.Making.{bank_view}
-use Rattle.recovery.proofs.Finding.{is_down_then, place_down, place_fallen, place_read, place_short, place_worn}
+use Rattle.recovery.proofs.Finding.{is_down_then, place_down, place_failed, place_read, place_short, place_worn}
 use Rattle.recovery.proofs.find.read_place.Goals as goal
 
 pub returns-then-is_down-clause-reads : goal.returns-then-is_down-clause-reads
@@ -31,7 +31,7 @@ returns-in-Ok-clause-reads g c =
 
 pub returns-in-Err-Down-clause-reads : goal.returns-in-Err-Down-clause-reads
 returns-in-Err-Down-clause-reads g c =
-    place_fallen (g.B.Bank.honest c.args.bank.now) c.args.slot c.args.place
+    place_failed (g.B.Bank.honest c.args.bank.now) c.args.slot c.args.place
     (bank_view (g.B.Bank.panel c.args.bank.now) (g.B.Bank.history c.args.bank.now))
     (bank_view (g.B.Bank.panel c.read_sector.new.bank) (g.B.Bank.history c.read_sector.new.bank))
     c.read_sector.ensures.panel (λ honest. read_one c.args.slot c.read_sector.result (c.read_sector.ensures.history honest))

@@ -45,7 +45,7 @@ fn check_entry_in(rt: &impl Abort, image: &Image, seals: &[Sector; 2], from: u16
     }
 }
 
-// Checks them in what a stop now leaves, whatever has landed.
+// Checks them in what a crash now leaves, whatever has landed.
 fn check_entry(
     rt: &(impl Abort + AllocGlobal),
     bank: &MemBank,

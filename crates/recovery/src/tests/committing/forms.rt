@@ -107,22 +107,22 @@ fn whole_entry_replayed(rt: HostRuntime) {
 }
 
 // Checks whether what is new is shown after so many calls, with a slot absent afterwards or none.
-fn check_stop(
+fn check_crash(
     rt: &(impl Abort + AllocGlobal),
     bank: &MemBank,
-    stop: u64,
+    crash: u64,
     choice: Choice,
     absent: usize,
     is_sealed: bool,
 ) {
-    let is_new = shows_new(rt, left(rt, bank, stop, choice, absent), CHANGE);
-    same(rt, (stop, absent, is_new), (stop, absent, is_sealed));
+    let is_new = shows_new(rt, left(rt, bank, crash, choice, absent), CHANGE);
+    same(rt, (crash, absent, is_new), (crash, absent, is_sealed));
 }
 
-// Checks the stops with this choice in the commit that follows the entry of the whole row, with each one slot absent or none:
-// its entry shows where a journal that is there has its seal. A stop after so many calls from the first seal on, and no fewer,
+// Checks the crashes with this choice in the commit that follows the entry of the whole row, with each one slot absent or none:
+// its entry shows where a journal that is there has its seal. A crash after so many calls from the first seal on, and no fewer,
 // leaves it on slot 3, and on slot 4.
-fn check_stops(rt: &(impl Abort + AllocGlobal), choice: Choice, sealed: [u64; 2]) {
+fn check_crashes(rt: &(impl Abort + AllocGlobal), choice: Choice, sealed: [u64; 2]) {
     let mut array = replayed(rt);
     let from = array.bank.now();
     assert!(rt; from < 1_000);
@@ -130,23 +130,23 @@ fn check_stops(rt: &(impl Abort + AllocGlobal), choice: Choice, sealed: [u64; 2]
     let end = from + OF_64.calls();
     same(rt, array.bank.now(), end);
     let seals = from + OF_64.before_seals();
-    for stop in from..end + 1 {
+    for crash in from..end + 1 {
         for absent in 0..6usize {
-            let lower = absent != 3 && stop >= seals.saturating_add(sealed[0]);
-            let upper = absent != 4 && stop >= seals.saturating_add(sealed[1]);
-            check_stop(rt, &array.bank, stop, choice, absent, lower || upper);
+            let lower = absent != 3 && crash >= seals.saturating_add(sealed[0]);
+            let upper = absent != 4 && crash >= seals.saturating_add(sealed[1]);
+            check_crash(rt, &array.bank, crash, choice, absent, lower || upper);
         }
     }
 }
 
 #[test]
 fn stops_in_commit_after_whole_entry_oldest(rt: HostRuntime) {
-    check_stops(&rt, Choice::Oldest, [2, 4]);
+    check_crashes(&rt, Choice::Oldest, [2, 4]);
 }
 
 #[test]
 fn stops_in_commit_after_whole_entry_newest(rt: HostRuntime) {
-    check_stops(&rt, Choice::Newest, [1, 3]);
+    check_crashes(&rt, Choice::Newest, [1, 3]);
 }
 
 // What entry 1 says, before the entry of the whole row is entry 2.
@@ -160,17 +160,17 @@ const COPIED: AssemblySize = AssemblySize {
     is_copied: true,
 };
 
-// Checks what is assembled after a stop, with the device of slot 3, and without it: then entry 2 is there from this call on.
+// Checks what is assembled after a crash, with the device of slot 3, and without it: then entry 2 is there from this call on.
 fn check_copy(
     rt: &(impl Abort + AllocGlobal),
     bank: &MemBank,
-    stop: u64,
+    crash: u64,
     choice: Choice,
     sealed: u64,
 ) {
-    let _ = checked(rt, left(rt, bank, stop, choice, NONE), NONE, &WHOLE);
-    let list: List = if stop >= sealed { &WHOLE } else { &EARLIER };
-    let _ = checked(rt, left(rt, bank, stop, choice, 3), 3, list);
+    let _ = checked(rt, left(rt, bank, crash, choice, NONE), NONE, &WHOLE);
+    let list: List = if crash >= sealed { &WHOLE } else { &EARLIER };
+    let _ = checked(rt, left(rt, bank, crash, choice, 3), 3, list);
 }
 
 // Entry 2 of the whole row stands on slot 3 alone, beside entry 1, which holds what changed in that row and stands on both.
@@ -187,12 +187,12 @@ fn whole_entry_after_a_held_one(rt: HostRuntime) {
     let image = image_now(&rt, &array.bank, Choice::Oldest);
     check_journals(&rt, &image, &[whole_seal(2), held_seal(1, 0x06)], 8, &BODY);
     let sealed = COPIED.before_members();
-    for stop in 0..calls + 1 {
-        check_copy(&rt, &array.bank, stop, Choice::Oldest, sealed);
+    for crash in 0..calls + 1 {
+        check_copy(&rt, &array.bank, crash, Choice::Oldest, sealed);
         check_copy(
             &rt,
             &array.bank,
-            stop,
+            crash,
             Choice::Newest,
             sealed.saturating_sub(1),
         );

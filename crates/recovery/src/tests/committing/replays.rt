@@ -1,12 +1,12 @@
 //! Assembling a set of 3 members, chunk 8 and 32 stripes whose last entry is copied to a journal or replayed on members:
-//! stops in it, devices that fall in it, and how many device calls it makes. Row 32 has logical sectors 72 and 64 on
+//! crashes in it, devices that fail in it, and how many device calls it makes. Row 32 has logical sectors 72 and 64 on
 //! members 0 and 2, row 33 has 73 and 65; the parity of both is on member 1. An entry holds what was committed, and parity.
 use super::{List, check_members, check_sectors, checked, commit, table_of};
 use crate::Returned;
 use crate::testing::{
-    AssemblySize, CommitSize, ID, ROOM, SET_A, Shape, answer_falling, assembled, assembled_falling,
-    check_missing, falls_at, fresh, geometry_of, image_now, left, made, put_from, same, sector_of,
-    stopped,
+    AssemblySize, CommitSize, ID, ROOM, SET_A, Shape, answer_failing, assembled, assembled_failing,
+    check_missing, crashed, fails_at, fresh, geometry_of, image_now, left, made, put_from, same,
+    sector_of,
 };
 use array_io::Array;
 use sector_model::{Bank, Choice, Image, MemBank, Plan, Refusal};
@@ -34,7 +34,7 @@ const OF_ONE: CommitSize = CommitSize {
     masks: &[0x06],
 };
 
-// Stops in that run after the first seal, after its flush, and after the flush of the second one.
+// Crashes in that run after the first seal, after its flush, and after the flush of the second one.
 fn after_seal_3() -> u64 {
     BEGINNING.calls() + OF_ONE.before_seals() + 1
 }
@@ -98,7 +98,7 @@ fn check_journals(rt: &impl Abort, image: &Image) {
     assert!(rt; sector_of(rt, image, 3, 2) == sector_of(rt, image, 4, 2));
 }
 
-// Checks that after a stop and an assembly without slot 0, whatever has landed of that.
+// Checks that after a crash and an assembly without slot 0, whatever has landed of that.
 fn check_journals_after(rt: &(impl Abort + AllocGlobal), bank: &MemBank, call: u64) {
     let image = left(rt, bank, call, Choice::Newest, 0);
     let array = checked(rt, image, 0, &AFTER_ONE);
@@ -121,26 +121,26 @@ fn check_whole(rt: &(impl Abort + AllocGlobal), array: &mut Array<MemBank>, list
     check_members(rt, &array.bank, &[0, 32, 33, 255], list);
 }
 
-// Checks what is assembled after a stop in the commit of `TWO`, and after a stop at each call of that assembly.
-fn check_stop(
+// Checks what is assembled after a crash in the commit of `TWO`, and after a crash at each call of that assembly.
+fn check_crash(
     rt: &(impl Abort + AllocGlobal),
     bank: &MemBank,
     call: u64,
     choice: Choice,
     list: List,
 ) {
-    let mut array = assembled(rt, stopped(rt, bank, call, choice));
+    let mut array = assembled(rt, crashed(rt, bank, call, choice));
     let calls = array.bank.now();
     check_whole(rt, &mut array, list);
     for later in 0..calls {
-        let image = stopped(rt, &array.bank, later, choice);
+        let image = crashed(rt, &array.bank, later, choice);
         check_whole(rt, &mut assembled(rt, image), list);
     }
 }
 
-// Checks a stop at each call of the commit of `TWO`. After `first` calls from the first seal on, which the second of them makes
+// Checks a crash at each call of the commit of `TWO`. After `first` calls from the first seal on, which the second of them makes
 // safe, the new sectors are there.
-fn check_stops(rt: &(impl Abort + AllocGlobal), choice: Choice, first: u64) {
+fn check_crashes(rt: &(impl Abort + AllocGlobal), choice: Choice, first: u64) {
     let bank = committed(rt, &TWO);
     let from = BEGINNING.calls();
     let end = from + OF_TWO.calls();
@@ -148,37 +148,37 @@ fn check_stops(rt: &(impl Abort + AllocGlobal), choice: Choice, first: u64) {
     let sealed = first.saturating_add(from + OF_TWO.before_seals());
     for call in from..end + 1 {
         let list = if call < sealed { &OLD } else { &AFTER_TWO };
-        check_stop(rt, &bank, call, choice, list);
+        check_crash(rt, &bank, call, choice, list);
     }
 }
 
 #[test]
 fn stops_in_commit_and_assembly_oldest(rt: HostRuntime) {
-    check_stops(&rt, Choice::Oldest, 2);
+    check_crashes(&rt, Choice::Oldest, 2);
 }
 
 #[test]
 fn stops_in_commit_and_assembly_newest(rt: HostRuntime) {
-    check_stops(&rt, Choice::Newest, 1);
+    check_crashes(&rt, Choice::Newest, 1);
 }
 
 // Of the two candidates of the first seal, in sector 2 of slot 3, it takes number (3 + 7 * 3 + 2) mod 2, the older one.
 #[test]
 fn stops_in_commit_and_assembly_mixed(rt: HostRuntime) {
-    check_stops(&rt, Choice::Mixed(3), 2);
+    check_crashes(&rt, Choice::Mixed(3), 2);
 }
 
-// An image that a stop in the commit of `ONE` leaves, and the assembly on it.
+// An image that a crash in the commit of `ONE` leaves, and the assembly on it.
 #[derive(Clone, Copy)]
 struct Begin {
-    stop: u64,
+    crash: u64,
     size: AssemblySize<'static>,
 }
 
 // Both journals have the entry.
 fn sealed() -> Begin {
     Begin {
-        stop: after_seals(),
+        crash: after_seals(),
         size: REPLAYED,
     }
 }
@@ -191,9 +191,9 @@ const REPLAYED: AssemblySize = AssemblySize {
 };
 
 // Slot 4 lacks the entry.
-fn lagging() -> Begin {
+fn stale_journal() -> Begin {
     Begin {
-        stop: between_seals(),
+        crash: between_seals(),
         size: COPIED,
     }
 }
@@ -205,7 +205,7 @@ const COPIED: AssemblySize = AssemblySize {
     is_copied: true,
 };
 
-// Checks what is assembled after a stop that leaves each device: by the table that they choose, in which this slot is missing
+// Checks what is assembled after a crash that leaves each device: by the table that they choose, in which this slot is missing
 // from generation 2 on.
 fn check_with(rt: &(impl Abort + AllocGlobal), image: Image, slot: u8, list: List) {
     let table = table_of(rt, &image);
@@ -217,7 +217,7 @@ fn check_with(rt: &(impl Abort + AllocGlobal), image: Image, slot: u8, list: Lis
     same(rt, checked(rt, image, missing, list).table, table);
 }
 
-// Checks what is assembled after a stop without the device of this slot.
+// Checks what is assembled after a crash without the device of this slot.
 fn check_without(rt: &(impl Abort + AllocGlobal), bank: &MemBank, call: u64, slot: u8, list: List) {
     let image = left(rt, bank, call, Choice::Newest, slot as usize);
     same(
@@ -229,40 +229,46 @@ fn check_without(rt: &(impl Abort + AllocGlobal), bank: &MemBank, call: u64, slo
 
 // The array that is assembled where a slot goes down at its first call from this one on: the slot is missing where it is
 // called then.
-fn fallen(
+fn with_failure(
     rt: &(impl Abort + AllocGlobal),
     bank: &MemBank,
     begin: &Begin,
     slot: u8,
     call: u64,
 ) -> Array<MemBank> {
-    let image = stopped(rt, bank, begin.stop, Choice::Oldest);
-    let mut array = assembled_falling(rt, image, slot, call);
-    let has_fallen = call <= begin.size.last_call(slot);
-    let missing = if has_fallen { slot as usize } else { NONE };
+    let image = crashed(rt, bank, begin.crash, Choice::Oldest);
+    let mut array = assembled_failing(rt, image, slot, call);
+    let has_failed = call <= begin.size.last_call(slot);
+    let missing = if has_failed { slot as usize } else { NONE };
     check_missing(rt, &array.table, missing);
-    same(rt, array.table.generation, if has_fallen { 2 } else { 1 });
+    same(rt, array.table.generation, if has_failed { 2 } else { 1 });
     array.bank.plan = Plan::NONE;
     array
 }
 
-// Checks a stop at each call of an assembly from this one on, with the device of the slot that goes down and without it.
-fn check_later_stops(rt: &(impl Abort + AllocGlobal), bank: &MemBank, slot: u8, call: u64) {
+// Checks a crash at each call of an assembly from this one on, with the device of the slot that goes down and without it.
+fn check_later_crashes(rt: &(impl Abort + AllocGlobal), bank: &MemBank, slot: u8, call: u64) {
     let calls = bank.now();
     assert!(rt; calls < 1_000);
     for later in call.min(calls)..calls + 1 {
-        let image = stopped(rt, bank, later, Choice::Newest);
+        let image = crashed(rt, bank, later, Choice::Newest);
         check_with(rt, image, slot, &AFTER_ONE);
         check_without(rt, bank, later, slot, &AFTER_ONE);
     }
 }
 
-// Checks the assembly in which a slot goes down at its first call from this one on, and a stop at each later call of it, with
+// Checks the assembly in which a slot goes down at its first call from this one on, and a crash at each later call of it, with
 // the device of the slot and without it.
-fn check_fall(rt: &(impl Abort + AllocGlobal), bank: &MemBank, begin: &Begin, slot: u8, call: u64) {
-    let mut array = fallen(rt, bank, begin, slot, call);
+fn check_failure(
+    rt: &(impl Abort + AllocGlobal),
+    bank: &MemBank,
+    begin: &Begin,
+    slot: u8,
+    call: u64,
+) {
+    let mut array = with_failure(rt, bank, begin, slot, call);
     check_sectors(rt, &mut array, &AFTER_ONE);
-    check_later_stops(rt, &array.bank, slot, call);
+    check_later_crashes(rt, &array.bank, slot, call);
 }
 
 #[test]
@@ -270,10 +276,10 @@ fn each_member_down_in_assembly(rt: HostRuntime) {
     let bank = committed(&rt, &ONE);
     for slot in 0..3u8 {
         for call in 0..REPLAYED.calls() + 1 {
-            check_fall(&rt, &bank, &sealed(), slot, call);
+            check_failure(&rt, &bank, &sealed(), slot, call);
         }
         for call in 0..COPIED.calls() + 1 {
-            check_fall(&rt, &bank, &lagging(), slot, call);
+            check_failure(&rt, &bank, &stale_journal(), slot, call);
         }
     }
 }
@@ -282,26 +288,26 @@ fn each_member_down_in_assembly(rt: HostRuntime) {
 fn each_journal_down_in_assembly(rt: HostRuntime) {
     let bank = committed(&rt, &ONE);
     for call in 0..REPLAYED.calls() + 1 {
-        check_fall(&rt, &bank, &sealed(), 3, call);
-        check_fall(&rt, &bank, &sealed(), 4, call);
+        check_failure(&rt, &bank, &sealed(), 3, call);
+        check_failure(&rt, &bank, &sealed(), 4, call);
     }
     for call in 0..COPIED.calls() + 1 {
-        check_fall(&rt, &bank, &lagging(), 4, call);
+        check_failure(&rt, &bank, &stale_journal(), 4, call);
     }
 }
 
-// Checks a stop at each call of an assembly without the device of slot 3, which alone has entry 2 when it begins: the entry
+// Checks a crash at each call of an assembly without the device of slot 3, which alone has entry 2 when it begins: the entry
 // before is there until slot 4 has the seal, which is flushed before the first write to a member.
 #[test]
 fn source_lost_in_a_copy(rt: HostRuntime) {
     let bank = committed(&rt, &ONE);
     let calls = COPIED.calls();
     for call in COPIED.before_copy()..calls + 1 {
-        let mut array = fallen(&rt, &bank, &lagging(), 3, call);
+        let mut array = with_failure(&rt, &bank, &stale_journal(), 3, call);
         same(&rt, array.bank.now(), calls);
         check_sectors(&rt, &mut array, &AFTER_ONE);
     }
-    let array = fallen(&rt, &bank, &lagging(), 3, calls);
+    let array = with_failure(&rt, &bank, &stale_journal(), 3, calls);
     for later in 0..calls + 1 {
         let has_seal = later + 1 >= COPIED.before_members();
         let list = if has_seal { &AFTER_ONE } else { &OLD };
@@ -309,25 +315,25 @@ fn source_lost_in_a_copy(rt: HostRuntime) {
     }
 }
 
-// Checks a stop at each call from this one on of an assembly in which slot 3 goes down: with its device back the entry is
+// Checks a crash at each call from this one on of an assembly in which slot 3 goes down: with its device back the entry is
 // there until generation 2 calls the slot missing, and without it the entry before.
-fn check_stops_without_source(rt: &(impl Abort + AllocGlobal), bank: &MemBank, call: u64) {
+fn check_crashes_without_source(rt: &(impl Abort + AllocGlobal), bank: &MemBank, call: u64) {
     let calls = bank.now();
     assert!(rt; calls < 1_000);
     for later in call.min(calls)..calls + 1 {
-        let image = stopped(rt, bank, later, Choice::Newest);
+        let image = crashed(rt, bank, later, Choice::Newest);
         let is_first = table_of(rt, &image).generation == 1;
         check_with(rt, image, 3, if is_first { &AFTER_ONE } else { &OLD });
         check_without(rt, bank, later, 3, &OLD);
     }
 }
 
-// Checks an assembly in which slot 3 goes down at its first call from this one on, which alone had entry 2, and a stop at
+// Checks an assembly in which slot 3 goes down at its first call from this one on, which alone had entry 2, and a crash at
 // each later call of it.
 fn check_lost_source(rt: &(impl Abort + AllocGlobal), bank: &MemBank, call: u64) {
-    let mut array = fallen(rt, bank, &lagging(), 3, call);
+    let mut array = with_failure(rt, bank, &stale_journal(), 3, call);
     check_sectors(rt, &mut array, &OLD);
-    check_stops_without_source(rt, &array.bank, call);
+    check_crashes_without_source(rt, &array.bank, call);
 }
 
 #[test]
@@ -364,18 +370,18 @@ fn check_two_lost(rt: &(impl Abort + AllocGlobal), returned: &Returned<MemBank>,
             rt,
             &mut image,
             0,
-            stopped(rt, first, after_seals(), Choice::Oldest),
+            crashed(rt, first, after_seals(), Choice::Oldest),
         );
         check_with(rt, image, 0, &AFTER_ONE);
     }
 }
 
 // Checks the assembly without slot 0 where another slot goes down at its first call from this one on.
-fn check_second_fall(rt: &(impl Abort + AllocGlobal), bank: &MemBank, slot: u8, call: u64) {
+fn check_second_failure(rt: &(impl Abort + AllocGlobal), bank: &MemBank, slot: u8, call: u64) {
     let image = left(rt, bank, after_seals(), Choice::Oldest, 0);
-    let answer = answer_falling(rt, image, slot, call);
-    let has_fallen = call <= WITHOUT_0.last_call(slot);
-    same(rt, (slot, call, answer.is_err()), (slot, call, has_fallen));
+    let answer = answer_failing(rt, image, slot, call);
+    let has_failed = call <= WITHOUT_0.last_call(slot);
+    same(rt, (slot, call, answer.is_err()), (slot, call, has_failed));
     match answer {
         Ok(mut array) => check_one_lost(rt, &mut array),
         Err(returned) => check_two_lost(rt, &returned, bank),
@@ -387,12 +393,12 @@ fn two_slots_down_in_assembly(rt: HostRuntime) {
     let bank = committed(&rt, &ONE);
     for slot in 1..5u8 {
         for call in 0..WITHOUT_0.calls() + 1 {
-            check_second_fall(&rt, &bank, slot, call);
+            check_second_failure(&rt, &bank, slot, call);
         }
     }
 }
 
-// Checks what is assembled with the old device back in slot 2, which fell in a commit of logical sector 64, after another
+// Checks what is assembled with the old device back in slot 2, which failed in a commit of logical sector 64, after another
 // one without it.
 fn check_old_device(rt: &(impl Abort + AllocGlobal), bank: &MemBank, choice: Choice) {
     let image = left(rt, bank, bank.now(), choice, 2);
@@ -407,7 +413,7 @@ fn check_old_device(rt: &(impl Abort + AllocGlobal), bank: &MemBank, choice: Cho
 // Checks the same of the set on this bank, where slot 2 goes down at this call in a commit.
 fn check_comes_back(rt: &(impl Abort + AllocGlobal), bank: &MemBank, call: u64) {
     let mut array = assembled(rt, image_now(rt, bank, Choice::Newest));
-    array.bank.plan = falls_at(rt, &[2], call);
+    array.bank.plan = fails_at(rt, &[2], call);
     commit(rt, &mut array, &[(64, 0x66)]);
     check_missing(rt, &array.table, 2);
     check_old_device(rt, &array.bank, Choice::Oldest);
@@ -472,16 +478,16 @@ fn assembled_by(
     array
 }
 
-// Checks the assembly after a stop, without the device of the slot that is out.
+// Checks the assembly after a crash, without the device of the slot that is out.
 fn check_assembly(
     rt: &(impl Abort + AllocGlobal),
     bank: &MemBank,
-    stop: u64,
+    crash: u64,
     size: AssemblySize,
     list: List,
 ) {
     let absent = size.out.map_or(10, usize::from);
-    let image = left(rt, bank, stop, Choice::Oldest, absent);
+    let image = left(rt, bank, crash, Choice::Oldest, absent);
     let _ = assembled_by(rt, image, size, list);
 }
 
@@ -491,7 +497,7 @@ fn check_assemblies(
     rt: &(impl Abort + AllocGlobal),
     bank: &MemBank,
     replay: &Replay,
-    lagging: u64,
+    stale_journal: u64,
     sealed: u64,
 ) {
     let members = replay.shape.0;
@@ -505,7 +511,7 @@ fn check_assemblies(
         is_copied: true,
         ..size
     };
-    check_assembly(rt, bank, lagging, copied, replay.given);
+    check_assembly(rt, bank, stale_journal, copied, replay.given);
     for out in [None, Some(0), Some(members)] {
         check_assembly(rt, bank, sealed, AssemblySize { out, ..size }, replay.given);
     }
@@ -521,8 +527,8 @@ fn check_replay(rt: &(impl Abort + AllocGlobal), replay: &Replay) {
         members: replay.shape.0,
         masks: replay.masks,
     };
-    let (lagging, sealed) = (size.between_seals(), size.before_members());
-    check_assemblies(rt, &array.bank, replay, from + lagging, from + sealed);
+    let (stale_journal, sealed) = (size.between_seals(), size.before_members());
+    check_assemblies(rt, &array.bank, replay, from + stale_journal, from + sealed);
 }
 
 #[test]
@@ -541,16 +547,16 @@ fn check_again(rt: &(impl Abort + AllocGlobal), array: &Array<MemBank>) -> Array
     again
 }
 
-// Asks that a stop now leaves on a bank what it leaves on another where all that was written has landed.
+// Asks that a crash now leaves on a bank what it leaves on another where all that was written has landed.
 fn check_equal(rt: &(impl Abort + AllocGlobal), bank: &MemBank, choice: Choice, other: &MemBank) {
     let image = image_now(rt, bank, choice);
     let other = image_now(rt, other, Choice::Newest);
     assert!(rt; image.slots == other.slots);
 }
 
-// Checks that twice after the assembly of a stop.
+// Checks that twice after the assembly of a crash.
 fn check_again_twice(rt: &(impl Abort + AllocGlobal), bank: &MemBank, call: u64) {
-    let array = assembled(rt, stopped(rt, bank, call, Choice::Oldest));
+    let array = assembled(rt, crashed(rt, bank, call, Choice::Oldest));
     // All that was written is safe.
     check_equal(rt, &array.bank, Choice::Oldest, &array.bank);
     let again = check_again(rt, &array);

@@ -45,7 +45,7 @@ some_if_false b (suc n) is h = omega arith
 no_byte : (g : Over) (c : After-is_empty g) → not c.is_empty.result ≡ false → length c.read_part.new.line.items ≡ 0
 no_byte g c h = let none : vec_len c.read_part.new.line ≡ 0 = zero_if_true _ _ c.is_empty.ensures h in omega (arith, c.read_part.new.line.ok.0)
 
--- the script ends behind all that was read
+-- the script ends after all that was read
 ends : (g : Over) (c : After-is_empty g) → OnSome (g.R.Read.remaining c.args.reader.now) (IsAtEnd (g.R.Read.remaining c.read_part.new.reader))
 ends g c = end_from_parts _ _ _ _ _ c.loop.invariant.read (c.in_ok-read_part.ensures.end (ap Ok c.in-ScriptEnd.is))
 

@@ -3,7 +3,7 @@ use Rattle.std.proofs.lemmas.List.{append_assoc}
 use Rattle.std.proofs.lemmas.Result.{on_ok_weaker}
 use Rattle.report.proofs.text.write_shape.Goals as goal
 
--- four numbers, each behind its word
+-- four numbers, each after its word
 line_of : (a m b c d s e r f : List ℕ) → a ++ (m ++ (b ++ (c ++ (d ++ (s ++ (e ++ (r ++ f))))))) ≡ a ++ m ++ b ++ c ++ d ++ s ++ e ++ r ++ f
 line_of a m b c d s e r f = simp append_assoc
 

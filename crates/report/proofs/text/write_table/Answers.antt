@@ -3,7 +3,7 @@ use Rattle.std.proofs.lemmas.List.{append_assoc}
 use Rattle.std.proofs.lemmas.Result.{on_ok_weaker}
 use Rattle.report.proofs.text.write_table.Goals as goal
 
--- three numbers, each behind its word
+-- three numbers, each after its word
 line_of : (a g b p c l f : List ℕ) → a ++ (g ++ (b ++ (p ++ (c ++ (l ++ f))))) ≡ a ++ g ++ b ++ p ++ c ++ l ++ f
 line_of a g b p c l f = simp append_assoc
 

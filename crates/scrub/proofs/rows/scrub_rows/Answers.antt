@@ -5,7 +5,7 @@ use Rattle.sector_model.specs.History.{Slots}
 use Rattle.sector_model.specs.Readable.{readable}
 use Rattle.parity.specs.Xor.{xor_of_all}
 use Rattle.superblock.specs.declared.table.Table.{Table}
-use Rattle.array_io.specs.Steps.Scanning.{ScansOrMarks}
+use Rattle.array_io.specs.Steps.Scanning.{ScansOrFailsSlot}
 use Rattle.array_io.proofs.Reading.Scanning.{all_scanned, scanned_both, scanned_none, scanned_then}
 use Rattle.array_io.proofs.Writes.Writable.{same_readable}
 use Rattle.scrub.specs.Reports.{TellsBelow, counted, report_of}
@@ -29,7 +29,7 @@ pub returns-in_err-sum_row-clause-scans : goal.returns-in_err-sum_row-clause-sca
 returns-in_err-sum_row-clause-scans g c =
     let p = err_from_is_err_and c.from_residual.result c.from_residual.ensures.1 in
     let now = c.loop-row.invariant in
-    rw (p.1, p.2) (subst (λ (t : Table). ScansOrMarks (g.B.Bank.honest c.args.bank.now) t c.sum_row.new.table
+    rw (p.1, p.2) (subst (λ (t : Table). ScansOrFailsSlot (g.B.Bank.honest c.args.bank.now) t c.sum_row.new.table
     (g.B.Bank.panel c.args.bank.now) (g.B.Bank.panel c.sum_row.new.bank)
     (g.B.Bank.history c.args.bank.now) (g.B.Bank.history c.sum_row.new.bank) (Err c.in_err-sum_row.field-0.0)) now.same
     (scanned_then (g.B.Bank.honest c.args.bank.now) (g.B.Bank.honest c.loop-row.bank) now.honest c.loop-row.table
@@ -41,7 +41,7 @@ returns-in_err-sum_row-clause-scans g c =
 pub returns-then-not-branch-clause-scans : goal.returns-then-not-branch-clause-scans
 returns-then-not-branch-clause-scans g c =
     let now = c.loop-row.invariant in
-    subst (λ (t : Table). ScansOrMarks (g.B.Bank.honest c.args.bank.now) t c.sum_row.new.table
+    subst (λ (t : Table). ScansOrFailsSlot (g.B.Bank.honest c.args.bank.now) t c.sum_row.new.table
     (g.B.Bank.panel c.args.bank.now) (g.B.Bank.panel c.sum_row.new.bank)
     (g.B.Bank.history c.args.bank.now) (g.B.Bank.history c.sum_row.new.bank) (Ok false)) now.same
     (scanned_then (g.B.Bank.honest c.args.bank.now) (g.B.Bank.honest c.loop-row.bank) now.honest c.loop-row.table
@@ -49,7 +49,7 @@ returns-then-not-branch-clause-scans g c =
     (g.B.Bank.panel c.args.bank.now) (g.B.Bank.panel c.loop-row.bank) (g.B.Bank.panel c.sum_row.new.bank)
     (g.B.Bank.history c.args.bank.now) (g.B.Bank.history c.loop-row.bank) (g.B.Bank.history c.sum_row.new.bank)
     now.scanned (Ok false)
-    (subst (λ r. ScansOrMarks (g.B.Bank.honest c.loop-row.bank) c.loop-row.table c.sum_row.new.table
+    (subst (λ r. ScansOrFailsSlot (g.B.Bank.honest c.loop-row.bank) c.loop-row.table c.sum_row.new.table
     (g.B.Bank.panel c.loop-row.bank) (g.B.Bank.panel c.sum_row.new.bank)
     (g.B.Bank.history c.loop-row.bank) (g.B.Bank.history c.sum_row.new.bank) r)
     (c.in_ok-sum_row.was ∙ ap Ok c.if-not-branch.true) c.sum_row.ensures.scans))

@@ -1,12 +1,12 @@
-//! A stop in the list behind which a slot has a device of zeros: the slot is replaced, a member's rows are rebuilt, and the set is whole and
+//! A crash in the list after which a slot has a device of zeros: the slot is replaced, a member's rows are rebuilt, and the set is whole and
 //! shows the volumes that it showed without the slot.
 use super::super::Answer::{Done, Refused, Scrubbed, Stepped};
 use super::super::Call::{RebuildStep, Replace, Scrub};
 use super::super::Step::{Do, Holds, Shows, Version};
 use super::super::{
-    NO_SLOT, Step, TestStore, again, assembled, check_from, check_missing, opened, stopped,
+    NO_SLOT, Step, TestStore, again, assembled, check_from, check_missing, crashed, opened,
 };
-use super::stops::{FIRST_STOPS, SOUND, all_done, events_shown};
+use super::crashes::{FIRST_CRASHES, SOUND, all_done, events_shown};
 use super::{AFTER, version_after};
 use crate::testing::same;
 use rebuild::Progress::{Complete, Position};
@@ -20,9 +20,9 @@ fn blank(rt: &(impl Abort + AllocGlobal), slot: usize) -> Vec<Sector> {
     vec![in rt.alloc(); [0; 512]; sectors].expect(rt, "memory")
 }
 
-// The devices at a stop by Newest, with one of zeros in this slot.
+// The devices at a crash by Newest, with one of zeros in this slot.
 fn with_blank(rt: &(impl Abort + AllocGlobal), bank: &MemBank, call: u64, slot: usize) -> Image {
-    let mut image = stopped(rt, bank, call, Choice::Newest);
+    let mut image = crashed(rt, bank, call, Choice::Newest);
     assert!(rt; slot < image.slots.len());
     let _ = mem::replace(&mut image.slots[slot], Some(blank(rt, slot)));
     image
@@ -36,7 +36,7 @@ static REBUILT: [Step; 4] = [
     Do(RebuildStep(64), Stepped(Complete)),
 ];
 
-// Replaces a slot, and rebuilds a member's rows. What fails is named by the call of the stop.
+// Replaces a slot, and rebuilds a member's rows. What fails is named by the call of the crash.
 fn make_whole(rt: &(impl Abort + AllocGlobal), store: &mut TestStore, number: usize, slot: u8) {
     check_from(rt, store, number, &[Do(Replace(slot), Done)]);
     if slot < 3 {
@@ -69,8 +69,8 @@ fn check_whole(
     );
 }
 
-// Checks a stop at a call with a device of zeros in a slot.
-fn check_stop(rt: &(impl Abort + AllocGlobal), bank: &MemBank, call: u64, slot: u8) {
+// Checks a crash at a call with a device of zeros in a slot.
+fn check_crash(rt: &(impl Abort + AllocGlobal), bank: &MemBank, call: u64, slot: u8) {
     let (number, lost) = (call as usize, slot as usize);
     let mut store = opened(rt, assembled(rt, with_blank(rt, bank, call, lost)));
     check_missing(rt, &store, number, lost);
@@ -101,27 +101,27 @@ fn check_later(
     );
 }
 
-// Checks the stops at each multiple of 16, from 0 to 608, with a device of zeros in a slot: 39, each with a later run.
-fn check_stops(rt: &(impl Abort + AllocGlobal), slot: u8) {
+// Checks the crashes at each multiple of 16, from 0 to 608, with a device of zeros in a slot: 39, each with a later run.
+fn check_crashes(rt: &(impl Abort + AllocGlobal), slot: u8) {
     let store = all_done(rt);
     let mut images = 0u64;
-    for step in 0..FIRST_STOPS {
-        check_stop(rt, store.bank(), 16 * step, slot);
+    for step in 0..FIRST_CRASHES {
+        check_crash(rt, store.bank(), 16 * step, slot);
         images = images.saturating_add(1);
     }
-    same(rt, images, FIRST_STOPS);
+    same(rt, images, FIRST_CRASHES);
 }
 
 #[test]
-fn stop_and_replace_each_member(rt: HostRuntime) {
+fn crash_and_replace_each_member(rt: HostRuntime) {
     for slot in [0u8, 1, 2] {
-        check_stops(&rt, slot);
+        check_crashes(&rt, slot);
     }
 }
 
 #[test]
-fn stop_and_replace_each_journal(rt: HostRuntime) {
+fn crash_and_replace_each_journal(rt: HostRuntime) {
     for slot in [3u8, 4] {
-        check_stops(&rt, slot);
+        check_crashes(&rt, slot);
     }
 }

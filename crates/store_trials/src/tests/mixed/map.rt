@@ -22,7 +22,7 @@ fn is_letter(byte: u8) -> bool {
     byte >= b'a' && byte <= b'z'
 }
 
-// Whether a byte may stand behind the first.
+// Whether a byte may stand after the first.
 fn is_part(byte: u8) -> bool {
     is_letter(byte) || (byte >= b'0' && byte <= b'9') || byte == b'-' || byte == b'_'
 }
@@ -99,7 +99,7 @@ impl Map {
         used > self.extents
     }
 
-    // Puts a volume behind those whose names come before its own.
+    // Puts a volume after those whose names come before its own.
     fn put(&mut self, rt: &impl Abort, kept: Kept) {
         let mut place = 0usize;
         for other in &self.volumes {

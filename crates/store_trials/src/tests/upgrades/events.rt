@@ -1,4 +1,4 @@
-//! An upgrade behind each number of the events of one list: each event is answered as without it, and the volumes are the same.
+//! An upgrade after each number of the events of one list: each event is answered as without it, and the volumes are the same.
 use super::super::every_call::{AFTER, EVENTS};
 use super::super::{SET_A, TestStore, fresh_store, next_run, unlike, version_of};
 use crate::testing::same;
@@ -34,8 +34,8 @@ fn apply_each(
     }
 }
 
-// Does the list with an upgrade behind so many events. The last one, which is another upgrade, then changes nothing.
-fn check_upgraded_behind(rt: &(impl Abort + AllocGlobal), events: usize) {
+// Does the list with an upgrade after so many events. The last one, which is another upgrade, then changes nothing.
+fn check_upgraded_after(rt: &(impl Abort + AllocGlobal), events: usize) {
     let mut store = fresh_store(rt, SET_A);
     apply_each(rt, &mut store, 0, events, 1);
     apply(rt, &mut store, &Event::Upgrade, events);
@@ -45,8 +45,8 @@ fn check_upgraded_behind(rt: &(impl Abort + AllocGlobal), events: usize) {
 }
 
 #[test]
-fn upgrade_behind_each_event(rt: HostRuntime) {
+fn upgrade_after_each_event(rt: HostRuntime) {
     for events in 0..9usize {
-        check_upgraded_behind(&rt, events);
+        check_upgraded_after(&rt, events);
     }
 }

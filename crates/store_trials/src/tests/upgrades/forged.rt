@@ -97,7 +97,7 @@ fn check_opened(rt: &(impl Abort + AllocGlobal), image: Image, byte: u8, wanted:
 }
 
 // What has to be there where the first byte of the table has each value: what is wanted where it is 0, and where it is 1. Else it is no version, and
-// the sectors behind are not read.
+// the sectors after it are not read.
 fn check_versions(
     rt: &(impl Abort + AllocGlobal),
     steps: &[Step],
@@ -123,7 +123,7 @@ fn first_bytes_of_version_1(rt: HostRuntime) {
     check_versions(&rt, &ONE, 0, [Ok(1), Err(25)]);
 }
 
-// Record 0 of version 2 has no blocks where version 1 has them. A block is written behind the upgrade, so that the last entry is of row 32 alone, and
+// Record 0 of version 2 has no blocks where version 1 has them. A block is written after the upgrade, so that the last entry is of row 32 alone, and
 // assembling puts no sector of the table on its member again.
 #[test]
 fn first_bytes_of_version_2(rt: HostRuntime) {

@@ -3,7 +3,7 @@ use Rattle.std.proofs.lemmas.Result.{err_from_is_err_and}
 use Rattle.sector_model.specs.Calls.{Flush}
 use Rattle.sector_model.proofs.Panels.{later_both}
 use Rattle.sector_model.proofs.Sequences.{made_both, made_short}
-use Rattle.stripe_journal.proofs.Copies.{copies_by, copies_short, copy_then_seal, ends_at_target, ends_by_flush, last_flush, short_behind_copy, short_in_copy}
+use Rattle.stripe_journal.proofs.Copies.{copies_by, copies_short, copy_then_seal, ends_at_target, ends_by_flush, last_flush, short_after_copy, short_in_copy}
 use Rattle.stripe_journal.proofs.copying.copy_entry.Goals as goal
 
 pub returns-in_err-copy_body-clause-copies : goal.returns-in_err-copy_body-clause-copies
@@ -15,7 +15,7 @@ pub returns-in_err-flush_device-clause-copies : goal.returns-in_err-flush_device
 returns-in_err-flush_device-clause-copies g c =
     let p = err_from_is_err_and c.from_residual-in_err-flush_device.result c.from_residual-in_err-flush_device.ensures.1 in
     copies_short _ _ _ p.1 p.2 (later_both _ _ _ c.copy_body.ensures.panel c.flush_device.ensures.panel)
-    (λ honest. short_behind_copy _ _ c.args.seal.now _ _ (c.in_ok-copy_body.ensures.made honest) (c.in_err-flush_device.ensures.history (c.copy_body.ensures.honest.0 honest)))
+    (λ honest. short_after_copy _ _ c.args.seal.now _ _ (c.in_ok-copy_body.ensures.made honest) (c.in_err-flush_device.ensures.history (c.copy_body.ensures.honest.0 honest)))
     (ends_at_target _ _ (g.B.Bank.panel c.flush_device.new.bank) _ c.in_err-flush_device.ensures.err)
 
 pub returns-in_err-write_seal-clause-copies : goal.returns-in_err-write_seal-clause-copies

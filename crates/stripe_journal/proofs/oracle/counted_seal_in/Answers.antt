@@ -1,10 +1,10 @@
 use Rattle.std.proofs.Common.{rules, length, ap, arith}
-use Rattle.stripe_journal.proofs.CountedSeals.{none_behind_last, none_in_nothing}
+use Rattle.stripe_journal.proofs.CountedSeals.{none_beyond_last, none_in_nothing}
 use Rattle.stripe_journal.proofs.oracle.counted_seal_in.Goals as goal
 
 pub returns-in-None-get-clause-none : goal.returns-in-None-get-clause-none
 returns-in-None-get-clause-none c = λ _.
-    rw c.in-Some.is (none_behind_last _ _ _ _ (omega (arith, c.in-None-get.ensures.lookup.3, ap length c.deref.ensures.value)))
+    rw c.in-Some.is (none_beyond_last _ _ _ _ (omega (arith, c.in-None-get.ensures.lookup.3, ap length c.deref.ensures.value)))
 
 pub returns-in-None-clause-none : goal.returns-in-None-clause-none
 returns-in-None-clause-none c = λ _. rw c.in-None.is (none_in_nothing _ _ _)

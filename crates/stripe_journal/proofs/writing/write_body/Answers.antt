@@ -30,9 +30,9 @@ loop-i-preserved g c =
     let members = c.args.geometry.now.members in
     let form = form_of c.args.entry.now in
     let count_is : count_held (has_bit c.view.result.mask) members ≡ count_held (holds members form c.loop-i.i) members = ap (λ (mask : ℕ). count_held (has_bit mask) members) c.view.ensures.mask in
-    let behind : c.in_ok-at.at ≡ c.loop-i.at + count_held (holds members form c.loop-i.i) members = c.in_ok-at.ensures.behind ∙ ap (λ (k : ℕ). c.loop-i.at + k) count_is in
+    let beyond : c.in_ok-at.at ≡ c.loop-i.at + count_held (holds members form c.loop-i.i) members = c.in_ok-at.ensures.beyond ∙ ap (λ (k : ℕ). c.loop-i.at + k) count_is in
     record {
-      place = omega (arith, c.loop-i.invariant.place, behind, before_on members form c.loop-i.i);
+      place = omega (arith, c.loop-i.invariant.place, beyond, before_on members form c.loop-i.i);
       panel = later_both _ _ _ c.loop-i.invariant.panel c.write_row.ensures.panel;
       honest = λ honest. c.write_row.ensures.honest.0 (c.loop-i.invariant.honest honest);
       still = λ honest. c.loop-i.invariant.still (c.write_row.ensures.honest.1 honest);
@@ -40,5 +40,5 @@ loop-i-preserved g c =
           let made = c.in_ok-at.ensures.made (c.loop-i.invariant.honest honest) in
           let row = subst (λ (mask : ℕ). Made (writes_from c.args.dev c.loop-i.at (held_of members mask c.view.result.sectors.now)) true (g.B.Bank.history c.loop-i.bank) (g.B.Bank.history c.write_row.new.bank)) c.view.ensures.mask made in
           let whole = subst (λ (row : List Bytes). Made (writes_from c.args.dev c.loop-i.at (held_of members (row_mask c.args.entry.now c.loop-i.i) row)) true (g.B.Bank.history c.loop-i.bank) (g.B.Bank.history c.write_row.new.bank)) c.view.ensures.sectors row in
-          c.loop-i.invariant.made honest answered new (row_then _ _ _ _ c.args.entry.now _ _ c.loop-i-test.true behind whole rest);
+          c.loop-i.invariant.made honest answered new (row_then _ _ _ _ c.args.entry.now _ _ c.loop-i-test.true beyond whole rest);
     }

@@ -4,14 +4,14 @@ use Rattle.layout_map.specs.declared.sizes.TheConstants.{JOURNAL_SECTORS}
 use Rattle.sector_model.proofs.Panels.{later_both}
 use Rattle.stripe_journal.specs.Forms.{has_bit}
 use Rattle.stripe_journal.proofs.Entries.{held_short, held_then, lacking_then}
-use Rattle.stripe_journal.proofs.Masks.{count_behind, count_on, count_over}
+use Rattle.stripe_journal.proofs.Masks.{count_beyond, count_on, count_over}
 use Rattle.stripe_journal.proofs.writing.write_row.Goals.{in-Some+in_ok-write_sector, in_default}
 use Rattle.stripe_journal.proofs.writing.write_row.Goals as goal
 
 pub write_sector-requires-clause-within : goal.write_sector-requires-clause-within
 write_sector-requires-clause-within g c = λ up.
     let held = c.in-Some.ensures.some.0 in
-    let below = count_behind (has_bit c.args.row.now.mask) c.loop-member.member c.args.members held c.loop-member-test.true in
+    let below = count_beyond (has_bit c.args.row.now.mask) c.loop-member.member c.args.members held c.loop-member-test.true in
     let at : c.loop-member.at < JOURNAL_SECTORS = omega (arith, c.loop-member.invariant.place, c.requires.end, below) in
     search (rules, arith)
 
@@ -25,7 +25,7 @@ returns-in_err-write_sector-clause-made g c = λ honest.
 pub overflow_add-at : goal.overflow_add-at
 overflow_add-at g c =
     let held = c.in-Some.ensures.some.0 in
-    omega (arith, c.loop-member.invariant.place, c.requires.end, count_behind (has_bit c.args.row.now.mask) c.loop-member.member c.args.members held c.loop-member-test.true)
+    omega (arith, c.loop-member.invariant.place, c.requires.end, count_beyond (has_bit c.args.row.now.mask) c.loop-member.member c.args.members held c.loop-member-test.true)
 
 pub loop-member-preserved : goal.loop-member-preserved
 loop-member-preserved g c = elim c.match-member.branch [

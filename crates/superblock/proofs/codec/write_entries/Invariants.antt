@@ -1,4 +1,4 @@
--- The entries of the slots so far stand behind the first 40 bytes.
+-- The entries of the slots so far stand after the first 40 bytes.
 use Rattle.std.proofs.Common.{◌+◌, ◌*◌, ◌++◌, take}
 use Rattle.superblock.specs.Spelling.{entries_bytes}
 use Rattle.superblock.proofs.Parts.{Begins}

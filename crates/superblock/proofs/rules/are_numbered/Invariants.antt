@@ -8,5 +8,5 @@ abbrev pub invariant-loop-slot : goal.invariant-loop-slot
 invariant-loop-slot l = record {
   least : (k : ℕ) → k < l.slot → k < l.slots → 1 ≤ incarnation_at l.incarnations k;
   most : (k : ℕ) → k < l.slot → k < l.slots → incarnation_at l.incarnations k ≤ GREATEST_COUNT;
-  behind : (k : ℕ) → k < l.slot → l.slots ≤ k → incarnation_at l.incarnations k ≡ 0;
+  beyond : (k : ℕ) → k < l.slot → l.slots ≤ k → incarnation_at l.incarnations k ≡ 0;
 }

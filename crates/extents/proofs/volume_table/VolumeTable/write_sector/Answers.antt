@@ -15,7 +15,7 @@ returns-then-number-eq0 c =
 pub slice_bounds-write_records-end : goal.slice_bounds-write_records-end
 slice_bounds-write_records-end c =
     let some : 0 < c.args.number = let other = c.if-number-eq0.false in omega arith in
-    let before : c.args.number < 1 + record_sectors c.args.self.now.version = omega (arith, c.if-number-behind.true, c.record_sectors-behind.ensures.number) in
+    let before : c.args.number < 1 + record_sectors c.args.self.now.version = omega (arith, c.if-number-beyond.true, c.record_sectors-beyond.ensures.number) in
     let all = table_all_records c.args.self.now.records c.args.self.now.extents c.args.self.now.is_table in
     omega (arith, records_within c.args.self.now.version c.args.number c.records_a_sector-each.result c.records_a_sector-each.ensures.number some before)
 
@@ -27,33 +27,33 @@ write_records-requires-clause-short c =
     part_short table.version table.records first (first + each - first) (table_short table.records table.extents table.is_table)
 
 -- the extents of the sector
-few : (number behind : ℕ) (version : ℕ) → number < table_length version → behind ≡ 1 + record_sectors version → number - behind < 8
-few number behind version within is = let all = table_length_is version in omega arith
+few : (number beyond : ℕ) (version : ℕ) → number < table_length version → beyond ≡ 1 + record_sectors version → number - beyond < 8
+few number beyond version within is = let all = table_length_is version in omega arith
 
-pub overflow_mul-first-else-number-behind : goal.overflow_mul-first-else-number-behind
-overflow_mul-first-else-number-behind c = let small = few c.args.number (1 + c.record_sectors-behind.result) c.args.self.now.version c.requires (ap (λ (n : ℕ). 1 + n) c.record_sectors-behind.ensures.number) in omega arith
+pub overflow_mul-first-else-number-beyond : goal.overflow_mul-first-else-number-beyond
+overflow_mul-first-else-number-beyond c = let small = few c.args.number (1 + c.record_sectors-beyond.result) c.args.self.now.version c.requires (ap (λ (n : ℕ). 1 + n) c.record_sectors-beyond.ensures.number) in omega arith
 
-pub overflow_add-first-else-number-behind : goal.overflow_add-first-else-number-behind
-overflow_add-first-else-number-behind c = let small = few c.args.number (1 + c.record_sectors-behind.result) c.args.self.now.version c.requires (ap (λ (n : ℕ). 1 + n) c.record_sectors-behind.ensures.number) in omega arith
+pub overflow_add-first-else-number-beyond : goal.overflow_add-first-else-number-beyond
+overflow_add-first-else-number-beyond c = let small = few c.args.number (1 + c.record_sectors-beyond.result) c.args.self.now.version c.requires (ap (λ (n : ℕ). 1 + n) c.record_sectors-beyond.ensures.number) in omega arith
 
 pub offset_bounds-extents-first : goal.offset_bounds-extents-first
-offset_bounds-extents-first c = let small = few c.args.number (1 + c.record_sectors-behind.result) c.args.self.now.version c.requires (ap (λ (n : ℕ). 1 + n) c.record_sectors-behind.ensures.number) in omega arith
+offset_bounds-extents-first c = let small = few c.args.number (1 + c.record_sectors-beyond.result) c.args.self.now.version c.requires (ap (λ (n : ℕ). 1 + n) c.record_sectors-beyond.ensures.number) in omega arith
 
 pub slice_bounds-write_owners-end : goal.slice_bounds-write_owners-end
 slice_bounds-write_owners-end c =
-    let small = few c.args.number (1 + c.record_sectors-behind.result) c.args.self.now.version c.requires (ap (λ (n : ℕ). 1 + n) c.record_sectors-behind.ensures.number) in
+    let small = few c.args.number (1 + c.record_sectors-beyond.result) c.args.self.now.version c.requires (ap (λ (n : ℕ). 1 + n) c.record_sectors-beyond.ensures.number) in
     let all = table_all_extents c.args.self.now.records c.args.self.now.extents c.args.self.now.is_table in
     omega arith
 
-pub returns-then-number-behind : goal.returns-then-number-behind
-returns-then-number-behind c =
+pub returns-then-number-beyond : goal.returns-then-number-beyond
+returns-then-number-beyond c =
     let table = c.args.self.now in
     let some : 0 < c.args.number = let other = c.if-number-eq0.false in omega arith in
-    let before : c.args.number < 1 + record_sectors table.version = omega (arith, c.if-number-behind.true, c.record_sectors-behind.ensures.number) in
+    let before : c.args.number < 1 + record_sectors table.version = omega (arith, c.if-number-beyond.true, c.record_sectors-beyond.ensures.number) in
     wrote_records table.version table.records table.extents c.args.number c.records_a_sector-each.result c.write_records.new.to some before c.records_a_sector-each.ensures.number c.write_records.ensures
 
-pub returns-else-number-behind : goal.returns-else-number-behind
-returns-else-number-behind c =
+pub returns-else-number-beyond : goal.returns-else-number-beyond
+returns-else-number-beyond c =
     let table = c.args.self.now in
-    wrote_extents table.version table.records table.extents c.args.number (1 + c.record_sectors-behind.result) c.write_owners.new.to
-    (ap (λ (n : ℕ). 1 + n) c.record_sectors-behind.ensures.number) (omega (arith, c.if-number-behind.false)) c.write_owners.ensures
+    wrote_extents table.version table.records table.extents c.args.number (1 + c.record_sectors-beyond.result) c.write_owners.new.to
+    (ap (λ (n : ℕ). 1 + n) c.record_sectors-beyond.ensures.number) (omega (arith, c.if-number-beyond.false)) c.write_owners.ensures

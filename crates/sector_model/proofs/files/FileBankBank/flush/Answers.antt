@@ -1,6 +1,6 @@
 use Rattle.std.proofs.Common.{◌≡◌, ◌<◌, ℕ, true, false, refl, sym, ◌∙◌, subst, IsTrue}
-use Rattle.sector_model.proofs.FileRuns.{calls_at, called_fault, called_few, called_kept, called_quiet, fault_down, good_so, good_up, here_at, idle_answered, idle_closed, idle_up, panel_here, synced_here, synced_others, over_flushed, over_fell, on_ok, noted_so, noted_not, after_same, over_idle, one_more_fits, called_up, closed_sectors, closed_down}
-use Rattle.sector_model.specs.declared.event.Event.TheVariants.{Fell}
+use Rattle.sector_model.proofs.FileRuns.{calls_at, called_fault, called_few, called_kept, called_quiet, fault_down, good_so, good_up, here_at, idle_answered, idle_closed, idle_up, panel_here, synced_here, synced_others, over_flushed, over_failed, on_ok, noted_so, noted_not, after_same, over_idle, one_more_fits, called_up, closed_sectors, closed_down}
+use Rattle.sector_model.specs.declared.event.Event.TheVariants.{DeviceFailed}
 use Rattle.sector_model.specs.declared.calls.TheConstants.{GREATEST_COUNT}
 use Rattle.sector_model.specs.History.{History, calls_of, is_down}
 use Rattle.std.proofs.lemmas.Bool.{false≢true}
@@ -12,8 +12,8 @@ flush-requires g c = λ tells up.
 
 pub invariant_of-self-then-is_err-clause-over : goal.invariant_of-self-then-is_err-clause-over
 invariant_of-self-then-is_err-clause-over g c = λ tells.
-    over_fell (calls_at (c.args.self.now.over tells) c.args.self.now.slots.ok.0 c.args.self.now.ten c.requires.call.device c.index_mut-slot.ensures.value) c.flush.new.self _
-    c.flush.ensures.sectors (fault_down c.flush.result c.flush.ensures.answer c.if-is_err.ensures.value) (c.note_fall.ensures (subst IsTrue (sym c.args.self.now.paired) tells))
+    over_failed (calls_at (c.args.self.now.over tells) c.args.self.now.slots.ok.0 c.args.self.now.ten c.requires.call.device c.index_mut-slot.ensures.value) c.flush.new.self _
+    c.flush.ensures.sectors (fault_down c.flush.result c.flush.ensures.answer c.if-is_err.ensures.value) (c.note_failure.ensures (subst IsTrue (sym c.args.self.now.paired) tells))
 
 pub invariant_of-self-then-note_flush-clause-over : goal.invariant_of-self-then-note_flush-clause-over
 invariant_of-self-then-note_flush-clause-over g c = λ tells.
@@ -24,8 +24,8 @@ invariant_of-self-then-note_flush-clause-over g c = λ tells.
 pub invariant_of-self-2-clause-over : goal.invariant_of-self-2-clause-over
 invariant_of-self-2-clause-over g c = λ tells.
     let noted = subst IsTrue (sym c.args.self.now.paired) tells in
-    over_fell (calls_at (c.args.self.now.over tells) c.args.self.now.slots.ok.0 c.args.self.now.ten c.requires.call.device c.index_mut-slot.ensures.value) c.close.new.self _
-    (closed_sectors c.flush.new.self c.close.ensures c.flush.ensures.sectors) (closed_down c.flush.new.self c.close.ensures) (after_same (Fell c.args.dev) (c.note_fall-2.ensures noted) (noted_not _ _ (c.note_flush.ensures.noted noted) c.if-note_flush.false))
+    over_failed (calls_at (c.args.self.now.over tells) c.args.self.now.slots.ok.0 c.args.self.now.ten c.requires.call.device c.index_mut-slot.ensures.value) c.close.new.self _
+    (closed_sectors c.flush.new.self c.close.ensures c.flush.ensures.sectors) (closed_down c.flush.new.self c.close.ensures) (after_same (DeviceFailed c.args.dev) (c.note_failure-2.ensures noted) (noted_not _ _ (c.note_flush.ensures.noted noted) c.if-note_flush.false))
 
 pub returns-then-is_closed-clause-panel : goal.returns-then-is_closed-clause-panel
 returns-then-is_closed-clause-panel g c =
@@ -40,8 +40,8 @@ returns-then-is_closed-clause-synced g c = tt
 pub returns-then-is_closed-clause-idle : goal.returns-then-is_closed-clause-idle
 returns-then-is_closed-clause-idle g c = λ synced. idle_closed (here_at c.args.self.now.slots.ok.0 c.args.self.now.ten c.requires.call.device c.index_mut-slot.ensures.value) _ c.if-is_closed.ensures
 
-pub note_fall-requires-clause-calls : goal.note_fall-requires-clause-calls
-note_fall-requires-clause-calls g c = λ tells. called_few (calls_at (c.args.self.now.over (subst IsTrue c.args.self.now.paired tells)) c.args.self.now.slots.ok.0 c.args.self.now.ten c.requires.call.device c.index_mut-slot.ensures.value) c.requires.call.calls
+pub note_failure-requires-clause-calls : goal.note_failure-requires-clause-calls
+note_failure-requires-clause-calls g c = λ tells. called_few (calls_at (c.args.self.now.over (subst IsTrue c.args.self.now.paired tells)) c.args.self.now.slots.ok.0 c.args.self.now.ten c.requires.call.device c.index_mut-slot.ensures.value) c.requires.call.calls
 
 pub returns-then-is_err-clause-panel : goal.returns-then-is_err-clause-panel
 returns-then-is_err-clause-panel g c =
@@ -81,11 +81,11 @@ returns-clause-others g c = synced_others c.args.self.now.slots.items c.args.dev
 
 pub returns-then-is_closed-clause-history : goal.returns-then-is_closed-clause-history
 returns-then-is_closed-clause-history g c = λ tells.
-    called_quiet (calls_at (c.args.self.now.over tells) c.args.self.now.slots.ok.0 c.args.self.now.ten c.requires.call.device c.index_mut-slot.ensures.value) (Fell c.args.dev) c.if-is_closed.ensures (c.note_quiet.ensures (subst IsTrue (sym c.args.self.now.paired) tells))
+    called_quiet (calls_at (c.args.self.now.over tells) c.args.self.now.slots.ok.0 c.args.self.now.ten c.requires.call.device c.index_mut-slot.ensures.value) (DeviceFailed c.args.dev) c.if-is_closed.ensures (c.note_quiet.ensures (subst IsTrue (sym c.args.self.now.paired) tells))
 
 pub returns-then-is_err-clause-history : goal.returns-then-is_err-clause-history
 returns-then-is_err-clause-history g c = λ tells.
-    called_fault (calls_at (c.args.self.now.over tells) c.args.self.now.slots.ok.0 c.args.self.now.ten c.requires.call.device c.index_mut-slot.ensures.value) (Fell c.args.dev) c.if-is_closed.ensures (c.note_fall.ensures (subst IsTrue (sym c.args.self.now.paired) tells))
+    called_fault (calls_at (c.args.self.now.over tells) c.args.self.now.slots.ok.0 c.args.self.now.ten c.requires.call.device c.index_mut-slot.ensures.value) (DeviceFailed c.args.dev) c.if-is_closed.ensures (c.note_failure.ensures (subst IsTrue (sym c.args.self.now.paired) tells))
 
 pub returns-then-note_flush-clause-history : goal.returns-then-note_flush-clause-history
 returns-then-note_flush-clause-history g c = λ tells. noted_so _ _ (c.note_flush.ensures.noted (subst IsTrue (sym c.args.self.now.paired) tells)) c.if-note_flush.true
@@ -93,8 +93,8 @@ returns-then-note_flush-clause-history g c = λ tells. noted_so _ _ (c.note_flus
 pub returns-clause-history : goal.returns-clause-history
 returns-clause-history g c = λ tells.
     let noted = (subst IsTrue (sym c.args.self.now.paired) tells) in
-    called_fault (calls_at (c.args.self.now.over tells) c.args.self.now.slots.ok.0 c.args.self.now.ten c.requires.call.device c.index_mut-slot.ensures.value) (Fell c.args.dev) c.if-is_closed.ensures
-    (after_same (Fell c.args.dev) (c.note_fall-2.ensures noted) (noted_not _ _ (c.note_flush.ensures.noted noted) c.if-note_flush.false))
+    called_fault (calls_at (c.args.self.now.over tells) c.args.self.now.slots.ok.0 c.args.self.now.ten c.requires.call.device c.index_mut-slot.ensures.value) (DeviceFailed c.args.dev) c.if-is_closed.ensures
+    (after_same (DeviceFailed c.args.dev) (c.note_failure-2.ensures noted) (noted_not _ _ (c.note_flush.ensures.noted noted) c.if-note_flush.false))
 
 pub returns-then-is_closed-clause-honest : goal.returns-then-is_closed-clause-honest
 returns-then-is_closed-clause-honest g c = (λ tells. tells, λ tells. tells)
@@ -146,8 +146,8 @@ invariant_of-self-2-clause-ten g c = c.args.self.now.ten
 pub invariant_of-self-2-clause-paired : goal.invariant_of-self-2-clause-paired
 invariant_of-self-2-clause-paired g c = c.args.self.now.paired
 
-pub note_fall-requires-clause-up : goal.note_fall-requires-clause-up
-note_fall-requires-clause-up g c = λ tells. called_up (calls_at (c.args.self.now.over (subst IsTrue c.args.self.now.paired tells)) c.args.self.now.slots.ok.0 c.args.self.now.ten c.requires.call.device c.index_mut-slot.ensures.value) (sym c.if-is_closed.ensures)
+pub note_failure-requires-clause-up : goal.note_failure-requires-clause-up
+note_failure-requires-clause-up g c = λ tells. called_up (calls_at (c.args.self.now.over (subst IsTrue c.args.self.now.paired tells)) c.args.self.now.slots.ok.0 c.args.self.now.ten c.requires.call.device c.index_mut-slot.ensures.value) (sym c.if-is_closed.ensures)
 
 pub note_flush-requires-clause-calls : goal.note_flush-requires-clause-calls
 note_flush-requires-clause-calls g c = λ tells. called_few (calls_at (c.args.self.now.over (subst IsTrue c.args.self.now.paired tells)) c.args.self.now.slots.ok.0 c.args.self.now.ten c.requires.call.device c.index_mut-slot.ensures.value) c.requires.call.calls
@@ -161,12 +161,12 @@ returns-then-is_err-clause-synced g c = tt
 pub returns-clause-synced : goal.returns-clause-synced
 returns-clause-synced g c = tt
 
-pub note_fall-requires-2-clause-calls : goal.note_fall-requires-2-clause-calls
-note_fall-requires-2-clause-calls g c = λ tells.
+pub note_failure-requires-2-clause-calls : goal.note_failure-requires-2-clause-calls
+note_failure-requires-2-clause-calls g c = λ tells.
     subst (λ (k : History). calls_of k < GREATEST_COUNT) (sym (noted_not _ _ (c.note_flush.ensures.noted tells) c.if-note_flush.false))
     (called_few (calls_at (c.args.self.now.over (subst IsTrue c.args.self.now.paired tells)) c.args.self.now.slots.ok.0 c.args.self.now.ten c.requires.call.device c.index_mut-slot.ensures.value) c.requires.call.calls)
 
-pub note_fall-requires-2-clause-up : goal.note_fall-requires-2-clause-up
-note_fall-requires-2-clause-up g c = λ tells.
+pub note_failure-requires-2-clause-up : goal.note_failure-requires-2-clause-up
+note_failure-requires-2-clause-up g c = λ tells.
     subst (λ (k : History). is_down k c.args.dev ≡ false) (sym (noted_not _ _ (c.note_flush.ensures.noted tells) c.if-note_flush.false))
     (called_up (calls_at (c.args.self.now.over (subst IsTrue c.args.self.now.paired tells)) c.args.self.now.slots.ok.0 c.args.self.now.ten c.requires.call.device c.index_mut-slot.ensures.value) (sym c.if-is_closed.ensures))

@@ -1,11 +1,11 @@
 use Rattle.std.proofs.Common.{rules, ◌<◌, true, false, not, [], List, length, get_or, vec_len, sym, ◌∙◌, ap, arith}
 use Rattle.std.proofs.lemmas.List.{get_or_default}
-use Rattle.sector_model.specs.declared.event.Event.TheVariants.{Fell}
+use Rattle.sector_model.specs.declared.event.Event.TheVariants.{DeviceFailed}
 use Rattle.sector_model.specs.History.{Bytes}
 use Rattle.sector_model.specs.Memory.{contents_of}
 use Rattle.sector_model.specs.Plans.{fails_at}
 use Rattle.sector_model.proofs.Copies.{contents_at}
-use Rattle.sector_model.proofs.MemPanels.{read_down, after_down, after_fall, after_answer, run_down, run_fall, cause_down, cause_up}
+use Rattle.sector_model.proofs.MemPanels.{read_down, after_down, after_failure, after_answer, run_down, run_failure, cause_down, cause_up}
 use Rattle.sector_model.proofs.memory.MemBankBank.read.Goals as goal
 
 pub returns-then-index : goal.returns-then-index
@@ -16,7 +16,7 @@ returns-then-index c =
     record {
       panel = after_down c.args.dev m.calls _ down passed.disks passed.down passed.calls;
       honest = (λ h. h, λ h. h);
-      history = λ _. run_down c.args.dev (Fell c.args.dev) (sym (m.replayed.down c.args.dev) ∙ down) passed.run;
+      history = λ _. run_down c.args.dev (DeviceFailed c.args.dev) (sym (m.replayed.down c.args.dev) ∙ down) passed.run;
       bytes = λ _. tt;
       cause = cause_down (fails_at m.plan c.args.dev m.calls) down;
       plan = passed.plan;
@@ -27,15 +27,15 @@ pub returns-then-fails : goal.returns-then-fails
 returns-then-fails c =
     let m = c.args.self.now in
     let up = read_down m.down c.args.dev c.index.result.now false c.requires.call.device c.index.ensures c.if-index.false in
-    let fell = c.fall.ensures in
+    let failed = c.fail_device.ensures in
     record {
-      panel = after_fall c.args.dev m.calls _ m.down c.fall.new.self.down c.requires.call.device fell.disks fell.down fell.calls;
+      panel = after_failure c.args.dev m.calls _ m.down c.fail_device.new.self.down c.requires.call.device failed.disks failed.down failed.calls;
       honest = (λ h. h, λ h. h);
-      history = λ _. run_fall c.args.dev (Fell c.args.dev) (sym (m.replayed.down c.args.dev) ∙ up) fell.run;
+      history = λ _. run_failure c.args.dev (DeviceFailed c.args.dev) (sym (m.replayed.down c.args.dev) ∙ up) failed.run;
       bytes = λ _. tt;
       cause = cause_up (fails_at m.plan c.args.dev m.calls) up (ap not c.if-fails.ensures);
-      plan = fell.plan;
-      room = fell.room;
+      plan = failed.plan;
+      room = failed.room;
     }
 
 pub returns-clause-panel : goal.returns-clause-panel

@@ -4,7 +4,7 @@ use Rattle.sector_model.specs.declared.event.Event.TheVariants.{Lost}
 use Rattle.sector_model.specs.History.{After}
 use Rattle.sector_model.specs.Memory.{run_of, slots_of}
 use Rattle.sector_model.specs.Plans.{fails_at}
-use Rattle.sector_model.proofs.MemPanels.{HasData, has_data, read_down, after_down, after_fall, after_answer, run_down, run_fall, cause_down, cause_up, some_fault, no_fault}
+use Rattle.sector_model.proofs.MemPanels.{HasData, has_data, read_down, after_down, after_failure, after_answer, run_down, run_failure, cause_down, cause_up, some_fault, no_fault}
 use Rattle.sector_model.proofs.memory.MemBankBank.write.Goals as goal
 use Rattle.sector_model.proofs.memory.MemBankBank.write.Goals.{then-self-eq0-via-then-self-eq0, then-self-eq0-via-else-self-eq0+then-fails}
 
@@ -35,16 +35,16 @@ returns-then-self-eq0 c =
       | then-self-eq0-via-then-self-eq0 w ↦ inl w.if-self-eq0.true
       | then-self-eq0-via-else-self-eq0+then-fails w ↦ inr (sym w.if-fails.ensures)
     ] in
-    let fell = c.fall.ensures in
+    let failed = c.fail_device.ensures in
     record {
-      panel = after_fall c.args.dev m.calls _ m.down c.fall.new.self.down c.requires.call.device (fell.disks ∙ same.disks)
-          (fell.down ∙ ap (λ (v : Vec Bool Global). slice_set v.items c.args.dev true) same.down) (fell.calls ∙ ap (λ (n : ℕ). n + 1) same.calls);
+      panel = after_failure c.args.dev m.calls _ m.down c.fail_device.new.self.down c.requires.call.device (failed.disks ∙ same.disks)
+          (failed.down ∙ ap (λ (v : Vec Bool Global). slice_set v.items c.args.dev true) same.down) (failed.calls ∙ ap (λ (n : ℕ). n + 1) same.calls);
       honest = (λ h. h, λ h. h);
-      history = λ _. run_fall c.args.dev (Lost c.args.dev c.args.at c.args.from.now) (sym (m.replayed.down c.args.dev) ∙ up)
-          (fell.run ∙ ap (After (Lost c.args.dev c.args.at c.args.from.now)) same.run);
+      history = λ _. run_failure c.args.dev (Lost c.args.dev c.args.at c.args.from.now) (sym (m.replayed.down c.args.dev) ∙ up)
+          (failed.run ∙ ap (After (Lost c.args.dev c.args.at c.args.from.now)) same.run);
       cause = cause_up (m.room == 0 || fails) up (ap not (some_fault why));
-      plan = fell.plan ∙ same.plan;
-      room = omega (arith, fell.room, same.room);
+      plan = failed.plan ∙ same.plan;
+      room = omega (arith, failed.room, same.room);
     }
 
 pub returns : goal.returns

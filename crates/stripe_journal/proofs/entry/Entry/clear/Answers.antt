@@ -6,7 +6,7 @@ pub returns : goal.returns
 returns c = search rules
 
 pub invariant_of-self-clause-rest : goal.invariant_of-self-clause-rest
-invariant_of-self-clause-rest c = λ i behind. none_in_zeros 32 i
+invariant_of-self-clause-rest c = λ i beyond. none_in_zeros 32 i
 
 pub invariant_of-self-clause-bytes : goal.invariant_of-self-clause-bytes
 invariant_of-self-clause-bytes c = λ i. omega (arith, none_in_zeros 32 i)

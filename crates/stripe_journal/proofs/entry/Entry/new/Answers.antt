@@ -6,7 +6,7 @@ pub returns-clause-empty : goal.returns-clause-empty
 returns-clause-empty c = search rules
 
 pub invariant_of-result-clause-rest : goal.invariant_of-result-clause-rest
-invariant_of-result-clause-rest c = λ i behind. none_in_zeros 32 i
+invariant_of-result-clause-rest c = λ i beyond. none_in_zeros 32 i
 
 pub invariant_of-result-clause-bytes : goal.invariant_of-result-clause-bytes
 invariant_of-result-clause-bytes c = λ i. omega (arith, none_in_zeros 32 i)

@@ -1,4 +1,4 @@
--- An event is done by its call; its ack is behind those that were there, unless it ended the store.
+-- An event is done by its call; its ack is after those that were there, unless it ended the store.
 use Rattle.std.proofs.Common.{refl}
 use Rattle.volume_table.specs.Events.{event_of, reply_of}
 use Rattle.volume_table.proofs.EndedStore.{not_ended, was_ended}

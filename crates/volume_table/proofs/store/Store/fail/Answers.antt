@@ -7,7 +7,7 @@ use Rattle.array_io.proofs.Images.Codecs.{spellings}
 use Rattle.array_io.proofs.Marks.MarkMissing.{its_slots_stay, marks_missing, but_one}
 use Rattle.volume_table.specs.Admission.{AreKept}
 use Rattle.volume_table.specs.Stands.{StoreView, extents_in, store_of}
-use Rattle.volume_table.proofs.FailedSlot.{fail_marked, fail_refused, marks_fallen, marks_geometry, not_missing, would_lose}
+use Rattle.volume_table.proofs.FailedSlot.{fail_marked, fail_refused, marks_failed, marks_geometry, not_missing, would_lose}
 use Rattle.volume_table.specs.VolumeStep.{Fail, OnSet}
 use Rattle.volume_table.proofs.EndedStore.{stays_ended}
 use Rattle.volume_table.specs.OpenStore.{store_view}
@@ -60,7 +60,7 @@ returns-clause-fails g c =
     c.end.ensures.done c.end.ensures.ended
     (marks_missing spellings (g.B.Bank.honest was.array.bank) c.args.slot was.array.entry (g.B.Bank.panel was.array.bank) (g.B.Bank.panel new.bank) was.array.table new.table
     (g.B.Bank.history was.array.bank) (g.B.Bank.history new.bank) c.mark_slot-answer.result of_set was.array.its_slots (λ fair. g.met.B.Bank.true_to _ fair) c.mark_slot-answer.ensures.marks)
-    (marks_fallen (g.B.Bank.honest was.array.bank) c.args.slot (g.B.Bank.panel was.array.bank) (g.B.Bank.panel new.bank) was.array.table new.table
+    (marks_failed (g.B.Bank.honest was.array.bank) c.args.slot (g.B.Bank.panel was.array.bank) (g.B.Bank.panel new.bank) was.array.table new.table
     (g.B.Bank.history was.array.bank) (g.B.Bank.history new.bank) c.mark_slot-answer.result c.mark_slot-answer.ensures.marks of_set
     (λ fair. g.met.B.Bank.true_to _ (c.mark_slot-answer.ensures.honest.0 fair))))
 

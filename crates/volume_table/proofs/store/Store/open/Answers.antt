@@ -53,7 +53,7 @@ pub invariant_of-result : goal.invariant_of-result
 invariant_of-result g c = record {
   kept = record {
     same = c.new-map.ensures ∙ ap (λ n. take n c.in-Some.table.extents) c.extents-extents.ensures;
-    free_behind = subst (AreFreeFrom c.in-Some.table.extents) c.extents-extents.ensures c.in-Some.ensures.within;
+    free_beyond = subst (AreFreeFrom c.in-Some.table.extents) c.extents-extents.ensures c.in-Some.ensures.within;
   };
 }
 

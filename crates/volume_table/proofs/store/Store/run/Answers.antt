@@ -25,7 +25,7 @@ loop-event-init g c =
           c.args.acks.now.items c.reserve.new.self.items c.reserve.ensures.items;
     }
 
--- what stands at a place behind the events
+-- what stands at a place after the events
 abbrev blank : Event
 blank = Create (record { ref_ptr = (0, 0); now = [] }) 0
 

@@ -3,7 +3,7 @@ use Rattle.std.proofs.Common.{◌≡◌, ◌+◌, ◌<◌, ℕ, List, [], length
 use Rattle.sector_model.specs.History.{Bytes}
 use Rattle.superblock.specs.Cases.{Lost}
 use Rattle.array_io.specs.Believed.Views.{RestsOn}
-use Rattle.array_io.specs.Believed.ReadWhole.{NoneFell}
+use Rattle.array_io.specs.Believed.ReadWhole.{NoDeviceFailed}
 use Rattle.array_io.specs.Believed.OpenArray.{array_view}
 use Rattle.volume_table.specs.ListChanges.{ChangesList, IsSame}
 use Rattle.volume_table.proofs.OpenedStore.{HaveReadWhole}
@@ -20,7 +20,7 @@ invariant-loop-number g l = record {
   gives : g.B.Bank.honest l.initial.array.bank → (lost : Option Lost) (V : List Bytes)
       → RestsOn (array_view l.initial.array) lost V
       → (k : ℕ) → k < l.number → get_or l.sectors k [] ≡ get_or V (l.first + k) [];
-  told : g.B.Bank.honest l.initial.array.bank → NoneFell (g.B.Bank.panel l.initial.array.bank) (g.B.Bank.panel l.array.bank) → HaveReadWhole l.first l.number
+  told : g.B.Bank.honest l.initial.array.bank → NoDeviceFailed (g.B.Bank.panel l.initial.array.bank) (g.B.Bank.panel l.array.bank) → HaveReadWhole l.first l.number
       (array_view l.initial.array)
       (array_view l.array) l.sectors;
 }

@@ -6,7 +6,7 @@ use Rattle.std.proofs.lemmas.Result.{err_from_is_err_and}
 use Rattle.extents.specs.Versions.{table_length}
 use Rattle.array_io.specs.Believed.OpenArray.{array_view}
 use Rattle.volume_table.proofs.ListChanges.{changes_read}
-use Rattle.volume_table.proofs.OpenedStore.{first_spelled, gives_table, is_version, length-behind, put_is, read_then, reads_spelled, spells_none, then_ends, where_ok}
+use Rattle.volume_table.proofs.OpenedStore.{first_spelled, gives_table, is_version, length-beyond, put_is, read_then, reads_spelled, spells_none, then_ends, where_ok}
 use Rattle.volume_table.proofs.TableSizes.{table_long, table_short}
 use Rattle.volume_table.proofs.store.opening.read_table.Goals as goal
 
@@ -70,10 +70,10 @@ returns-clause-gives g c = λ fair. where_ok c.read_from.result (c.read_from.ens
     let n = c.table_length.result in
     let is : n ≡ table_length version = c.table_length.ensures in
     let there = get_or-set_same c.args.sectors.now 0 to [] (omega (arith, c.told-sectors)) in
-    let behind = length-behind n c.args.sectors.now to c.told-sectors (omega (arith, is, table_short version)) in
-    let many : length part + 1 ≡ n = omega (arith, c.read_from.auto.sectors, behind, is, table_long version) in
+    let beyond = length-beyond n c.args.sectors.now to c.told-sectors (omega (arith, is, table_short version)) in
+    let many : length part + 1 ≡ n = omega (arith, c.read_from.auto.sectors, beyond, is, table_long version) in
     gives_table (g.B.Bank.honest c.args.array.now.bank) (array_view c.args.array.now) (array_view c.read.new.self) version n to part _ c.in-Some.ensures.some.0 (sym there ∙ c.in-Some.ensures.some.1) is
-    (put_is n c.args.sectors.now part to (omega (arith, c.told-sectors)) many) behind c.in_ok-read.ensures.reads gives fair)
+    (put_is n c.args.sectors.now part to (omega (arith, c.told-sectors)) many) beyond c.in_ok-read.ensures.reads gives fair)
 
 pub returns-clause-spelled : goal.returns-clause-spelled
 returns-clause-spelled g c = λ fair. where_ok c.read_from.result (c.read_from.ensures.reads (c.read.ensures.honest.0 fair)) (λ reads none table spelled.
@@ -83,8 +83,8 @@ returns-clause-spelled g c = λ fair. where_ok c.read_from.result (c.read_from.e
     let n = c.table_length.result in
     let is : n ≡ table_length version = c.table_length.ensures in
     let there = get_or-set_same c.args.sectors.now 0 to [] (omega (arith, c.told-sectors)) in
-    let behind = length-behind n c.args.sectors.now to c.told-sectors (omega (arith, is, table_short version)) in
-    let many : length part + 1 ≡ n = omega (arith, c.read_from.auto.sectors, behind, is, table_long version) in
+    let beyond = length-beyond n c.args.sectors.now to c.told-sectors (omega (arith, is, table_short version)) in
+    let many : length part + 1 ≡ n = omega (arith, c.read_from.auto.sectors, beyond, is, table_long version) in
     reads_spelled (array_view c.args.array.now) (array_view c.read.new.self) (array_view c.read_from.new.array) version n to part _ table c.in-Some.ensures.some.0 (sym there ∙ c.in-Some.ensures.some.1) is
     (put_is n c.args.sectors.now part to (omega (arith, c.told-sectors)) many) c.in_ok-read.ensures.reads.goes_on c.read_from.ensures.changes.goes_on none
-    (c.in_ok-read.ensures.whole fair) (λ up k below. reads up k (omega (arith, below, behind))) spelled)
+    (c.in_ok-read.ensures.whole fair) (λ up k below. reads up k (omega (arith, below, beyond))) spelled)

@@ -1,5 +1,0 @@
-use Rattle.array_io.proofs.Laws.Begun as begun
-use Rattle.array_io.proofs.law.between_runs.a_stop_then_a_start.Goals as goal
-
-pub returns : goal.returns
-returns c = begun.a_stop_then_a_start

@@ -1,6 +1,0 @@
-use Rattle.std.proofs.Common.{◌≡◌, map, take}
-use Rattle.std.specs.Option.{is_some}
-use Rattle.device_files.proofs.looking.read_all.Given as goal
-
-abbrev pub invariant-loop-slot : goal.invariant-loop-slot
-invariant-loop-slot g l = map is_some l.looked.items ≡ map is_some (take l.slot-index l.files)

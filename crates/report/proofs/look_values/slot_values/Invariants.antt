@@ -1,8 +1,0 @@
--- the objects of the slots so far
-use Rattle.std.proofs.Common.{◌≡◌, map}
-use Rattle.serde_json.specs.View.{view}
-use Rattle.report.specs.Looks.{look_slots_json}
-use Rattle.report.proofs.look_values.slot_values.Given as goal
-
-abbrev pub invariant-loop-slot : goal.invariant-loop-slot
-invariant-loop-slot l = map view l.values.items ≡ look_slots_json l.examined l.slot

@@ -1,5 +1,0 @@
-use Rattle.std.proofs.Common.{rules}
-use Rattle.sector_model.proofs.memory.after_stop.flushes.Goals as goal
-
-pub returns-in-Flushed : goal.returns-in-Flushed
-returns-in-Flushed c = search rules

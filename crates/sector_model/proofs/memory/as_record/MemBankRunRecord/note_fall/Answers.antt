@@ -1,6 +1,0 @@
-use Rattle.std.proofs.Common.{refl}
-use Rattle.sector_model.proofs.Replay.{replayed_few}
-use Rattle.sector_model.proofs.memory.as_record.MemBankRunRecord.note_fall.Goals as goal
-
-pub fall-requires-clause-calls : goal.fall-requires-clause-calls
-fall-requires-clause-calls c = replayed_few c.args.self.now.start.items c.args.self.now.log.items c.args.self.now.calls (c.requires.calls refl)

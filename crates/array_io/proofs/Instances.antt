@@ -64,7 +64,8 @@ still_lost devices table number h (Some lost) V settled =
     inr (out_at_rest table lost (subst (λ (g : Geometry). lost.slot < g.members + 2) holds.not_older.same_geometry holds.lost_in_set) settled.lost_slot, refl)
 
 -- also where a slot is given up that the table lacks, or none
-still_lost_from : (devices : ℕ) (table : Table) (number : ℕ) (h : History) (lost : Option Lost) (V : List Bytes) (slot : ℕ) → IsSettled devices table number h lost V
+still_lost_from : (devices : ℕ) (table : Table) (number : ℕ) (h : History) (lost : Option Lost) (V : List Bytes) (slot : ℕ)
+    → IsSettled devices table number h lost V
     → IsLostAfter (lost_from lost slot) table lost
 still_lost_from devices table number h None V slot settled = inl (complete_at_rest table settled.lost_slot, refl)
 still_lost_from devices table number h (Some lost) V slot settled = still_lost devices table number h (Some lost) V settled
@@ -98,7 +99,8 @@ settled_after_read devices table number h lost V settled = record {
   lost_slot = settled.lost_slot;
 }
 
-pub settled_after_reads : (n devices : ℕ) (table : Table) (number : ℕ) (h : History) (lost : Option Lost) (V : List Bytes) → IsSettled devices table number h lost V
+pub settled_after_reads : (n devices : ℕ) (table : Table) (number : ℕ) (h : History) (lost : Option Lost) (V : List Bytes)
+    → IsSettled devices table number h lost V
     → IsSettled devices table number (after_reads n h) lost V
 settled_after_reads zero devices table number h lost V settled = settled
 settled_after_reads (suc n) devices table number h lost V settled =
@@ -150,7 +152,8 @@ one_read_is_a_call dev array up = record {
   stays = λ down. absurd (false≢true (sym up ∙ down));
 }
 
-true_after_read : (panel : Panel) (h : History) (calls : ℕ) → calls ≡ panel.calls + 1 → IsTrueTo panel h → IsTrueTo record panel { calls = calls } (After Quiet h)
+true_after_read : (panel : Panel) (h : History) (calls : ℕ) → calls ≡ panel.calls + 1 → IsTrueTo panel h
+    → IsTrueTo record panel { calls = calls } (After Quiet h)
 true_after_read panel h calls counted was = record {
   down = was.down;
   sectors = was.sectors;
@@ -214,7 +217,8 @@ own_rows_are_sound array lost V complete rests row below =
 
 -- a sector is read by so many device reads that were answered, and is what the rows say
 pub read_is_answered : (honest : Type 0) (logical n : ℕ) (array : ArrayView)
-    → Reads honest logical array (with_reads n array) (slice_index_or (logical_list array.table.geometry (rows_by array.table (readable array.history))) logical []) (Ok tt)
+    → Reads honest logical array (with_reads n array) (slice_index_or (logical_list array.table.geometry (rows_by array.table (readable array.history))) logical
+    []) (Ok tt)
 read_is_answered honest logical n array = record {
   goes_on = goes_on_in_reads n array;
   stays = stays_in_reads _ n array _;
@@ -228,7 +232,8 @@ read_is_answered honest logical n array = record {
 pub read_of_settled : (honest : Type 0) (logical n : ℕ) (array : ArrayView) (lost : Option Lost) (V : List Bytes) → RestsOn array lost V
     → Reads honest logical array (with_reads n array) (slice_index_or V logical []) (Ok tt)
 read_of_settled honest logical n array lost V rests =
-    subst (λ (l : List Bytes). Reads honest logical array (with_reads n array) (slice_index_or l logical []) (Ok tt)) rests.listed (read_is_answered honest logical n array)
+    subst (λ (l : List Bytes). Reads honest logical array (with_reads n array) (slice_index_or l logical []) (Ok tt)) rests.listed
+    (read_is_answered honest logical n array)
 
 -- the array of a set that was just made, in its first run
 abbrev pub fresh_array : Panel → Table → Slots → ArrayView
@@ -240,7 +245,8 @@ pub fresh_rests : (panel : Panel) (table : Table) (image : Slots) → IsFresh pa
 fresh_rests panel table image fresh = settled_begins spellings (fresh_set_holds spellings (holds_from_core spellings)) panel.devices table image fresh
 
 pub read_of_fresh : (honest : Type 0) (logical n : ℕ) (panel : Panel) (table : Table) (image : Slots) → IsFresh panel.devices table image
-    → Reads honest logical (fresh_array panel table image) (with_reads n (fresh_array panel table image)) (slice_index_or (zeros_of table.geometry) logical []) (Ok tt)
+    → Reads honest logical (fresh_array panel table image) (with_reads n (fresh_array panel table image)) (slice_index_or (zeros_of table.geometry) logical [])
+    (Ok tt)
 read_of_fresh honest logical n panel table image fresh =
     read_of_settled honest logical n (fresh_array panel table image) None (zeros_of table.geometry) (fresh_rests panel table image fresh)
 

@@ -1,5 +1,6 @@
 //! The rows of a commit, formed in the entry's buffer.
-ghost use Rattle.std.specs.Prelude.{◌≡◌, ◌≢◌, ◌⊎◌, ◌≤◌, ◌<◌, ◌+◌, ◌-◌, ◌↔◌, ℕ, IsTrue, OnOk, if◌then◌else◌, length, not, true};
+ghost use Rattle.std.specs.Prelude.{◌≡◌, ◌≢◌, ◌⊎◌, ◌≤◌, ◌<◌, ◌+◌, ◌-◌, ◌↔◌, ℕ, IsTrue, OnOk, if◌then◌else◌, length};
+ghost use Rattle.std.specs.Prelude.{not, true};
 ghost use Rattle.std.specs.List.Sorted.{IsStrictlyIncreasing};
 ghost use Rattle.layout_map.specs.Placement.{rows_of};
 ghost use Rattle.layout_map.specs.declared.sizes.TheConstants.{ENTRY_ROWS, MOST_MEMBERS};
@@ -12,7 +13,9 @@ ghost use Rattle.degraded.specs.ReadMember.{is_read};
 ghost use Rattle.array_io.specs.Believed.ArrayCalls.{MayCommit};
 ghost use Rattle.array_io.specs.Believed.Views.{HasItsSlots};
 ghost use Rattle.array_io.specs.Steps.FillingRows.{FormsRow, SumsRow, reads_below};
-ghost use Rattle.array_io.specs.Steps.FormingRows.{AreApart, AreOfSet, AreRowsOf, AreRowsOfSet, FormsListed, HasParityOn, HasRow, HasSoundRow, HoldsChanged, HoldsGiven, IsChanged, IsGiven};
+ghost use Rattle.array_io.specs.Steps.FormingRows.{AreApart, AreOfSet, AreRowsOf, AreRowsOfSet, FormsListed};
+ghost use Rattle.array_io.specs.Steps.FormingRows.{HasParityOn, HasRow, HasSoundRow, HoldsChanged, HoldsGiven};
+ghost use Rattle.array_io.specs.Steps.FormingRows.{IsChanged, IsGiven};
 ghost use Rattle.array_io.specs.Steps.ReadingOn.{Between, KeepsFrom, KeepsOn};
 
 use crate::array::read::read_value;
@@ -54,7 +57,8 @@ fn add_row(rows: &mut ArrayVec<u32, ENTRY_ROWS>, row: u32)
     ensures rising { IsStrictlyIncreasing rows.new.items }
     ensures has { HasRow rows.new.items row }
     ensures keeps { (other : ℕ) → HasRow rows.old.items other → HasRow rows.new.items other }
-    ensures only { (i : ℕ) → i < length rows.new.items → HasRow rows.old.items (row_at rows.new.items i) ⊎ (row_at rows.new.items i ≡ row) }
+    ensures only { (i : ℕ) → i < length rows.new.items → HasRow rows.old.items (row_at rows.new.items i)
+        ⊎ (row_at rows.new.items i ≡ row) }
 {
     let place = place_in(rows, row);
     if !is_at(rows, place, row) {
@@ -86,8 +90,8 @@ fn with_bit(mask: u8, member: u8) -> u8
     mask | 1 << member
 }
 
-// The mask of what a commit of the given sectors changes in a row: the bit of the member with the row's parity, and of each on
-// which a given sector lies there.
+// The mask of what a commit of the given sectors changes in a row: the bit of the member with the row's parity, and of
+// each on which a given sector lies there.
 fn changed_mask(geometry: &Geometry, sectors: &[(u64, Sector)], row: u32) -> u8
     requires of_set { AreOfSet geometry.now sectors.now }
     requires row { row < rows_of geometry.now.chunk geometry.now.stripes }
@@ -129,7 +133,8 @@ fn put_given(geometry: &Geometry, rows: &[u32], sectors: &[(u64, Sector)], entry
     ensures numbers { numbers_of entry.new ≡ numbers_of entry.old }
     ensures form { form_of entry.new ≡ form_of entry.old }
     ensures given { HoldsGiven geometry.now sectors.now entry.new }
-    ensures others { (i member : ℕ) → i < length rows.now → member < MOST_MEMBERS → ¬ IsGiven geometry.now sectors.now (row_at rows.now i) member
+    ensures others { (i member : ℕ) → i < length rows.now → member < MOST_MEMBERS
+        → ¬ IsGiven geometry.now sectors.now (row_at rows.now i) member
         → sector_at entry.new i member ≡ sector_at entry.old i member }
 {
     for sector in sectors {
@@ -139,8 +144,8 @@ fn put_given(geometry: &Geometry, rows: &[u32], sectors: &[(u64, Sector)], entry
     }
 }
 
-// The XOR of the i-th row with what the entry holds of it, and the members' sectors elsewhere. Only the old sectors of the
-// members that the entry holds are read: the row with those is sound, and each is taken out and the new one put in.
+// The XOR of the i-th row with what the entry holds of it, and the members' sectors elsewhere. Only the old sectors of
+// the members that the entry holds are read: the row with those is sound, and each is taken out and the new one put in.
 fn read_modify_write<B: Bank>(
     bank: &mut B,
     table: &mut Table,
@@ -214,12 +219,15 @@ fn reads_of(live: &Live, member: u8, row: u32) -> u32
     }
 }
 
-// Whether the old values of the sectors that the entry holds of the i-th row take no more reads than those of the others.
+// Whether the old values of the sectors that the entry holds of the i-th row take no more reads than those of the
+// others.
 fn prefers_read_modify_write(table: &Table, entry: &Entry, i: usize, row: u32) -> bool
     requires row { row < rows_of table.now.geometry.chunk table.now.geometry.stripes }
     requires place { i < length (numbers_of entry.now) }
-    ensures { IsTrue result ↔ (reads_below table.now row (λ member. has_bit (row_mask entry.now i) member) table.now.geometry.members
-        ≤ reads_below table.now row (λ member. not (has_bit (row_mask entry.now i) member)) table.now.geometry.members) }
+    ensures { IsTrue result ↔ (reads_below table.now row (λ member. has_bit (row_mask entry.now i) member)
+        table.now.geometry.members
+        ≤ reads_below table.now row (λ member. not (has_bit (row_mask entry.now i) member))
+        table.now.geometry.members) }
 {
     let live = live_of(table);
     let view = entry.view(i);
@@ -236,7 +244,8 @@ fn prefers_read_modify_write(table: &Table, entry: &Entry, i: usize, row: u32) -
     held <= others
 }
 
-// The XOR of the i-th row with what the entry holds of it, and the members' sectors elsewhere, in the way with fewer reads.
+// The XOR of the i-th row with what the entry holds of it, and the members' sectors elsewhere, in the way with fewer
+// reads.
 fn sum_row<B: Bank>(
     bank: &mut B,
     table: &mut Table,
@@ -309,8 +318,10 @@ fn form_parities<B: Bank>(
     ensures form { form_of entry.new ≡ form_of entry.old }
     ensures sound { (number i : ℕ) (from : KeepsFrom) → B.honest bank.old
         → Between (B.panel bank.old).devices number from table.old (B.history bank.old)
-        → i < length rows.now → OnOk result (HasSoundRow table.old.geometry from.logical entry.new i (row_at rows.now i)) }
-    ensures others { (i member : ℕ) → member < MOST_MEMBERS → ¬ HasParityOn table.old.geometry (row_at rows.now i) member
+        → i < length rows.now → OnOk result
+        (HasSoundRow table.old.geometry from.logical entry.new i (row_at rows.now i)) }
+    ensures others { (i member : ℕ) → member < MOST_MEMBERS
+        → ¬ HasParityOn table.old.geometry (row_at rows.now i) member
         → sector_at entry.new i member ≡ sector_at entry.old i member }
 {
     for (i, row) in rows.iter().enumerate() {
@@ -319,11 +330,11 @@ fn form_parities<B: Bank>(
     Ok(())
 }
 
-/// Forms the rows of these logical sectors, 1 to 32 distinct ones (conditions), as the rows of the entry. Of each row it holds
-/// the given data and the parity, and no other sector. What the parity takes is read in one of two ways, each member's part
-/// once: what the members had of the sectors that the entry holds, or of the others, whichever takes fewer reads. One sector
-/// is read for a member whose own sector counts by the table, and for another one those of all others. A member whose device
-/// goes down meanwhile is marked missing, and its part is read without it.
+/// Forms the rows of these logical sectors, 1 to 32 distinct ones (conditions), as the rows of the entry. Of each row
+/// it holds the given data and the parity, and no other sector. What the parity takes is read in one of two ways, each
+/// member's part once: what the members had of the sectors that the entry holds, or of the others, whichever takes
+/// fewer reads. One sector is read for a member whose own sector counts by the table, and for another one those of all
+/// others. A member whose device goes down meanwhile is marked missing, and its part is read without it.
 ///
 /// The set's slots are slots of the bank, and each that the table does not call missing is long enough where it is up
 /// (condition). Refused as `read_value` is, and the entry then means nothing.

@@ -1,4 +1,5 @@
-//! What stays true of a set between two runs. Each law stands on a function without a body: its promise is what it is for.
+//! What stays true of a set between two runs. Each law stands on a function without a body: its promise is what it is
+//! for.
 
 mod between_runs;
 mod device_rules;

@@ -9,11 +9,12 @@ ghost use Rattle.array_io.specs.Believed.Settled.{trusts};
 use degraded::Live;
 use superblock::{State, Table};
 
-/// Which members are live by a table, and which is rebuilding below which row. A member's own sector counts in the rows in
-/// which the table trusts it, and at most one member is out.
+/// Which members are live by a table, and which is rebuilding below which row. A member's own sector counts in the rows
+/// in which the table trusts it, and at most one member is out.
 pub(crate) fn live_of(table: &Table) -> Live
     ensures members { result.members ≡ table.now.geometry.members }
-    ensures there { (member : ℕ) → member < table.now.geometry.members → (slots_of result).live member ≡ is_there (state_at table.now.states member) }
+    ensures there { (member : ℕ) → member < table.now.geometry.members
+        → (slots_of result).live member ≡ is_there (state_at table.now.states member) }
     ensures reads { (row member : ℕ) → member < table.now.geometry.members
         → is_read (slots_of result) row member ≡ trusts (state_at table.now.states member) row table.now.position }
     ensures one_out { AtMostOneOut (slots_of result) }
@@ -25,8 +26,8 @@ pub(crate) fn live_of(table: &Table) -> Live
     }
 }
 
-/// Whether a member's own sector counts in a row, by the table: all of a member in sync, of one that is rebuilding those below the
-/// position. The member is one of the set (condition).
+/// Whether a member's own sector counts in a row, by the table: all of a member in sync, of one that is rebuilding
+/// those below the position. The member is one of the set (condition).
 pub(crate) fn counts_on(table: &Table, member: u8, row: u64) -> bool
     requires { member < table.now.geometry.members }
     ensures { result ≡ trusts (state_at table.now.states member) row table.now.position }

@@ -12,8 +12,8 @@ use sector_model::{Bank, Stop, read_sector};
 use stripe_journal::{Entry, Seal};
 
 /// Reads the entry of a seal from this journal, a slot of the bank with 520 sectors at least where its device is up
-/// (conditions): its rows, and of each the sectors that the seal says are held. `Stop::Down` names the journal's device,
-/// `Stop::Worn` says that the count of device calls stands at 2^62.
+/// (conditions): its rows, and of each the sectors that the seal says are held. `Stop::Down` names the journal's
+/// device, `Stop::Worn` says that the count of device calls stands at 2^62.
 pub fn load_entry<B: Bank>(
     bank: &mut B,
     journal: u8,
@@ -28,14 +28,19 @@ pub fn load_entry<B: Bank>(
     ensures read { B.honest bank.old → HasRead (B.history bank.old) (B.history bank.new) }
     ensures numbers { OnOk result (numbers_of entry.new ≡ seal.now.rows.items) }
     ensures held { (i member : ℕ) → i < length seal.now.rows.items → member < geometry.now.members
-        → OnOk result (holds geometry.now.members (form_of entry.new) i member ≡ holds geometry.now.members seal.now.form i member) }
+        → OnOk result (holds geometry.now.members (form_of entry.new) i member ≡ holds geometry.now.members
+        seal.now.form i member) }
     ensures loaded { (i member : ℕ) → B.honest bank.old → i < length seal.now.rows.items → member < geometry.now.members
         → holds geometry.now.members seal.now.form i member ≡ true
         → OnOk result (sector_at entry.new i member
-        ≡ sector_of (seen (B.history bank.old) journal) (body_start seal.now.number + rank geometry.now.members seal.now.form i member)) }
-    ensures others_stay { (other : ℕ) → B.honest bank.old → other ≢ journal → is_down (B.history bank.new) other ≡ is_down (B.history bank.old) other }
-    ensures none_failed { (device : ℕ) → B.honest bank.old → OnOk result (is_down (B.history bank.new) device ≡ is_down (B.history bank.old) device) }
-    ensures err { IfErr result (λ stop. IsCauseOf (B.panel bank.new) stop × ((stop ≡ Stop.Worn) ⊎ (stop ≡ Stop.Down journal))) }
+        ≡ sector_of (seen (B.history bank.old) journal)
+        (body_start seal.now.number + rank geometry.now.members seal.now.form i member)) }
+    ensures others_stay { (other : ℕ) → B.honest bank.old → other ≢ journal
+        → is_down (B.history bank.new) other ≡ is_down (B.history bank.old) other }
+    ensures none_failed { (device : ℕ) → B.honest bank.old
+        → OnOk result (is_down (B.history bank.new) device ≡ is_down (B.history bank.old) device) }
+    ensures err { IfErr result (λ stop. IsCauseOf (B.panel bank.new) stop
+        × ((stop ≡ Stop.Worn) ⊎ (stop ≡ Stop.Down journal))) }
 {
     let members = geometry.members;
     let mut at = FIRST_BODY + BODY_SECTORS * (seal.number % HALVES as u64) as u32;
@@ -47,8 +52,8 @@ pub fn load_entry<B: Bank>(
     Ok(())
 }
 
-// Reads the sectors that the i-th row of a seal holds, of so many members, from the journal into that row of the entry, whose
-// mask says the same. They stand from a sector on, up to sector 519 at most; it answers the sector after them.
+// Reads the sectors that the i-th row of a seal holds, of so many members, from the journal into that row of the entry,
+// whose mask says the same. They stand from a sector on, up to sector 519 at most; it answers the sector after them.
 fn load_row<B: Bank>(
     bank: &mut B,
     journal: u8,
@@ -61,7 +66,8 @@ fn load_row<B: Bank>(
     requires slot { journal < (B.panel bank.old).devices }
     requires members { members ≤ MOST_MEMBERS }
     requires row { i < length (numbers_of entry.old) }
-    requires masked { (member : ℕ) → member < MOST_MEMBERS → has_bit (row_mask entry.old i) member ≡ holds members seal.now.form i member }
+    requires masked { (member : ℕ) → member < MOST_MEMBERS
+        → has_bit (row_mask entry.old i) member ≡ holds members seal.now.form i member }
     requires end { first + count_held (holds members seal.now.form i) members ≤ JOURNAL_SECTORS }
     requires within { (B.panel bank.old).down journal ≡ false → JOURNAL_SECTORS ≤ (B.panel bank.old).sectors journal }
     ensures panel { IsLater (B.panel bank.old) (B.panel bank.new) }
@@ -71,11 +77,16 @@ fn load_row<B: Bank>(
     ensures numbers { numbers_of entry.new ≡ numbers_of entry.old }
     ensures form { form_of entry.new ≡ form_of entry.old }
     ensures loaded { (member : ℕ) → B.honest bank.old → member < members → holds members seal.now.form i member ≡ true
-        → OnOk result (sector_at entry.new i member ≡ sector_of (seen (B.history bank.old) journal) (first + count_held (holds members seal.now.form i) member)) }
-    ensures others { (other member : ℕ) → other ≢ i → member < MOST_MEMBERS → sector_at entry.new other member ≡ sector_at entry.old other member }
-    ensures others_stay { (other : ℕ) → B.honest bank.old → other ≢ journal → is_down (B.history bank.new) other ≡ is_down (B.history bank.old) other }
-    ensures none_failed { (device : ℕ) → B.honest bank.old → OnOk result (is_down (B.history bank.new) device ≡ is_down (B.history bank.old) device) }
-    ensures err { IfErr result (λ stop. IsCauseOf (B.panel bank.new) stop × ((stop ≡ Stop.Worn) ⊎ (stop ≡ Stop.Down journal))) }
+        → OnOk result (sector_at entry.new i member ≡ sector_of (seen (B.history bank.old) journal)
+        (first + count_held (holds members seal.now.form i) member)) }
+    ensures others { (other member : ℕ) → other ≢ i → member < MOST_MEMBERS
+        → sector_at entry.new other member ≡ sector_at entry.old other member }
+    ensures others_stay { (other : ℕ) → B.honest bank.old → other ≢ journal
+        → is_down (B.history bank.new) other ≡ is_down (B.history bank.old) other }
+    ensures none_failed { (device : ℕ) → B.honest bank.old
+        → OnOk result (is_down (B.history bank.new) device ≡ is_down (B.history bank.old) device) }
+    ensures err { IfErr result (λ stop. IsCauseOf (B.panel bank.new) stop
+        × ((stop ≡ Stop.Worn) ⊎ (stop ≡ Stop.Down journal))) }
 {
     let mut at = first;
     for member in 0..members {

@@ -1,5 +1,5 @@
-//! What an image says of a set's rows: the definitions, run over an image in memory, plain and slow. Tests compare with it,
-//! and nothing else uses it.
+//! What an image says of a set's rows: the definitions, run over an image in memory, plain and slow. Tests compare with
+//! it, and nothing else uses it.
 
 mod image_rows;
 mod last_entry;

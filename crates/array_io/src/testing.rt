@@ -1,5 +1,5 @@
-//! What this crate's tests share: sectors, images, banks and entries of a set of chunk 8 and 32 stripes, made by hand, and
-//! what they compare values with. Its rows 0 to 255 are the sectors 8 to 263 of each member.
+//! What this crate's tests share: sectors, images, banks and entries of a set of chunk 8 and 32 stripes, made by hand,
+//! and what they compare values with. Its rows 0 to 255 are the sectors 8 to 263 of each member.
 ghost use Rattle.std.specs.Prelude.{◌≡◌, ◌≤◌, ◌<◌, false};
 ghost use Rattle.array_io.specs.Believed.Views.{HasItsSlots};
 ghost use Rattle.superblock.specs.Counted.{least_sectors};
@@ -30,8 +30,9 @@ pub(crate) fn all(value: u8) -> Sector {
     [value; 512]
 }
 
-/// What a table says of a set's slots: how many of them are members, and that each is in sync with its first device, but
-/// for one with this state and incarnation. In a state's byte 0 is missing, 1 in sync and 2 rebuilding, to this position.
+/// What a table says of a set's slots: how many of them are members, and that each is in sync with its first device,
+/// but for one with this state and incarnation. In a state's byte 0 is missing, 1 in sync and 2 rebuilding, to this
+/// position.
 #[derive(Clone, Copy)]
 pub(crate) struct Slots {
     pub members: u8,
@@ -241,7 +242,8 @@ pub(crate) fn check_sector(rt: &impl Abort, bank: &mut MemBank, slot: u8, at: u3
 // A device that is up is long enough for its slot.
 fn check_device<B: Bank>(rt: &impl Abort, table: &Table, bank: &B, slot: u8)
     requires { slot < (B.panel bank.now).devices }
-    ensures { (B.panel bank.now).down slot ≡ false → least_sectors table.now.geometry slot ≤ (B.panel bank.now).sectors slot }
+    ensures { (B.panel bank.now).down slot ≡ false
+        → least_sectors table.now.geometry slot ≤ (B.panel bank.now).sectors slot }
 {
     let least = if slot < table.geometry.members {
         8 + table.geometry.rows()

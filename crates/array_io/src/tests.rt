@@ -47,8 +47,8 @@ fn stop_between_seals(rt: HostRuntime) {
     run(&rt, BETWEEN_SEALS);
 }
 
-// The parity of row 32 is that of entry 4, and the data is not; row 33 stands beside it. Then the member with the parity is
-// lost, or the one with the data.
+// The parity of row 32 is that of entry 4, and the data is not; row 33 stands beside it. Then the member with the
+// parity is lost, or the one with the data.
 const WITHOUT_PARITY: &[Step] = &[
     Step::Put(Put::Row(32, [0, 0x22, 0x11, 0])),
     Step::Put(Put::Row(33, [0, 0x77, 0x77, 0])),
@@ -83,8 +83,8 @@ fn stop_after_first_member_write(rt: HostRuntime) {
     run(&rt, WITHOUT_DATA);
 }
 
-// Entry 4 holds of row 32 the parity, on member 1, and member 2's sector, and no third one. Then member 0 is lost, whose own
-// sector counts there, or member 2, whose value the entry has.
+// Entry 4 holds of row 32 the parity, on member 1, and member 2's sector, and no third one. Then member 0 is lost,
+// whose own sector counts there, or member 2, whose value the entry has.
 const HELD_WITHOUT_0: &[Step] = &[
     Step::Put(Put::Row(32, [0x05, 0x14, 0x11, 0])),
     Step::Put(Put::Body(3, 4, [0x27, 0x22, 0xee, 0])),
@@ -178,7 +178,8 @@ fn a_member_rebuilding_at_64(rt: HostRuntime) {
     run(&rt, TO_64);
 }
 
-// Entry 4 holds of row 40 the parity, on member 0, and member 1's sector: the rebuilding member's own sector counts there.
+// Entry 4 holds of row 40 the parity, on member 0, and member 1's sector: the rebuilding member's own sector counts
+// there.
 const HELD_BELOW_64: &[Step] = &[
     Step::Put(Put::Table(3, REBUILDING)),
     Step::Put(Put::Row(40, [0x11, 0x44, 0x55, 0])),

@@ -6,7 +6,8 @@ use Rattle.clap.specs.Matches.{found_of, subcommand_name_of}
 use Rattle.clap.specs.Simple.{subcommand_rows_of}
 use Rattle.clap.specs.Walk.{Row, Text, rows_of}
 use Rattle.clap.specs.declared.parser.matches.ArgMatches.{ArgMatches}
-use Rattle.command_line.specs.FoundRows.{HasEntered, HasNumberTo, HasValues, IsComplete, of_examine, of_fail, of_make, of_rebuild, of_replace, of_run, of_scrub, of_status, of_upgrade}
+use Rattle.command_line.specs.FoundRows.{HasEntered, HasNumberTo, HasValues, IsComplete, of_examine, of_fail, of_make, of_rebuild, of_replace, of_run, of_scrub}
+use Rattle.command_line.specs.FoundRows.{of_status, of_upgrade}
 use Rattle.command_line.proofs.Asked.{two_names}
 
 abbrev Entered : Type 0

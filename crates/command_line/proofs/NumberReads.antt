@@ -1,5 +1,6 @@
 -- What `get_one` reads of a text that passed a range of numbers.
-use Rattle.std.proofs.Common.{◌≡◌, ◌∙◌, ◌==◌, ◌<◌, ◌≤◌, ◌^◌, inl, inr, ap, ℕ, Bool, true, false, [], ◌∷◌, Option, Some, None, cond, drop, refl, sym, subst, arith}
+use Rattle.std.proofs.Common.{◌≡◌, ◌∙◌, ◌==◌, ◌<◌, ◌≤◌, ◌^◌, inl, inr, ap, ℕ, Bool, true, false, [], ◌∷◌, Option, Some, None, cond, drop, refl, sym, subst}
+use Rattle.std.proofs.Common.{arith}
 use Rattle.std.specs.Prelude.{IsSome, pos, unwrap_or, Ok, Err, Result}
 use Rattle.std.specs.Str.Parse.{ExplainsUnsignedError, HasUnsignedDigitsIfOk, IsNumeral, ParsesUnsigned, digits_value, starts_with_minus, without_leading_plus}
 use Rattle.std.specs.declared.num.ParseIntError.{ParseIntError}

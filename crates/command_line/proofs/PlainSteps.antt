@@ -7,7 +7,8 @@ use Rattle.hex.specs.Hex.{is_hex_digit}
 use Rattle.clap.specs.Faults.{turn_fault, use_fault}
 use Rattle.clap.specs.Lexer.{long_of, short_of}
 use Rattle.clap.specs.Simple.{Shape}
-use Rattle.clap.specs.Walk.{Row, Rule, Text, Walk, arg_by_id, arg_by_index, arg_by_long, idle, most_values, nothing_held, option, pending_count, takes_values, used, walk_from, walked}
+use Rattle.clap.specs.Walk.{Row, Rule, Text, Walk, arg_by_id, arg_by_index, arg_by_long, idle, most_values, nothing_held, option, pending_count, takes_values}
+use Rattle.clap.specs.Walk.{used, walk_from, walked}
 use Rattle.command_line.specs.Invocations.{IsIdText}
 use Rattle.command_line.specs.Requests.{IsPlainWord}
 use Rattle.command_line.proofs.TakenWords.{built_folder}

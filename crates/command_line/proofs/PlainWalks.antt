@@ -5,10 +5,12 @@ use Rattle.std.specs.Str.{bytes_eq}
 use Rattle.clap.specs.Faults.{check_fault, defaults_fault, level_fault, settle_fault, turn_fault, use_fault, walk_fault}
 use Rattle.clap.specs.Lexer.{long_of}
 use Rattle.clap.specs.Simple.{Shape, built, entered, label_of, names_of, rows_at}
-use Rattle.clap.specs.Walk.{Row, Rule, Text, Walk, answers_to, arg_by_id, arg_by_index, arg_by_long, finished, most_values, nothing_held, pending_count, settled, takes_values, used, walk, walk_from, walked}
+use Rattle.clap.specs.Walk.{Row, Rule, Text, Walk, answers_to, arg_by_id, arg_by_index, arg_by_long, finished, most_values, nothing_held, pending_count}
+use Rattle.clap.specs.Walk.{settled, takes_values, used, walk, walk_from, walked}
 use Rattle.command_line.specs.Commands.{raidtool_app}
 use Rattle.command_line.specs.Invocations.{Enters}
-use Rattle.command_line.proofs.PlainSteps.{IsName, IsValue, flag_step, flag_turn, more_step, more_turn, flagged, folder_step, folder_turn, given, named_step, named_turn, value_step, value_turn}
+use Rattle.command_line.proofs.PlainSteps.{IsName, IsValue, flag_step, flag_turn, more_step, more_turn, flagged, folder_step, folder_turn, given, named_step}
+use Rattle.command_line.proofs.PlainSteps.{named_turn, value_step, value_turn}
 use Rattle.command_line.proofs.TakenWords.{built_folder, built_id}
 
 -- from one place in the walk these words lead to another, and none of them is a fault

@@ -1,5 +1,6 @@
 -- What the rows of a subcommand have, of words that clap takes.
-use Rattle.std.proofs.Common.{◌≡◌, ◌∙◌, ◌<◌, ◌++◌, Bool, true, false, ◌||◌, cond, List, [], ◌∷◌, length, Option, Some, None, arith, refl, sym, subst, true≢false, ap}
+use Rattle.std.proofs.Common.{◌≡◌, ◌∙◌, ◌<◌, ◌++◌, Bool, true, false, ◌||◌, cond, List, [], ◌∷◌, length, Option, Some, None, arith, refl, sym, subst}
+use Rattle.std.proofs.Common.{true≢false, ap}
 use Rattle.std.specs.Prelude.{IsSome, ℕ, find, option_and_then, option_map, slice_get}
 use Rattle.std.specs.Option.{option_map_or}
 use Rattle.std.specs.Str.{bytes_eq}
@@ -9,7 +10,8 @@ use Rattle.clap.specs.Faults.{check_fault, defaults_fault, level_fault, settle_f
 use Rattle.clap.specs.Simple.{Shape, filled, with_index}
 use Rattle.clap.specs.Takes.{is_given, value_passes}
 use Rattle.clap.specs.Values.{read_as, refused_kind}
-use Rattle.clap.specs.Walk.{Row, Rule, Text, arg_by_id, at_row, default_rows, first_of, has_row, more_values, nothing_held, one_of, reading_by, row_text, rows_after, settled, walk, walk_from, with_default}
+use Rattle.clap.specs.Walk.{Row, Rule, Text, arg_by_id, at_row, default_rows, first_of, has_row, more_values, nothing_held, one_of, reading_by, row_text}
+use Rattle.clap.specs.Walk.{rows_after, settled, walk, walk_from, with_default}
 use Rattle.clap.specs.declared.parser.matches.ValueSource.TheVariants.{DefaultValue}
 use Rattle.clap.proofs.ValueTestLemmas.{accepts-Accepts}
 use Rattle.command_line.specs.Commands.{number_rule, up_to}

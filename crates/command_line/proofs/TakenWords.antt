@@ -6,15 +6,19 @@ use Rattle.std.specs.Str.{bytes_eq}
 use Rattle.std.proofs.lemmas.Slice.Eq.{bytes_eq-Decides}
 use Rattle.clap.specs.Kinds.{check_kinds}
 use Rattle.clap.specs.Faults.{defaults_fault, entered_fault, level_fault, settle_fault, walk_fault}
-use Rattle.clap.specs.Simple.{App, Shape, built, built_leaf, entered, filled, help_rule, inherited, marked_built, names_of, rows_at, subcommand_of, with_index, with_leaf_noted}
+use Rattle.clap.specs.Simple.{App, Shape, built, built_leaf, entered, filled, help_rule, inherited, marked_built, names_of, rows_at, subcommand_of, with_index}
+use Rattle.clap.specs.Simple.{with_leaf_noted}
 use Rattle.clap.specs.Takes.{is_given}
 use Rattle.clap.specs.Values.{bool_text}
 use Rattle.clap.specs.Walk.{Row, Rule, Text, answers_to, has_row, nothing_held, rows_after, settled, walk, walk_from, with_default}
 use Rattle.clap.proofs.ValueTestLemmas.{accepts-Accepts}
-use Rattle.command_line.specs.Commands.{check_rule, chunk_rule, examine_app, folder_rule, from_one, id_rule, json_rule, make_app, members_rule, raidtool_app, rebuild_app, set_app, slot_app, slot_rule, some_id_rule, status_app, steps_rule, stripes_rule}
-use Rattle.command_line.specs.FoundRows.{HasCountOrNone, HasEntered, HasFlagValue, HasFlags, HasFolder, HasNumberTo, HasSet, of_examine, of_fail, of_make, of_rebuild, of_replace, of_run, of_scrub, of_status, of_upgrade}
+use Rattle.command_line.specs.Commands.{check_rule, chunk_rule, examine_app, folder_rule, from_one, id_rule, json_rule, make_app, members_rule, raidtool_app}
+use Rattle.command_line.specs.Commands.{rebuild_app, set_app, slot_app, slot_rule, some_id_rule, status_app, steps_rule, stripes_rule}
+use Rattle.command_line.specs.FoundRows.{HasCountOrNone, HasEntered, HasFlagValue, HasFlags, HasFolder, HasNumberTo, HasSet, of_examine, of_fail, of_make}
+use Rattle.command_line.specs.FoundRows.{of_rebuild, of_replace, of_run, of_scrub, of_status, of_upgrade}
 use Rattle.command_line.specs.Invocations.{IsTaken}
-use Rattle.command_line.proofs.TakenRows.{Ends, GivenBy, default_row, found_value, given_some, given_value, kept_row, level_ends, no_default, no_row, number_given}
+use Rattle.command_line.proofs.TakenRows.{Ends, GivenBy, default_row, found_value, given_some, given_value, kept_row, level_ends, no_default, no_row}
+use Rattle.command_line.proofs.TakenRows.{number_given}
 use Rattle.command_line.proofs.WalkFills.{Filled, Fills, HaveGoodDefaults, first_none, flag_fills, one_value_fills, second_none}
 
 -- ---- the subcommands, as the program builds them

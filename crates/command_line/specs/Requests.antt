@@ -1,5 +1,6 @@
 -- What may be asked of the program in plain words: each option after FOLDER, in one order, and the numbers in decimal digits.
-use Rattle.std.specs.Prelude.{◌≡◌, ◌≢◌, ◌≤◌, ◌<◌, ◌^◌, true, false, ℕ, Bool, List, [], ◌∷◌, ◌++◌, Option, Some, None, Result, Ok, Err, IfSome, codes, decimal, slice_get}
+use Rattle.std.specs.Prelude.{◌≡◌, ◌≢◌, ◌≤◌, ◌<◌, ◌^◌, true, false, ℕ, Bool, List, [], ◌∷◌, ◌++◌, Option, Some, None, Result, Ok, Err, IfSome, codes, decimal}
+use Rattle.std.specs.Prelude.{slice_get}
 use Rattle.hex.specs.Hex.{decode_of}
 use Rattle.clap.specs.Words.{Text}
 use Rattle.clap.specs.Values.{kind_of}

@@ -4,7 +4,11 @@ ghost use Rattle.clap.specs.Simple.{App};
 ghost use Rattle.clap.specs.Values.{kind_of};
 ghost use Rattle.clap.specs.Words.{app_of, rule_of, with_subcommand};
 ghost use Rattle.clap.specs.declared.builder.command.Command.TheViews.{out-Command};
-ghost use Rattle.command_line.specs.Commands.{HasApp, bare_app, check_rule, chunk_rule, examine_app, fail_app, folder_rule, id_rule, json_rule, make_app, members_rule, number_rule, raidtool_app, rebuild_app, replace_app, run_app, scrub_app, set_app, slot_rule, some_id_rule, status_app, steps_rule, stripes_rule, upgrade_app};
+ghost use Rattle.command_line.specs.Commands.{HasApp, bare_app, check_rule, chunk_rule, examine_app, fail_app};
+ghost use Rattle.command_line.specs.Commands.{folder_rule, id_rule, json_rule, make_app, members_rule, number_rule};
+ghost use Rattle.command_line.specs.Commands.{raidtool_app, rebuild_app, replace_app, run_app, scrub_app, set_app};
+ghost use Rattle.command_line.specs.Commands.{slot_rule, some_id_rule, status_app, steps_rule, stripes_rule};
+ghost use Rattle.command_line.specs.Commands.{upgrade_app};
 
 use clap::builder::ValueParser;
 use clap::error::ErrorKind;

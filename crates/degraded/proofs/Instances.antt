@@ -15,7 +15,8 @@ never : (result : Result (Unit {0}) Stop) (stop : Stop) → result ≡ Ok tt →
 never result stop answered is = cc
 
 -- reads that were all answered, in which no device went down, after which the value is given
-pub member_is_read : (honest : Type 0) (slots : LiveSlots) (member row : ℕ) (old_panel new_panel : Panel) (old new : History) → IsLater old_panel new_panel → HasRead old new
+pub member_is_read : (honest : Type 0) (slots : LiveSlots) (member row : ℕ) (old_panel new_panel : Panel) (old new : History) → IsLater old_panel new_panel
+    → HasRead old new
     → ((device : ℕ) → is_down new device ≡ is_down old device)
     → ReadsMember honest slots member row old_panel new_panel old new (value (rows_of slots (readable old)) row member) (Ok tt)
 member_is_read honest slots member row old_panel new_panel old new later reads none_failed = record {

@@ -21,14 +21,16 @@ sound_value rows row member within sound long is_known =
     value-known rows row other (is_known other (omega (arith, below)) apart)))
 
 -- what is known of another member than the one that is gone
-direct-other : (member row other : ℕ) (whole without : Rows) → DoesWithout member whole without → other < whole.members → other ≢ member → direct without row other ≡ direct whole row other
+direct-other : (member row other : ℕ) (whole without : Rows) → DoesWithout member whole without → other < whole.members → other ≢ member
+    → direct without row other ≡ direct whole row other
 direct-other member row other whole without does within apart =
     ap (λ (entry : Option Bytes). direct_of entry (without.trusted row other) (without.own row other)) (does.entries row other)
     ∙ ap (λ (trusted : Bool). direct_of (whole.entry row other) trusted (without.own row other)) (does.trusts row other within apart)
     ∙ ap (λ (own : Bytes). direct_of (whole.entry row other) (whole.trusted row other) own) (does.owns row other within apart)
 
 -- what is known of the member that is gone: an entry's sector, if there is one
-direct-gone : (member row : ℕ) (whole without : Rows) → DoesWithout member whole without → direct without row member ≡ direct_of (whole.entry row member) false (without.own row member)
+direct-gone : (member row : ℕ) (whole without : Rows) → DoesWithout member whole without
+    → direct without row member ≡ direct_of (whole.entry row member) false (without.own row member)
 direct-gone member row whole without does =
     ap (λ (entry : Option Bytes). direct_of entry (without.trusted row member) (without.own row member)) (does.entries row member)
     ∙ ap (λ (trusted : Bool). direct_of (whole.entry row member) trusted (without.own row member)) (does.out row)
@@ -53,12 +55,14 @@ one_member_may_go member row_count whole without inside does sound full is_known
     same_others : from_others without row member ≡ from_others whole row member
     same_others =
         ap (λ (n : ℕ). xor_of_all (map (λ (m : ℕ). known without row m) (others n member))) does.width
-        ∙ ap xor_of_all (map-others (λ (m : ℕ). known without row m) (λ (m : ℕ). known whole row m) member 0 whole.members (λ m m_below apart. same_known m (omega (arith, m_below)) apart))
+        ∙ ap xor_of_all (map-others (λ (m : ℕ). known without row m) (λ (m : ℕ). known whole row m) member 0 whole.members
+        (λ m m_below apart. same_known m (omega (arith, m_below)) apart))
 
     own_is : direct whole row member ≡ Some (whole.own row member) → whole.trusted row member ≡ true → whole.own row member ≡ from_others whole row member
     own_is is trusted =
         let its_own : value whole row member ≡ whole.own row member = value-direct whole row member (whole.own row member) is in
-        sym its_own ∙ sound_value whole row member inside (sound row below) (ap length its_own ∙ full row below trusted) (λ m m_within apart. is_known row m below m_within apart)
+        sym its_own ∙ sound_value whole row member inside (sound row below) (ap length its_own ∙ full row below trusted)
+        (λ m m_within apart. is_known row m below m_within apart)
 
     here : value without row member ≡ value whole row member
     here =
@@ -71,7 +75,8 @@ one_member_may_go member row_count whole without inside does sound full is_known
     elsewhere : other ≢ member → value without row other ≡ value whole row other
     elsewhere apart =
         let is = is_known row other below within apart in
-        let still : IsSome (direct without row other) = subst (λ (option : Option Bytes). IsSome option) (sym (direct-other member row other whole without does within apart)) is in
+        let still : IsSome (direct without row other) =
+        subst (λ (option : Option Bytes). IsSome option) (sym (direct-other member row other whole without does within apart)) is in
         value-known without row other still ∙ same_known other within apart ∙ sym (value-known whole row other is)
 
 -- Two ways to a row that differ in one member's own sector alone, and in whether it counts.
@@ -102,9 +107,11 @@ own_sector_may_come member row after before differ is_known counts its_own other
   | inr apart ↦ elsewhere apart
 ]
   where
-    here : member < before.members → (after.entry row member ≡ None) ⊎ ((sector : Bytes) × (after.entry row member ≡ Some sector)) → value after row member ≡ value before row member
+    here : member < before.members → (after.entry row member ≡ None) ⊎ ((sector : Bytes) × (after.entry row member ≡ Some sector))
+        → value after row member ≡ value before row member
     here inside (inl none) = value-own after row member none (counts none) ∙ its_own none
-    here inside (inr (sector, is)) = value-entry after row member sector is ∙ sym (value-entry before row member sector (sym (differ.entries member inside) ∙ is))
+    here inside (inr (sector, is)) = value-entry after row member sector is
+        ∙ sym (value-entry before row member sector (sym (differ.entries member inside) ∙ is))
 
     elsewhere : other ≢ member → value after row other ≡ value before row other
     elsewhere apart =

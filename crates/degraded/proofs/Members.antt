@@ -62,7 +62,8 @@ pub row_within : {slots : LiveSlots} {row : ℕ} {panel : Panel} (member : ℕ) 
 row_within {slots = slots} {row = row} member can in_set is up = can.within member in_set (read_live slots row member is) up
 
 -- what a member's own sector is where its device is up
-own_sector : (slots : LiveSlots) (row member : ℕ) (h : History) → is_down h member ≡ false → (rows_of slots (readable h)).own row member ≡ sector_of (seen h member) (FIRST_ROW + row)
+own_sector : (slots : LiveSlots) (row member : ℕ) (h : History) → is_down h member ≡ false
+    → (rows_of slots (readable h)).own row member ≡ sector_of (seen h member) (FIRST_ROW + row)
 own_sector slots row member h up = ap (λ (slot : Option (List Bytes)). sector_of (disk_of slot) (FIRST_ROW + row)) (readable_up h member up)
 
 -- a member's own sector that counts is its value, as a read gives it
@@ -97,20 +98,24 @@ one_failed old new panel dev (Err (Down d)) is (down, inr same) = λ device othe
 
 -- what a read of a device says, where the device was up before it
 pub read_up : {old new : Panel} (dev at : ℕ) (h : History) (to : Bytes) (result : Result (Unit {0}) Stop) → IsLater old new → IsTrueTo old h
-    → OnOk result (new.down dev ≡ false) → OnOk result (to ≡ sector_of (seen h dev) at) → OnOk result ((is_down h dev ≡ false) × (to ≡ sector_of (seen h dev) at))
+    → OnOk result (new.down dev ≡ false) → OnOk result (to ≡ sector_of (seen h dev) at)
+    → OnOk result ((is_down h dev ≡ false) × (to ≡ sector_of (seen h dev) at))
 read_up dev at h to (Ok done) later its_run up is = (sym (its_run.down dev) ∙ up_before dev later up, is)
 read_up dev at h to (Err stop) later its_run up is = tt
 
 -- a member's own sector, as its value
 pub own_given : (slots : LiveSlots) (row member : ℕ) (h : History) (to : Bytes) (result : Result (Unit {0}) Stop) → is_read slots row member ≡ true
-    → OnOk result ((is_down h member ≡ false) × (to ≡ sector_of (seen h member) (FIRST_ROW + row))) → OnOk result (to ≡ value (rows_of slots (readable h)) row member)
+    → OnOk result ((is_down h member ≡ false) × (to ≡ sector_of (seen h member) (FIRST_ROW + row)))
+    → OnOk result (to ≡ value (rows_of slots (readable h)) row member)
 own_given slots row member h to (Ok done) is (up, same) = same ∙ own_value slots row member h is up
 own_given slots row member h to (Err stop) is given = tt
 
 -- the promise of reading a member's row, from its parts
-pub reads_member : (honest : Type 0) (slots : LiveSlots) (member row : ℕ) (old_panel new_panel : Panel) (old new : History) (to : Bytes) (result : Result (Unit {0}) Stop)
+pub reads_member : (honest : Type 0) (slots : LiveSlots) (member row : ℕ) (old_panel new_panel : Panel) (old new : History) (to : Bytes)
+    (result : Result (Unit {0}) Stop)
     → IsLater old_panel new_panel → (honest → HasRead old new) → (honest → OnOk result (to ≡ value (rows_of slots (readable old)) row member))
-    → (honest → OnlyNamedFailed result old new) → IfErr result (IsStopOf slots row new_panel) → ReadsMember honest slots member row old_panel new_panel old new to result
+    → (honest → OnlyNamedFailed result old new) → IfErr result (IsStopOf slots row new_panel)
+    → ReadsMember honest slots member row old_panel new_panel old new to result
 reads_member honest slots member row old_panel new_panel old new to result later reads gives stays err = record {
   later = later;
   reads = reads;
@@ -132,7 +137,8 @@ reads_member honest slots member row old_panel new_panel old new to result later
     at_err (Ok done) holds stop is = absurd (cc)
     at_err (Err was) holds stop is = let same : was ≡ stop = cc in subst (IsCauseOf new_panel) same (cause_of was holds)
 
-    at_down : (result : Result (Unit {0}) Stop) → IfErr result (IsStopOf slots row new_panel) → (device : ℕ) → result ≡ Err (Down device) → (device < slots.members) × (is_read slots row device ≡ true)
+    at_down : (result : Result (Unit {0}) Stop) → IfErr result (IsStopOf slots row new_panel) → (device : ℕ) → result ≡ Err (Down device)
+        → (device < slots.members) × (is_read slots row device ≡ true)
     at_down (Ok done) holds device is = absurd (cc)
     at_down (Err Worn) holds device is = absurd (cc)
     at_down (Err (Down d)) holds device is =
@@ -141,7 +147,8 @@ reads_member honest slots member row old_panel new_panel old new to result later
 -- what a device gives to be read is the same after reads in which it did not go down
 readable_same : {old new : History} (device : ℕ) → HasRead old new → is_down new device ≡ is_down old device → readable new device ≡ readable old device
 readable_same {old = old} {new = new} device read stays =
-    ap (λ (b : Bool). cond b None (Some (seen new device))) stays ∙ ap (λ (disk : List Bytes). cond (is_down old device) None (Some disk)) (seen_read read device)
+    ap (λ (b : Bool). cond b None (Some (seen new device))) stays
+    ∙ ap (λ (disk : List Bytes). cond (is_down old device) None (Some disk)) (seen_read read device)
 
 -- the value of another member that was read later, as what is known of it at first
 pub known_read : {old new : History} (slots : LiveSlots) (row member : ℕ) (sector : Bytes) → HasRead old new → is_down new member ≡ is_down old member
@@ -153,9 +160,11 @@ known_read {old = old} {new = new} slots row member sector read stays is same =
     ∙ sym (ap (λ (b : Bool). unwrap_or (cond b (Some ((rows_of slots (readable old)).own row member)) None) zero_sector) is)
 
 -- where reading another member's row ended, after reads of which each was answered, so did reading this one's
-pub ended_reading : (honest still : Type 0) (slots : LiveSlots) (member other row : ℕ) (old_panel mid_panel new_panel : Panel) (old mid new : History) (to sector : Bytes) (stop : Stop)
+pub ended_reading : (honest still : Type 0) (slots : LiveSlots) (member other row : ℕ) (old_panel mid_panel new_panel : Panel) (old mid new : History)
+    (to sector : Bytes) (stop : Stop)
     → (honest → still) → IsLater old_panel mid_panel → (honest → HasRead old mid) → (honest → (device : ℕ) → is_down mid device ≡ is_down old device)
-    → ReadsMember still slots other row mid_panel new_panel mid new sector (Err stop) → ReadsMember honest slots member row old_panel new_panel old new to (Err stop)
+    → ReadsMember still slots other row mid_panel new_panel mid new sector (Err stop)
+    → ReadsMember honest slots member row old_panel new_panel old new to (Err stop)
 ended_reading honest still slots member other row old_panel mid_panel new_panel old mid new to sector stop fair later read stays ended = record {
   later = later_both _ _ _ later ended.later;
   reads = λ is. read_both (read is) (ended.reads (fair is));
@@ -168,11 +177,13 @@ ended_reading honest still slots member other row old_panel mid_panel new_panel 
 -- where each member but one is live and has all its rows, at most one is out
 pub at_most_one_out : (slots : LiveSlots) (out : ℕ) → ((member : ℕ) → member < slots.members → member ≢ out → slots.live member ≡ true)
     → ((rebuilding : RebuildingMember) → slots.rebuilding ≡ Some rebuilding → rebuilding.member ≡ out) → AtMostOneOut slots
-at_most_one_out slots out live rebuilding = λ row first second first_in second_in first_out second_out. is_out row first first_in first_out ∙ sym (is_out row second second_in second_out)
+at_most_one_out slots out live rebuilding = λ row first second first_in second_in first_out second_out. is_out row first first_in first_out
+    ∙ sym (is_out row second second_in second_out)
   where
     below_there : (row member : ℕ) → member ≢ out → (option : Option RebuildingMember) → slots.rebuilding ≡ option → is_below option row member ≡ true
     below_there row member apart None is = refl
-    below_there row member apart (Some there) is = ap (λ (b : Bool). not b || nat_lt row there.position) (ne_eqb there.member member (λ same. apart (sym same ∙ rebuilding there is)))
+    below_there row member apart (Some there) is = ap (λ (b : Bool). not b || nat_lt row there.position)
+        (ne_eqb there.member member (λ same. apart (sym same ∙ rebuilding there is)))
 
     differ : true ≡ false → ⊥
     differ is = cc
@@ -180,5 +191,6 @@ at_most_one_out slots out live rebuilding = λ row first second first_in second_
     is_out : (row member : ℕ) → member < slots.members → is_read slots row member ≡ false → member ≡ out
     is_out row member in_set not_read = elim (cases_eq member out) [
       | inl same ↦ same
-      | inr apart ↦ absurd (differ (sym (ap (λ (b : Bool). b && is_below slots.rebuilding row member) (live member in_set apart) ∙ below_there row member apart slots.rebuilding refl) ∙ not_read))
+      | inr apart ↦ absurd (differ (sym (ap (λ (b : Bool). b && is_below slots.rebuilding row member) (live member in_set apart)
+          ∙ below_there row member apart slots.rebuilding refl) ∙ not_read))
     ]

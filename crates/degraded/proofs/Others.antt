@@ -35,7 +35,8 @@ xor_of_all-member f member a zero least most = absurd (omega arith)
 xor_of_all-member f member a (suc n) least most = elim (cases_eq a member) [
   | inl same ↦
       ap (λ (m : ℕ). xor_of (f m) (xor_of_all (map f (range_with_len (a + 1) n)))) same
-      ∙ ap (λ (rest : List ℕ). xor_of (f member) (xor_of_all (map f rest))) (sym (others_from-below member (a + 1) n (omega (arith, same))) ∙ sym (others_from-same member a n same))
+      ∙ ap (λ (rest : List ℕ). xor_of (f member) (xor_of_all (map f rest)))
+      (sym (others_from-below member (a + 1) n (omega (arith, same))) ∙ sym (others_from-same member a n same))
   | inr apart ↦
       ap (xor_of (f a)) (xor_of_all-member f member (a + 1) n (omega (arith, apart)) (omega arith))
       ∙ xor_of-left_comm (f a) (f member) (xor_of_all (map f (others_from member (a + 1) n)))
@@ -53,7 +54,8 @@ pub map-others : (f g : ℕ → Bytes) (member a n : ℕ) → ((other : ℕ) →
     → map f (others_from member a n) ≡ map g (others_from member a n)
 map-others f g member a zero agree = refl
 map-others f g member a (suc n) agree =
-    let rest : map f (others_from member (a + 1) n) ≡ map g (others_from member (a + 1) n) = map-others f g member (a + 1) n (λ other below apart. agree other (omega (arith, below)) apart) in
+    let rest : map f (others_from member (a + 1) n) ≡ map g (others_from member (a + 1) n) =
+    map-others f g member (a + 1) n (λ other below apart. agree other (omega (arith, below)) apart) in
     elim (cases_eq a member) [
       | inl same ↦ ap (map f) (others_from-same member a n same) ∙ rest ∙ ap (map g) (sym (others_from-same member a n same))
       | inr apart ↦

@@ -31,7 +31,8 @@ xor_of_all-push sectors sector =
 
 -- the XOR over one member more
 pub xor_members-more : (f : ℕ → Bytes) (n : ℕ) → xor_of_all (map f (range_with_len 0 (n + 1))) ≡ xor_of (xor_of_all (map f (range_with_len 0 n))) (f n)
-xor_members-more f n = ap (λ (members : List ℕ). xor_of_all (map f members)) (members-more n) ∙ ap xor_of_all (map_push f (range_with_len 0 n) n) ∙ xor_of_all-push (map f (range_with_len 0 n)) (f n)
+xor_members-more f n = ap (λ (members : List ℕ). xor_of_all (map f members)) (members-more n) ∙ ap xor_of_all (map_push f (range_with_len 0 n) n)
+    ∙ xor_of_all-push (map f (range_with_len 0 n)) (f n)
 
 others-more : (member n : ℕ) → others (n + 1) member ≡ others n member ++ cond (not (n == member)) (n ∷ []) []
 others-more member n =
@@ -39,11 +40,13 @@ others-more member n =
     ∙ filter-append (λ (other : ℕ). not (other == member)) (range_with_len 0 n) (n ∷ [])
 
 -- the XOR over the others, with one member more that is one of them
-pub xor_others-more : (f : ℕ → Bytes) (member n : ℕ) → n ≢ member → xor_of_all (map f (others (n + 1) member)) ≡ xor_of (xor_of_all (map f (others n member))) (f n)
+pub xor_others-more : (f : ℕ → Bytes) (member n : ℕ) → n ≢ member
+    → xor_of_all (map f (others (n + 1) member)) ≡ xor_of (xor_of_all (map f (others n member))) (f n)
 xor_others-more f member n apart =
     let more : others (n + 1) member ≡ others n member ++ n ∷ [] =
     others-more member n ∙ ap (λ (b : Bool). others n member ++ cond (not b) (n ∷ []) []) (ne_eqb n member apart) in
-    ap (λ (members : List ℕ). xor_of_all (map f members)) more ∙ ap xor_of_all (map_push f (others n member) n) ∙ xor_of_all-push (map f (others n member)) (f n)
+    ap (λ (members : List ℕ). xor_of_all (map f members)) more ∙ ap xor_of_all (map_push f (others n member) n)
+    ∙ xor_of_all-push (map f (others n member)) (f n)
 
 -- the XOR over the others, with that member itself
 pub xor_others-same : (f : ℕ → Bytes) (member n : ℕ) → n ≡ member → xor_of_all (map f (others (n + 1) member)) ≡ xor_of_all (map f (others n member))

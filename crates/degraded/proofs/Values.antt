@@ -43,21 +43,26 @@ value-known rows row member is = value_is rows row member ∙ unwrap_or-some (di
 
 -- a sector of an entry is the value
 pub value-entry : (rows : Rows) (row member : ℕ) (sector : Bytes) → rows.entry row member ≡ Some sector → value rows row member ≡ sector
-value-entry rows row member sector is = value-direct rows row member sector (ap (λ (entry : Option Bytes). direct_of entry (rows.trusted row member) (rows.own row member)) is)
+value-entry rows row member sector is = value-direct rows row member sector
+    (ap (λ (entry : Option Bytes). direct_of entry (rows.trusted row member) (rows.own row member)) is)
 
 -- a member's own sector is the value where it counts and no entry has one
 pub value-own : (rows : Rows) (row member : ℕ) → rows.entry row member ≡ None → rows.trusted row member ≡ true → value rows row member ≡ rows.own row member
 value-own rows row member none trusted =
     value-direct rows row member (rows.own row member)
-    (ap (λ (entry : Option Bytes). direct_of entry (rows.trusted row member) (rows.own row member)) none ∙ ap (λ (t : Bool). direct_of None t (rows.own row member)) trusted)
+    (ap (λ (entry : Option Bytes). direct_of entry (rows.trusted row member) (rows.own row member)) none
+    ∙ ap (λ (t : Bool). direct_of None t (rows.own row member)) trusted)
 
 -- without an entry's sector and an own one that counts, the value is the XOR of what is known of the others
-pub value-neither : (rows : Rows) (row member : ℕ) → rows.entry row member ≡ None → rows.trusted row member ≡ false → value rows row member ≡ from_others rows row member
+pub value-neither : (rows : Rows) (row member : ℕ) → rows.entry row member ≡ None → rows.trusted row member ≡ false
+    → value rows row member ≡ from_others rows row member
 value-neither rows row member none out =
     value-from_others rows row member
-    (ap (λ (entry : Option Bytes). direct_of entry (rows.trusted row member) (rows.own row member)) none ∙ ap (λ (t : Bool). direct_of None t (rows.own row member)) out)
+    (ap (λ (entry : Option Bytes). direct_of entry (rows.trusted row member) (rows.own row member)) none
+    ∙ ap (λ (t : Bool). direct_of None t (rows.own row member)) out)
 
-length-either : (entry : Option Bytes) (trusted : Bool) (own sum : Bytes) → ((sector : Bytes) → entry ≡ Some sector → length sector ≡ 512) → (entry ≡ None → trusted ≡ true → length own ≡ 512) → length sum ≡ 512
+length-either : (entry : Option Bytes) (trusted : Bool) (own sum : Bytes) → ((sector : Bytes) → entry ≡ Some sector → length sector ≡ 512)
+    → (entry ≡ None → trusted ≡ true → length own ≡ 512) → length sum ≡ 512
     → length (unwrap_or (direct_of entry trusted own) sum) ≡ 512
 length-either (Some sector) trusted own sum from_entry whole sum_whole = from_entry sector refl
 length-either None true own sum from_entry whole sum_whole = whole refl refl
@@ -79,7 +84,8 @@ pub record AgreeInRow (row : ℕ) (a b : Rows) : Type 0 where
   pub trusts : (member : ℕ) → member < b.members → a.trusted row member ≡ b.trusted row member
   pub owns : (member : ℕ) → member < b.members → b.entry row member ≡ None → b.trusted row member ≡ true → a.own row member ≡ b.own row member
 
-direct_of-agree : (entry : Option Bytes) (trusted : Bool) (a b : Bytes) → (entry ≡ None → trusted ≡ true → a ≡ b) → direct_of entry trusted a ≡ direct_of entry trusted b
+direct_of-agree : (entry : Option Bytes) (trusted : Bool) (a b : Bytes) → (entry ≡ None → trusted ≡ true → a ≡ b)
+    → direct_of entry trusted a ≡ direct_of entry trusted b
 direct_of-agree (Some sector) trusted a b same = refl
 direct_of-agree None true a b same = ap Some (same refl refl)
 direct_of-agree None false a b same = refl
@@ -115,7 +121,8 @@ pub row_values-agree : (row : ℕ) (a b : Rows) → AgreeInRow row a b → row_v
 row_values-agree row a b agree = row_values-same row a b agree.width (λ member within. value-agree row member a b agree within)
 
 -- rows with the same values are as sound
-pub sound-same : (row_count : ℕ) (a b : Rows) → a.members ≡ b.members → ((row member : ℕ) → row < row_count → member < b.members → value a row member ≡ value b row member)
+pub sound-same : (row_count : ℕ) (a b : Rows) → a.members ≡ b.members
+    → ((row member : ℕ) → row < row_count → member < b.members → value a row member ≡ value b row member)
     → AreSound b row_count → AreSound a row_count
 sound-same row_count a b width same sound = λ row below.
     subst (λ (sectors : List Bytes). IsSoundRow sectors) (sym (row_values-same row a b width (λ member within. same row member below within))) (sound row below)
@@ -126,10 +133,12 @@ pub logical_list-same : (geometry : Geometry) (a b : Rows)
     → logical_list geometry a ≡ logical_list geometry b
 unfolding logical_list
 logical_list-same geometry a b same =
-    map-range (λ logical. logical_value geometry a logical) (λ logical. logical_value geometry b logical) 0 (data_sectors_of geometry.members geometry.chunk geometry.stripes) (λ logical within.
+    map-range (λ logical. logical_value geometry a logical) (λ logical. logical_value geometry b logical) 0
+    (data_sectors_of geometry.members geometry.chunk geometry.stripes) (λ logical within.
     let below : logical < data_sectors_of geometry.members geometry.chunk geometry.stripes = omega (arith, within) in
     let place : IsPlace geometry.members geometry.chunk logical
     (member_of_chunk geometry.members (logical / geometry.chunk))
     (stripe_of_chunk geometry.members (logical / geometry.chunk) * geometry.chunk + logical % geometry.chunk) = record { on_member = refl; on_row = refl } in
-    same (stripe_of_chunk geometry.members (logical / geometry.chunk) * geometry.chunk + logical % geometry.chunk) (member_of_chunk geometry.members (logical / geometry.chunk))
+    same (stripe_of_chunk geometry.members (logical / geometry.chunk) * geometry.chunk + logical % geometry.chunk)
+    (member_of_chunk geometry.members (logical / geometry.chunk))
     (place_row_below geometry.limits below place) (place_member_below geometry.limits place))

@@ -23,7 +23,8 @@ slots_of live = record {
 
 -- in no row are there two members whose own sectors don't count
 abbrev pub AtMostOneOut : LiveSlots → Type 0
-AtMostOneOut slots = (row first second : ℕ) → first < slots.members → second < slots.members → is_read slots row first ≡ false → is_read slots row second ≡ false → first ≡ second
+AtMostOneOut slots = (row first second : ℕ) → first < slots.members → second < slots.members → is_read slots row first ≡ false
+    → is_read slots row second ≡ false → first ≡ second
 
 -- What reading a member's row asks: each member has a slot, the row is one of each live device that is up, and at most one
 -- member is out.

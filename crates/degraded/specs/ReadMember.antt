@@ -44,7 +44,8 @@ OnlyNamedFailed result old new = (device : ℕ) → result ≢ Err (Down device)
 
 -- `read_member(bank, live, member, row, to)`: the member's own sector where it counts, else the XOR of the others, by reads alone.
 -- Only a device that `Down` names may have gone down: a member whose sector counts and whose device is down; `Worn` where no further call can be counted.
-pub record ReadsMember (honest : Type 0) (slots : LiveSlots) (member row : ℕ) (old_panel new_panel : Panel) (old new : History) (to : Bytes) (result : Result (Unit {0}) Stop) : Type 0 where
+pub record ReadsMember (honest : Type 0) (slots : LiveSlots) (member row : ℕ) (old_panel new_panel : Panel) (old new : History) (to : Bytes)
+    (result : Result (Unit {0}) Stop) : Type 0 where
   pub later : IsLater old_panel new_panel
   pub reads : honest → HasRead old new
   pub gives : honest → result ≡ Ok tt → to ≡ value (rows_of slots (readable old)) row member

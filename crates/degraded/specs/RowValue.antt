@@ -53,4 +53,5 @@ logical_value geometry rows logical = value rows
 
 -- the values of all logical sectors, in order
 unfoldable pub logical_list : Geometry → Rows → List Bytes
-logical_list geometry rows = map (λ logical. logical_value geometry rows logical) (range_with_len 0 (data_sectors_of geometry.members geometry.chunk geometry.stripes))
+logical_list geometry rows = map (λ logical. logical_value geometry rows logical)
+    (range_with_len 0 (data_sectors_of geometry.members geometry.chunk geometry.stripes))

@@ -9,7 +9,8 @@ use parity::xor_into;
 use sector_model::{Bank, Sector, Stop, read_sector};
 
 impl Live {
-    /// Whether the member's own sector in a row counts: it is live and, when it is rebuilding, the row is below its position.
+    /// Whether the member's own sector in a row counts: it is live and, when it is rebuilding, the row is below its
+    /// position.
     pub fn is_trusted(&self, member: u8, row: u64) -> bool
         requires { member < self.now.members }
         ensures { result ≡ is_read (slots_of self.now) row member }
@@ -28,8 +29,8 @@ impl Live {
     }
 }
 
-/// Reads a member's row: its own sector where that counts, else the XOR of the other members' sectors. In no row may two
-/// members be out (condition). `Down` names a member whose sector counts. At an error `to` may hold anything.
+/// Reads a member's row: its own sector where that counts, else the XOR of the other members' sectors. In no row may
+/// two members be out (condition). `Down` names a member whose sector counts. At an error `to` may hold anything.
 pub fn read_member<B: Bank>(
     bank: &mut B,
     live: &Live,

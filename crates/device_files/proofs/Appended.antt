@@ -13,7 +13,8 @@ replicate_more (suc n) m =
 pub zeros_after : (old now new : List ℕ) (done n : ℕ) → now ≡ old ++ replicate {A = ℕ} done 0 → new ≡ now ++ replicate {A = ℕ} n 0
     → new ≡ old ++ replicate {A = ℕ} (done + n) 0
 zeros_after old now new done n before grown =
-    grown ∙ ap (λ (l : List ℕ). l ++ replicate {A = ℕ} n 0) before ∙ append_assoc old (replicate {A = ℕ} done 0) (replicate {A = ℕ} n 0) ∙ ap (λ (l : List ℕ). old ++ l) (replicate_more done n)
+    grown ∙ ap (λ (l : List ℕ). l ++ replicate {A = ℕ} n 0) before ∙ append_assoc old (replicate {A = ℕ} done 0) (replicate {A = ℕ} n 0)
+    ∙ ap (λ (l : List ℕ). old ++ l) (replicate_more done n)
 
 -- the first of so many zeros are zeros
 zeros_taken : (k part : ℕ) → (m : ℕ) × (take k (replicate {A = ℕ} part 0) ≡ replicate {A = ℕ} m 0)
@@ -37,13 +38,15 @@ take_zeros (suc n) (suc m) within =
     ap (λ (l : List ℕ). 0 ∷ l) (take_zeros n m less)
 
 -- a part of a part of zeros that was appended is zeros
-pub part_appended : (old now new : List ℕ) (n k part : ℕ) → now ≡ old → new ≡ now ++ take n (take k (replicate {A = ℕ} part 0)) → n ≤ length (take k (replicate {A = ℕ} part 0))
+pub part_appended : (old now new : List ℕ) (n k part : ℕ) → now ≡ old → new ≡ now ++ take n (take k (replicate {A = ℕ} part 0))
+    → n ≤ length (take k (replicate {A = ℕ} part 0))
     → new ≡ old ++ replicate {A = ℕ} n 0
 part_appended old now new n k part same grown bound =
     let taken = zeros_taken k part in
     let within : n ≤ length (replicate {A = ℕ} taken.0 0) = subst (λ (l : List ℕ). n ≤ length l) taken.1 bound in
     let below : n ≤ taken.0 = subst (λ (m : ℕ). n ≤ m) (length_zeros taken.0) within in
-    grown ∙ ap (λ (l : List ℕ). l ++ take n (take k (replicate {A = ℕ} part 0))) same ∙ ap (λ (l : List ℕ). old ++ take n l) taken.1 ∙ ap (λ (l : List ℕ). old ++ l) (take_zeros n taken.0 below)
+    grown ∙ ap (λ (l : List ℕ). l ++ take n (take k (replicate {A = ℕ} part 0))) same ∙ ap (λ (l : List ℕ). old ++ take n l) taken.1
+    ∙ ap (λ (l : List ℕ). old ++ l) (take_zeros n taken.0 below)
 
 -- what stood there stands before it
 pub begins_before : (old more : List ℕ) → take (length old) (old ++ more) ≡ old

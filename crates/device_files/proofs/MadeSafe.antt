@@ -16,7 +16,8 @@ pub safe_next : {F : Type 0} (P : ℕ → Option F → Bool → Type 0) (was is 
 safe_next P was is flags_were flags_are slot below others other_flags here =
     below_more (λ k. P k (file_in is k) (flag_in flags_are k)) slot
     (λ k under. let apart : k ≢ slot = omega (arith, under) in
-    subst (λ (flag : Bool). P k (file_in is k) flag) (sym (other_flags k apart)) (subst (λ file. P k file (flag_in flags_were k)) (sym (others k apart)) (below k under))) here
+    subst (λ (flag : Bool). P k (file_in is k) flag) (sym (other_flags k apart))
+    (subst (λ file. P k file (flag_in flags_were k)) (sym (others k apart)) (below k under))) here
 
 -- what stops that is a fault of opening
 pub unsafe_fault : {F : Type 0} (HasFailed : F → Type 0) (fault : FolderFault) → IsUnsafe HasFailed fault → IsOpenFault fault

@@ -31,7 +31,8 @@ untouched_next first was is slot beyond others k from =
     others k apart ∙ beyond k on
 
 -- what was noted of the files below a slot is taken back, and of its own
-pub taken_next : {F : Type 0} (told : F → List ℕ) (Removed : ℕ → Type 0) (notes_first notes : List Before) (first was is : List (Option F)) (slot : ℕ) → notes ≡ notes_first
+pub taken_next : {F : Type 0} (told : F → List ℕ) (Removed : ℕ → Type 0) (notes_first notes : List Before) (first was is : List (Option F)) (slot : ℕ)
+    → notes ≡ notes_first
     → ((k : ℕ) → k < slot → IsTakenBack told (Removed k) (before_in notes_first k) (file_in first k) (file_in was k))
     → ((k : ℕ) → slot ≤ k → file_in was k ≡ file_in first k) → AreOthersKept was is slot
     → IsTakenBack told (Removed slot) (before_in notes slot) (file_in was slot) (file_in is slot)
@@ -51,7 +52,8 @@ pub same_next : {F : Type 0} (notes_first notes : List Before) (first was is : L
 same_next notes_first notes first was is slot same all beyond others here k none = elim (cases_eq k slot) [
   | inl at ↦
       let on : slot ≤ slot = omega arith in
-      let none_here : before_in notes slot ≡ Same = ap (λ (all : List Before). before_in all slot) same ∙ ap (λ (j : ℕ). before_in notes_first j) (sym at) ∙ none in
+      let none_here : before_in notes slot ≡ Same = ap (λ (all : List Before). before_in all slot) same ∙ ap (λ (j : ℕ). before_in notes_first j) (sym at)
+      ∙ none in
       subst (λ (j : ℕ). file_in is j ≡ file_in first j) (sym at) (here none_here ∙ beyond slot on)
   | inr apart ↦ others k apart ∙ all k none
 ]

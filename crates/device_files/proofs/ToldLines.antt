@@ -8,7 +8,8 @@ use Rattle.report.specs.Written.{AppendsPart, WritesText}
 use Rattle.device_files.specs.Faults.{IsToldLine}
 
 -- what was written well is the line, and what was not is a beginning of it
-pub told_line : {T E : Type 0} (done : Result T E) (line : List ℕ) (old new : Option (List ℕ)) → OnOk done (Appends old new line) → OnErr done (AppendsPart old new line)
+pub told_line : {T E : Type 0} (done : Result T E) (line : List ℕ) (old new : Option (List ℕ)) → OnOk done (Appends old new line)
+    → OnErr done (AppendsPart old new line)
     → IsToldLine line old new
 told_line (Ok value) line old new whole part = inl whole
 told_line (Err fault) line old new whole part = inr part
@@ -42,7 +43,9 @@ part_after old mid new front text before is = record {
 }
 
 -- what is written after a text is written of both
-pub writes_after : (done : Result (Unit {0}) Refusal) (old mid new : Option (List ℕ)) (front text : List ℕ) → Appends old mid front → WritesText mid new text done
+pub writes_after : (done : Result (Unit {0}) Refusal) (old mid new : Option (List ℕ)) (front text : List ℕ) → Appends old mid front
+    → WritesText mid new text done
     → WritesText old new (front ++ text) done
 writes_after (Ok value) old mid new front text before wrote = record { ok = Appends-trans old mid new front text before wrote.ok; part = tt; kind = tt }
-writes_after (Err refusal) old mid new front text before wrote = record { ok = tt; part = part_after old mid new front text before wrote.part; kind = wrote.kind }
+writes_after (Err refusal) old mid new front text before wrote =
+    record { ok = tt; part = part_after old mid new front text before wrote.part; kind = wrote.kind }

@@ -1,5 +1,6 @@
 -- What the device files of a folder hold, what is noted of them, and what of them is safe.
-use Rattle.std.specs.Prelude.{◌≡◌, ◌≢◌, ◌⊎◌, ℕ, ◌-◌, ◌<◌, ◌≤◌, Bool, false, true, IsSomeAnd, IsTrue, List, ◌++◌, codes, decimal, length, replicate, slice_index_or, take, Option, Some, None, Result, Ok, Err}
+use Rattle.std.specs.Prelude.{◌≡◌, ◌≢◌, ◌⊎◌, ℕ, ◌-◌, ◌<◌, ◌≤◌, Bool, false, true, IsSomeAnd, IsTrue, List, ◌++◌, codes, decimal, length, replicate}
+use Rattle.std.specs.Prelude.{slice_index_or, take, Option, Some, None, Result, Ok, Err}
 use Rattle.superblock.specs.declared.state.State.TheVariants.{Missing}
 use Rattle.superblock.specs.declared.table.Table.{Table}
 use Rattle.superblock.specs.NextTables.{slots_of}
@@ -77,7 +78,8 @@ abbrev pub before_in : List Before → ℕ → Before
 before_in notes slot = slice_index_or notes slot Same
 
 -- That is noted of the file of a slot: of the one that was there by what was noted of it, and of one that was created by what it was before.
-abbrev pub IsNotedOf : {F Fault : Type 0} → (told : F → List ℕ) (Creates : Result (F × Before) Fault → Type 0) → ℕ → (was : Before) (old new : Option F) (is : Before) → Type 0
+abbrev pub IsNotedOf : {F Fault : Type 0} → (told : F → List ℕ) (Creates : Result (F × Before) Fault → Type 0) → ℕ
+    → (was : Before) (old new : Option F) (is : Before) → Type 0
 IsNotedOf told Creates bytes was (Some old) new is = IsNoted told was bytes (Some old) is
 IsNotedOf told Creates bytes was None (Some new) is = (made : _) × (before : Before) × Creates (Ok (made, before)) × IsNoted told before bytes (Some made) is
 IsNotedOf told Creates bytes was None None is = is ≡ was
@@ -128,7 +130,8 @@ IsMadeSafe tells told IsSafe HasFailed (Some old) (Some new) unsynced = (IsSafe 
 IsMadeSafe tells told IsSafe HasFailed (Some old) None unsynced = ((file : _) × HasFailed file) × (unsynced ≡ true)
 
 -- so was that of each of ten slots
-abbrev pub AreMadeSafe : {F : Type 0} → (tells : Bool) (told : F → List ℕ) (IsSafe HasFailed : F → Type 0) → (old new : List (Option F)) (unsynced : List Bool) → Type 0
+abbrev pub AreMadeSafe : {F : Type 0} → (tells : Bool) (told : F → List ℕ) (IsSafe HasFailed : F → Type 0) → (old new : List (Option F)) (unsynced : List Bool)
+    → Type 0
 AreMadeSafe tells told IsSafe HasFailed old new unsynced =
     (slot : ℕ) → slot < 10 → IsMadeSafe tells told IsSafe HasFailed (file_in old slot) (file_in new slot) (flag_in unsynced slot)
 

@@ -1,5 +1,6 @@
 -- What stops a call over the device files of a folder, and the line that tells it.
-use Rattle.std.specs.Prelude.{◌≡◌, ◌≢◌, ◌⊎◌, ◌≤◌, ◌<◌, ◌+◌, ℕ, zero, suc, Bool, true, pos, List, [], ◌∷◌, ◌++◌, codes, Option, None, Some, Result, Ok, Err, IfErr}
+use Rattle.std.specs.Prelude.{◌≡◌, ◌≢◌, ◌⊎◌, ◌≤◌, ◌<◌, ◌+◌, ℕ, zero, suc, Bool, true, pos, List, [], ◌∷◌, ◌++◌, codes, Option, None, Some, Result, Ok, Err}
+use Rattle.std.specs.Prelude.{IfErr}
 use Rattle.std.specs.declared.io.Error.{Error}
 use Rattle.std.specs.declared.io.ErrorKind.TheVariants.{NotADirectory, NotFound}
 use Rattle.std.specs.Io.KnownBytes.{Appends}
@@ -128,7 +129,8 @@ TellsPassed contents slot (Some reason) old new = IsToldLine (passed_line slot r
 -- that of each slot below this one, in their order
 abbrev pub PassesBelow : {E : Type 0} → (contents : E → Option (List ℕ)) (barred : List (Option Reason)) → ℕ → (old new : E) → Type 0
 PassesBelow contents barred zero old new = new ≡ old
-PassesBelow contents barred (suc slot) old new = (mid : _) × PassesBelow contents barred slot old mid × TellsPassed contents slot (barred_in barred slot) mid new
+PassesBelow contents barred (suc slot) old new = (mid : _) × PassesBelow contents barred slot old mid
+    × TellsPassed contents slot (barred_in barred slot) mid new
 
 -- that of each of ten slots
 abbrev pub Passes : {E : Type 0} → (contents : E → Option (List ℕ)) (barred : List (Option Reason)) → (old new : E) → Type 0

@@ -5,7 +5,8 @@ use Rattle.device_files.specs.declared.FolderFault.{FolderFault}
 use Rattle.device_files.specs.declared.FolderFault.TheVariants.{NoFile}
 use Rattle.device_files.specs.declared.locked.Before.{Before}
 use Rattle.device_files.specs.declared.slot_files.CreateFault.{CreateFault}
-use Rattle.device_files.specs.DeviceFiles.{AreOtherNotesKept, AreOthersKept, Begins, HasMade, IsCreated, IsNotedOf, IsRenewedTo, StaysOrMade, before_in, file_in, lengthened, slot_path}
+use Rattle.device_files.specs.DeviceFiles.{AreOtherNotesKept, AreOthersKept, Begins, HasMade, IsCreated, IsNotedOf, IsRenewedTo, StaysOrMade, before_in}
+use Rattle.device_files.specs.DeviceFiles.{file_in, lengthened, slot_path}
 use Rattle.device_files.specs.Faults.{IsFailedCreating, IsFileFaultOf, IsUnmadeFile}
 
 -- The file of a slot, the one that was there or one that is created at its path, is made so many bytes long: no byte of it is changed, what it was is

@@ -64,7 +64,8 @@ fn file_refs_of<'a, F>(
 ) -> Result<Vec<Option<FileRef<'a, F>>>, AllocError>
 where
     F: OpenFile + FileExt + Lock + Drop,
-    ensures { IfOk result (λ file_refs. map is_some file_refs.items ≡ map (has_file (λ locked. locked.is_synced)) files.now) }
+    ensures { IfOk result (λ file_refs. map is_some file_refs.items ≡ map (has_file (λ locked. locked.is_synced))
+        files.now) }
 {
     let mut file_refs = Vec::with_capacity(alloc, files.len())?;
     for slot in files {
@@ -73,8 +74,9 @@ where
     Ok(file_refs)
 }
 
-/// A bank of ten slots over the files of a folder, which stay open and locked. It has no device in a slot that has no file,
-/// or whose file can't tell its length or was not synced since it was locked and last made longer: what a bank reads at first is safe.
+/// A bank of ten slots over the files of a folder, which stay open and locked. It has no device in a slot that has no
+/// file, or whose file can't tell its length or was not synced since it was locked and last made longer: what a bank
+/// reads at first is safe.
 ///
 /// `Memory` where an allocation was refused.
 pub fn bank_over<'a, F>(

@@ -13,7 +13,8 @@ use std::io::{self, ErrorKind};
 use std::path::PathBuf;
 use std::rt::Files;
 
-/// A disk whose folders can be synced, and on which links lead to other folders. Of the system's disks nothing is known.
+/// A disk whose folders can be synced, and on which links lead to other folders. Of the system's disks nothing is
+/// known.
 pub trait FolderSync {
     /// The names in a folder are safe.
     ghost is_safe: { Self → (folder : List ℕ) → Type 0 };
@@ -32,10 +33,11 @@ pub trait FolderSync {
         ensures safe { OnOk result (is_safe self.now folder.now) }
         ensures never { IfErr result (λ error. SaysNever error → is_never self.now folder.now) };
 
-    /// The folder in which a link makes its file; none where the path is no link, or leads nowhere. The error is that of
-    /// the system where looking at the path failed otherwise: nothing is known of it then.
+    /// The folder in which a link makes its file; none where the path is no link, or leads nowhere. The error is that
+    /// of the system where looking at the path failed otherwise: nothing is known of it then.
     fn linked_folder(&self, path: &str) -> io::Result<Option<PathBuf>>
-        ensures some { IfOk result (λ found. IfSome found (λ folder. leads_to self.now path.now (path_buf_bytes folder))) }
+        ensures some { IfOk result (λ found.
+            IfSome found (λ folder. leads_to self.now path.now (path_buf_bytes folder))) }
         ensures none { IfOk result (λ found. IsNone found → is_no_link self.now path.now) };
 }
 
@@ -93,8 +95,8 @@ fn none_if_absent(error: io::Error) -> io::Result<Option<PathBuf>>
     Err(error)
 }
 
-/// Syncs a folder of a disk and, where the path of a slot from `first` on and below `end` is a link, the folder in which the
-/// link makes its file. A folder that can't be opened or synced at all (EACCES, EINVAL) is passed over.
+/// Syncs a folder of a disk and, where the path of a slot from `first` on and below `end` is a link, the folder in
+/// which the link makes its file. A folder that can't be opened or synced at all (EACCES, EINVAL) is passed over.
 ///
 /// `NotSynced` where a sync fails otherwise, or looking at such a path does; `Memory` where an allocation was refused.
 pub fn sync_folders<D: FolderSync>(
@@ -105,7 +107,8 @@ pub fn sync_folders<D: FolderSync>(
     end: u8,
 ) -> Result<(), FolderFault>
     ensures synced { OnOk result (D.is_safe disk.now folder.now ⊎ D.is_never disk.now folder.now) }
-    ensures linked { OnOk result ((slot : ℕ) → first ≤ slot → slot < end → IsLinkSynced (D.is_no_link disk.now) (D.leads_to disk.now)
+    ensures linked { OnOk result ((slot : ℕ) → first ≤ slot → slot < end
+        → IsLinkSynced (D.is_no_link disk.now) (D.leads_to disk.now)
         (λ folder. D.is_safe disk.now folder ⊎ D.is_never disk.now folder) (slot_path folder.now slot)) }
     ensures fault { IfErr result IsSyncFault }
 {

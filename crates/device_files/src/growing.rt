@@ -1,5 +1,7 @@
-//! Device files get the bytes that they lack: zero bytes are appended, so that their room is theirs before a set lies there.
-ghost use Rattle.std.specs.Prelude.{◌≡◌, ◌<◌, ◌≤◌, ◌++◌, Bool, IsTrue, IfErr, IfOk, List, Ok, OnErr, OnOk, length, replicate, take, true, ℕ};
+//! Device files get the bytes that they lack: zero bytes are appended, so that their room is theirs before a set lies
+//! there.
+ghost use Rattle.std.specs.Prelude.{◌≡◌, ◌<◌, ◌≤◌, ◌++◌, Bool, IsTrue, IfErr, IfOk, List, Ok, OnErr, OnOk, length};
+ghost use Rattle.std.specs.Prelude.{replicate, take, true, ℕ};
 ghost use Rattle.std.specs.declared.io.Error.{Error};
 ghost use Rattle.device_files.specs.DeviceFiles.{Begins, lengthened};
 
@@ -60,7 +62,8 @@ pub trait Growing {
         ensures answered { IfErr result (sync_failed self.new) };
 }
 
-/// A file of the system tells nothing. It is safe where it was synced after it was locked, and not lengthened or cut since.
+/// A file of the system tells nothing. It is safe where it was synced after it was locked, and not lengthened or cut
+/// since.
 impl<F: OpenFile + FileExt + Lock> Growing for Locked<F> {
     ghost use Rattle.std.specs.Prelude.{false, [], ⊤};
 
@@ -99,7 +102,8 @@ impl<F: OpenFile + FileExt + Lock> Growing for Locked<F> {
     }
 }
 
-/// Appends zero bytes to a file that is too short, and syncs it. No byte that is there is changed, also where that fails.
+/// Appends zero bytes to a file that is too short, and syncs it. No byte that is there is changed, also where that
+/// fails.
 pub(super) fn lengthen<F: Growing>(file: &mut F, bytes: u64) -> io::Result<()>
     ensures long { IsTrue F.tells → OnOk result (F.told file.new ≡ lengthened bytes (F.told file.old)) }
     ensures safe { OnOk result (F.is_safe file.new) }
@@ -135,7 +139,8 @@ pub(super) fn sync_whole<F: Growing>(file: &mut F) -> io::Result<()>
 /// Empties a file that is too short, appends zero bytes, and syncs it. One that is long enough is not changed.
 pub(super) fn renew<F: Growing>(file: &mut F, bytes: u64) -> io::Result<()>
     ensures long { IsTrue F.tells → bytes ≤ length (F.told file.old) → OnOk result (F.told file.new ≡ F.told file.old) }
-    ensures short { IsTrue F.tells → length (F.told file.old) < bytes → OnOk result (F.told file.new ≡ replicate bytes 0) }
+    ensures short { IsTrue F.tells → length (F.told file.old) < bytes
+        → OnOk result (F.told file.new ≡ replicate bytes 0) }
     ensures safe { OnOk result (F.is_safe file.new) }
     ensures failed { OnErr result (F.has_failed file.new) }
 {

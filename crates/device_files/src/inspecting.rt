@@ -80,13 +80,13 @@ where
     }
 }
 
-/// Opens the ten files of a folder for reading alone, each once, without a lock, and neither syncs nor creates any. A file
-/// that is absent, to which a link leads nowhere, in whose place something else stands, or that can't be opened for a fault
-/// of its own leaves a slot without a device.
+/// Opens the ten files of a folder for reading alone, each once, without a lock, and neither syncs nor creates any. A
+/// file that is absent, to which a link leads nowhere, in whose place something else stands, or that can't be opened
+/// for a fault of its own leaves a slot without a device.
 ///
-/// `NotOpened` names the first slot whose file is there and can't be opened for want of rights or of file numbers; `InUse`
-/// and `NotRegular` one where opening its path came to that, as it never does on a disk of the system. `Memory` where an
-/// allocation was refused.
+/// `NotOpened` names the first slot whose file is there and can't be opened for want of rights or of file numbers;
+/// `InUse` and `NotRegular` one where opening its path came to that, as it never does on a disk of the system. `Memory`
+/// where an allocation was refused.
 pub fn inspect_folder<D: InspectFiles>(
     alloc: Global,
     disk: &D,
@@ -121,7 +121,8 @@ fn inspect_slot<D: InspectFiles>(
 ) -> Result<Option<D::InspectedFile>, FolderFault>
     ensures inspected { IfOk result (λ file. D.inspects disk.now (slot_path folder.now slot) (Ok file)) }
     ensures fault { IfErr result (IsOpenFaultOf slot) }
-    ensures blamed { IfErr result (IsFailedOpening (λ other. D.inspects disk.now (slot_path folder.now other)) (λ _. ⊥)) }
+    ensures blamed { IfErr result (IsFailedOpening (λ other. D.inspects disk.now (slot_path folder.now other))
+        (λ _. ⊥)) }
 {
     let path = path_of(alloc, folder, slot)?;
     match disk.inspect(path.as_str()) {
@@ -168,7 +169,8 @@ pub fn bank_to_read<'a, F>(
 ) -> Result<FileBank<ReadOnlyFile<'a, F>>, Refusal>
 where
     F: OpenFile + FileExt + Drop,
-    ensures devices { IfOk result (λ bank. (⟦<FileBank<ReadOnlyFile<'a, F>, NoRecord> as Bank>⟧.panel bank).devices ≡ 10) }
+    ensures devices { IfOk result (λ bank.
+        (⟦<FileBank<ReadOnlyFile<'a, F>, NoRecord> as Bank>⟧.panel bank).devices ≡ 10) }
     ensures err { IfErr result (λ refusal. refusal ≡ Memory) }
 {
     FileBank::over(alloc, read_all(alloc, &files.files)?, NoRecord)

@@ -1,5 +1,5 @@
-//! The device files of a folder: opened and locked, made safe, lengthened and taken back, lent to a bank, or read alone; and what stops that, with the
-//! line and the exit status of a program that it stops.
+//! The device files of a folder: opened and locked, made safe, lengthened and taken back, lent to a bank, or read
+//! alone; and what stops that, with the line and the exit status of a program that it stops.
 #![tactic(auto)]
 
 ghost use Rattle.std.specs.Prelude.{◌≡◌, ◌≤◌, ◌*◌, IfErr, IfOk, OnOk, if◌then◌else◌, is_ok, length, string_bytes};
@@ -69,7 +69,8 @@ pub enum Shortage {
 pub enum FolderFault {
     /// The file of this slot could not be created, lengthened or synced, also where its sync failed when it was opened.
     NoFile(u8),
-    /// Another program, or another slot, has the lock of this slot's file, or its path leads elsewhere since it was opened.
+    /// Another program, or another slot, has the lock of this slot's file, or its path leads elsewhere since it was
+    /// opened.
     InUse(u8),
     /// The file of this slot is there, and could not be opened for this reason.
     NotOpened(u8, Reason),
@@ -108,8 +109,8 @@ impl From<AllocError> for FolderFault {
     }
 }
 
-/// The exit status of what was done over the files of a folder: 0, with nothing written, or 1, with the line of the fault
-/// written to `err` or a beginning of it, since a fault of `err` has no place to be told. That line is one of
+/// The exit status of what was done over the files of a folder: 0, with nothing written, or 1, with the line of the
+/// fault written to `err` or a beginning of it, since a fault of `err` has no place to be told. That line is one of
 ///
 /// - `cannot make dev3.img` and `in use dev3.img`
 /// - `cannot open dev3.img: permission denied`, or `operation not permitted`, `read-only file system`,
@@ -187,8 +188,8 @@ fn write_unsynced<E: Write>(err: &mut E, folder: &str) -> Result<(), Refusal>
     write_text(err, b"\n")
 }
 
-/// The least bytes that the file of a slot has in a set of this geometry: those of a member's device for a slot below the number of members, and those of a
-/// journal's for any other. It is a multiple of 512.
+/// The least bytes that the file of a slot has in a set of this geometry: those of a member's device for a slot below
+/// the number of members, and those of a journal's for any other. It is a multiple of 512.
 pub fn bytes_of(geometry: &Geometry, slot: u8) -> u64
     ensures { result ≡ 512 * least_sectors geometry.now slot }
 {

@@ -21,8 +21,8 @@ pub trait Lock {
         ensures ours { result ≡ true → is_ours self.new }
         ensures theirs { result ≡ false → is_theirs self.old };
 
-    /// Makes safe what the file holds, and how long it is. The error is that of the system, and of what is safe nothing is
-    /// known then.
+    /// Makes safe what the file holds, and how long it is. The error is that of the system, and of what is safe nothing
+    /// is known then.
     fn sync_held(&mut self) -> io::Result<()>
         ensures safe { OnOk result (is_safe self.new) }
         ensures ours { ∥ is_ours self.old ∥₁ → ∥ is_ours self.new ∥₁ };

@@ -20,7 +20,8 @@ use superblock::{State, Table};
 /// Refuses the first slot from `first` on, below `end` and below 10, whose file is there and could not be opened, as
 /// `NotOpened` with the reason.
 pub fn refuse_barred<G: Drop>(files: &DeviceFiles<G>, first: u8, end: u8) -> Result<(), FolderFault>
-    ensures none { OnOk result ((slot : ℕ) → first ≤ slot → slot < end → slot < 10 → barred_in files.now.barred slot ≡ None) }
+    ensures none { OnOk result ((slot : ℕ) → first ≤ slot → slot < end → slot < 10
+        → barred_in files.now.barred slot ≡ None) }
     ensures fault { IfErr result (IsBarredIn files.now.barred) }
 {
     for slot in first..end.min(SLOTS as u8) {
@@ -36,8 +37,8 @@ pub fn refuse_barred<G: Drop>(files: &DeviceFiles<G>, first: u8, end: u8) -> Res
 /// calls each of their slots missing.
 ///
 /// `NotOpened` names the first of them of which that is not so, also where there is no such table; `Memory` where an
-/// allocation was refused, and `Worn` where the count of device calls stands at 2^62, as in `chosen_table`. Nothing is told
-/// then. A fault of `err` has no place to be told.
+/// allocation was refused, and `Worn` where the count of device calls stands at 2^62, as in `chosen_table`. Nothing is
+/// told then. A fault of `err` has no place to be told.
 pub fn pass_over<F, E: Write>(
     alloc: Global,
     files: &DeviceFiles<Locked<F>>,
@@ -46,7 +47,8 @@ pub fn pass_over<F, E: Write>(
 ) -> Result<(), FolderFault>
 where
     F: OpenFile + FileExt + Lock + Drop,
-    ensures missing { OnOk result ((slot : ℕ) → slot < 10 → IsSome (barred_in files.now.barred slot) → IsMissingIn id slot) }
+    ensures missing { OnOk result ((slot : ℕ) → slot < 10 → IsSome (barred_in files.now.barred slot)
+        → IsMissingIn id slot) }
     ensures told { OnOk result (Passes E.contents files.now.barred err.old err.new) }
     ensures quiet { OnErr result (err.new ≡ err.old) }
     ensures fault { IfErr result (IsPassingFault files.now.barred) }
@@ -76,7 +78,8 @@ where
 
 // Refuses the first slot whose file could not be opened, and that the table doesn't call missing.
 fn refuse_needed(barred: &[Option<Reason>; SLOTS], table: &Option<Table>) -> Result<(), FolderFault>
-    ensures missing { OnOk result ((slot : ℕ) → slot < 10 → IsSome (barred_in barred.now slot) → IsMissingBy table.now slot) }
+    ensures missing { OnOk result ((slot : ℕ) → slot < 10 → IsSome (barred_in barred.now slot)
+        → IsMissingBy table.now slot) }
     ensures fault { IfErr result (IsBarredIn barred.now) }
 {
     for slot in 0..SLOTS as u8 {

@@ -61,8 +61,8 @@ pub(super) trait Paths {
     fn is_other(&self, file: &Self::Open) -> bool
         ensures { other file.now result };
 
-    /// Whether a path is known to lead to what is no regular file: a folder, a device, or a pipe, whose opening would wait
-    /// for a writer.
+    /// Whether a path is known to lead to what is no regular file: a folder, a device, or a pipe, whose opening would
+    /// wait for a writer.
     fn leads_to_other(&self, path: &str) -> bool
         ensures { leading_other self.now path.now result };
 }

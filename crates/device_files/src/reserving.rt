@@ -2,7 +2,9 @@
 ghost use Rattle.std.specs.Prelude.{◌≡◌, ◌≢◌, ◌<◌, IfErr, IfOk, IsSome, IsSomeAnd, IsTrue, OnOk, ℕ};
 ghost use Rattle.device_files.specs.declared.FolderFault.{FolderFault};
 ghost use Rattle.device_files.specs.declared.locked.Before.{Before};
-ghost use Rattle.device_files.specs.DeviceFiles.{AreOtherNotesKept, AreOthersKept, Begins, HasFile, IsCutBack, IsNoted, IsRenewedTo, IsTakenBack, IsThere, StaysThere, before_in, file_in, lengthened, slot_path};
+ghost use Rattle.device_files.specs.DeviceFiles.{AreOtherNotesKept, AreOthersKept, Begins, HasFile, IsCutBack, IsNoted};
+ghost use Rattle.device_files.specs.DeviceFiles.{IsRenewedTo, IsTakenBack, IsThere, StaysThere, before_in, file_in};
+ghost use Rattle.device_files.specs.DeviceFiles.{lengthened, slot_path};
 ghost use Rattle.device_files.specs.Faults.{IsFailedCreating, IsFileFaultOf};
 ghost use Rattle.device_files.specs.SlotCalls.{LengthensSlot, RenewsSlot};
 
@@ -12,12 +14,12 @@ use super::{Before, DeviceFiles, FolderFault, SLOTS, path_of};
 use std::alloc::Global;
 use std::io;
 
-/// Creates the file of a slot (below 10, condition) where it was not opened, lengthens it by zero bytes where it is shorter
-/// than so many, and syncs it. No byte that is there is changed, also where that fails, and what the file was is noted, so
-/// that `undo` takes it back.
+/// Creates the file of a slot (below 10, condition) where it was not opened, lengthens it by zero bytes where it is
+/// shorter than so many, and syncs it. No byte that is there is changed, also where that fails, and what the file was
+/// is noted, so that `undo` takes it back.
 ///
-/// `NoFile` where the file could not be created, lengthened or synced, `InUse` where another program has locked it, each with this
-/// slot, and `Memory` where an allocation was refused.
+/// `NoFile` where the file could not be created, lengthened or synced, `InUse` where another program has locked it,
+/// each with this slot, and `Memory` where an allocation was refused.
 pub fn lengthen_slot<D: SlotFiles>(
     alloc: Global,
     disk: &D,
@@ -38,7 +40,8 @@ pub fn lengthen_slot<D: SlotFiles>(
 
 // Lengthens the file of a slot, and syncs it. `NoFile` where that failed, or there is none.
 fn lengthen_file<G: Growing>(slot: u8, bytes: u64, file: &mut Option<G>) -> Result<(), FolderFault>
-    ensures long { IsTrue G.tells → OnOk result (HasFile file.old file.new (λ old new. G.told new ≡ lengthened bytes (G.told old))) }
+    ensures long { IsTrue G.tells → OnOk result
+        (HasFile file.old file.new (λ old new. G.told new ≡ lengthened bytes (G.told old))) }
     ensures kept { IsTrue G.tells → StaysThere file.old file.new (λ old new. Begins (G.told old) (G.told new)) }
     ensures safe { OnOk result (IsSomeAnd file.new G.is_safe) }
     ensures fault { IfErr result (λ fault. fault ≡ FolderFault.NoFile slot) }
@@ -50,8 +53,9 @@ fn lengthen_file<G: Growing>(slot: u8, bytes: u64, file: &mut Option<G>) -> Resu
     lengthen(file, bytes).map_err(|_| FolderFault::NoFile(slot))
 }
 
-/// Creates the file of a slot (below 10, condition) where it was not opened, and syncs it. Where it was shorter than so many
-/// bytes, it has so many then, all of them zero; one that is long enough is not changed. Only that it was created is noted.
+/// Creates the file of a slot (below 10, condition) where it was not opened, and syncs it. Where it was shorter than so
+/// many bytes, it has so many then, all of them zero; one that is long enough is not changed. Only that it was created
+/// is noted.
 ///
 /// Refused as `lengthen_slot` is; the file may be empty or shorter then.
 pub fn renew_slot<D: SlotFiles>(
@@ -75,7 +79,8 @@ pub fn renew_slot<D: SlotFiles>(
 
 // Makes the file of a slot anew where it is too short, and syncs it. `NoFile` where that failed, or there is none.
 fn renew_file<G: Growing>(slot: u8, bytes: u64, file: &mut Option<G>) -> Result<(), FolderFault>
-    ensures renewed { IsTrue G.tells → OnOk result (HasFile file.old file.new (λ old new. IsRenewedTo bytes (G.told old) (G.told new))) }
+    ensures renewed { IsTrue G.tells → OnOk result
+        (HasFile file.old file.new (λ old new. IsRenewedTo bytes (G.told old) (G.told new))) }
     ensures safe { OnOk result (IsSomeAnd file.new G.is_safe) }
     ensures fault { IfErr result (λ fault. fault ≡ FolderFault.NoFile slot) }
     ensures failed { IsSome file.old → IfErr result (λ _. IsSomeAnd file.new G.has_failed) }
@@ -134,8 +139,8 @@ fn create<D: SlotFiles>(
     }
 }
 
-// What is noted of a file that is to be lengthened to so many bytes: how long it is, where nothing was noted of it and it
-// is shorter.
+// What is noted of a file that is to be lengthened to so many bytes: how long it is, where nothing was noted of it and
+// it is shorter.
 fn noted<G: Growing>(before: Before, bytes: u64, file: &Option<G>) -> Before
     ensures { IsTrue G.tells → IsNoted G.told before bytes file.now result }
 {
@@ -151,9 +156,9 @@ fn noted<G: Growing>(before: Before, bytes: u64, file: &Option<G>) -> Before
     }
 }
 
-/// Takes back what a command that was not done made of a folder's files, as it was noted: each that it created is removed,
-/// and each that it lengthened is cut to the bytes that it had. Where that can't be done with one, it is done with the
-/// others all the same, and the error is the first one of the system's.
+/// Takes back what a command that was not done made of a folder's files, as it was noted: each that it created is
+/// removed, and each that it lengthened is cut to the bytes that it had. Where that can't be done with one, it is done
+/// with the others all the same, and the error is the first one of the system's.
 pub fn undo<D: SlotFiles>(
     alloc: Global,
     disk: &D,

@@ -59,8 +59,8 @@ pub trait SlotFiles {
         ensures created { creates self.now path.now result }
         ensures locked { IfOk result (λ made. Self.File.is_locked made.0) };
 
-    /// Removes the file at a path; where the path is a link, the file to which that leads, and not the link. The error is that
-    /// of the system.
+    /// Removes the file at a path; where the path is a link, the file to which that leads, and not the link. The error
+    /// is that of the system.
     fn remove(&self, path: &str) -> io::Result<()>
         ensures { OnOk result (is_removed self.now path.now) };
 }

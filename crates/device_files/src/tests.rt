@@ -1,4 +1,5 @@
-//! Files in memory, which tell what they hold, as those of a set and of a replacement are made; and the lines of faults.
+//! Files in memory, which tell what they hold, as those of a set and of a replacement are made; and the lines of
+//! faults.
 ghost use Rattle.std.specs.Prelude.{◌≡◌, true};
 
 use super::growing::{Growing, lengthen, renew};

@@ -1,6 +1,7 @@
 -- Bytes that are written field by field over zeros.
 use Rattle.std.proofs.Common.{◌≡◌, ℕ, ◌+◌, ◌-◌, ◌<◌, ◌≤◌, List, [], ◌∷◌, ◌++◌, length, take, drop, set, replicate, refl, sym, ap, ◌∙◌, append_assoc, arith}
-use Rattle.std.proofs.lemmas.List.{length-append, length-take-le, length-drop, length-replicate, replicate-append-replicate, take_at, drop_at, drop-replicate, append-nil}
+use Rattle.std.proofs.lemmas.List.{length-append, length-take-le, length-drop, length-replicate, replicate-append-replicate, take_at, drop_at, drop-replicate}
+use Rattle.std.proofs.lemmas.List.{append-nil}
 use borrow.Rule.Slice.PartMut.{put_mid}
 use Rattle.extents.specs.TableSpelling.{zeros}
 
@@ -52,7 +53,8 @@ started_more size at n front field bytes front_long field_long within is =
 pub started_zeros : (size n : ℕ) (front : List ℕ) → length front + n ≤ size → started size front ≡ started size (front ++ zeros n)
 unfolding started
 started_zeros size n front within =
-    ap (λ (k : ℕ). front ++ zeros k) (let e : size - length front ≡ n + (size - length (front ++ zeros n)) = omega (arith, length-append front (zeros n), length-zeros n) in e)
+    ap (λ (k : ℕ). front ++ zeros k) (let e : size - length front ≡ n + (size - length (front ++ zeros n)) =
+    omega (arith, length-append front (zeros n), length-zeros n) in e)
     ∙ ap (λ (xs : List ℕ). front ++ xs) (sym (zeros-add n (size - length (front ++ zeros n))))
     ∙ sym (append_assoc front (zeros n) (zeros (size - length (front ++ zeros n))))
 
@@ -66,7 +68,14 @@ started_all size front long =
 -- a part that is put back leaves the length
 pub length-put_mid : {X : Type 0} (at n : ℕ) (xs ys : List X) → at + n ≤ length xs → length ys ≡ n → length (put_mid at n xs ys) ≡ length xs
 length-put_mid at n xs ys within long =
-    omega (arith, length-append (take at xs) (ys ++ drop n (drop at xs)), length-append ys (drop n (drop at xs)), length-take-le at xs (omega arith), length-drop at xs, length-drop n (drop at xs))
+    omega (
+      arith,
+      length-append (take at xs) (ys ++ drop n (drop at xs)),
+      length-append ys (drop n (drop at xs)),
+      length-take-le at xs (omega arith),
+      length-drop at xs,
+      length-drop n (drop at xs),
+    )
 
 -- a front that is put back is the front
 pub front_back : (n : ℕ) (xs ys : List ℕ) → length ys ≡ n → take n (ys ++ drop n xs) ≡ ys

@@ -1,10 +1,12 @@
 -- Sectors full of cells of equal width.
-use Rattle.std.proofs.Common.{◌≡◌, ℕ, zero, suc, ◌+◌, ◌-◌, ◌*◌, ◌/◌, ◌%◌, ◌<◌, ◌≤◌, ◌↔◌, List, [], ◌∷◌, ◌++◌, Option, Some, None, Result, Ok, Err, length, take, take_all, drop, get_or, sym, ap, ◌∙◌, below_more, arith}
+use Rattle.std.proofs.Common.{◌≡◌, ℕ, zero, suc, ◌+◌, ◌-◌, ◌*◌, ◌/◌, ◌%◌, ◌<◌, ◌≤◌, ◌↔◌, List, [], ◌∷◌, ◌++◌, Option, Some, None, Result, Ok, Err, length, take}
+use Rattle.std.proofs.Common.{take_all, drop, get_or, sym, ap, ◌∙◌, below_more, arith}
 use Rattle.std.specs.Prelude.{IfOk, IsOk}
 use Rattle.std.specs.Result.{result_ok}
 use Rattle.std.proofs.lemmas.Bool.{false≢true}
 use Rattle.std.specs.List.{flat_map}
-use Rattle.std.proofs.lemmas.List.{length-append, length-take-le, length-drop, take-append-drop, take_at, drop_at, drop-drop, get_or-take, get_or-drop, nil_from_length, take_more, append-nil, get_or_append_left, get_or_push}
+use Rattle.std.proofs.lemmas.List.{length-append, length-take-le, length-drop, take-append-drop, take_at, drop_at, drop-drop, get_or-take, get_or-drop}
+use Rattle.std.proofs.lemmas.List.{nil_from_length, take_more, append-nil, get_or_append_left, get_or_push}
 use Rattle.std.proofs.lemmas.Slice.{take-put_mid}
 use borrow.Rule.Slice.PartMut.{put_mid}
 use Rattle.std.proofs.lemmas.List.Concat.{flat_map-append}
@@ -26,7 +28,8 @@ module _ {X : Type 0} (f : X → List ℕ) (width : ℕ) (d : X) where
   -- the bytes of so many cells
   pub length-cells : (xs : List X) → AreWide xs → length (flat_map f xs) ≡ width * length xs
   length-cells [] wide = omega arith
-  length-cells (x ∷ xs) wide = let rest = length-cells xs (rest_wide x xs wide) in let one = first_wide x xs wide in omega (arith, length-append (f x) (flat_map f xs))
+  length-cells (x ∷ xs) wide = let rest = length-cells xs (rest_wide x xs wide) in let one =
+      first_wide x xs wide in omega (arith, length-append (f x) (flat_map f xs))
 
   -- the bytes of a cell
   pub cell_at : (xs : List X) → AreWide xs → (k : ℕ) → k < length xs → take width (drop (width * k) (flat_map f xs)) ≡ f (get_or xs k d)
@@ -42,7 +45,8 @@ module _ {X : Type 0} (f : X → List ℕ) (width : ℕ) (d : X) where
       ∙ cell_at xs (rest_wide x xs wide) k (omega arith)
 
   -- bytes are known by their cells
-  pub from_cells : (xs : List X) (bytes : List ℕ) → length bytes ≡ width * length xs → ((k : ℕ) → k < length xs → take width (drop (width * k) bytes) ≡ f (get_or xs k d)) → bytes ≡ flat_map f xs
+  pub from_cells : (xs : List X) (bytes : List ℕ) → length bytes ≡ width * length xs
+      → ((k : ℕ) → k < length xs → take width (drop (width * k) bytes) ≡ f (get_or xs k d)) → bytes ≡ flat_map f xs
   from_cells [] bytes long each = nil_from_length bytes (omega arith)
   from_cells (x ∷ xs) bytes long each =
       let start : width * 0 ≡ 0 = omega arith in
@@ -60,7 +64,8 @@ module _ {X : Type 0} (f : X → List ℕ) (width : ℕ) (d : X) where
 
   -- one more cell is written
   pub cell_written : (xs : List X) (k : ℕ) (to new : List ℕ) → k < length xs → width * k + width ≤ length to → length new ≡ width → new ≡ f (get_or xs k d)
-      → take (width * k) to ≡ flat_map f (take k xs) → take (width * (k + 1)) (put_mid (width * k) (width * k + width - width * k) to new) ≡ flat_map f (take (k + 1) xs)
+      → take (width * k) to ≡ flat_map f (take k xs) → take (width * (k + 1)) (put_mid (width * k) (width * k + width - width * k) to new) ≡ flat_map f
+      (take (k + 1) xs)
   cell_written xs k to new within room long is so_far =
       take-put_mid (width * k) (width * k + width - width * k) to new (width * (k + 1)) (omega arith) (omega arith)
       ∙ ap (λ (ys : List ℕ). ys ++ new) so_far
@@ -75,7 +80,8 @@ module _ {X : Type 0} (f : X → List ℕ) (width : ℕ) (d : X) where
     part_long s below = length-take-le per (drop (per * s) xs) (let room = room_for s below in omega (arith, length-drop (per * s) xs))
 
     part_at : (s k : ℕ) → k < per → get_or (take per (drop (per * s) xs)) k d ≡ get_or xs (s * per + k) d
-    part_at s k small = get_or-take per (drop (per * s) xs) k d small ∙ get_or-drop (per * s) xs k d ∙ ap (λ (n : ℕ). get_or xs n d) (let e : per * s + k ≡ s * per + k = omega arith in e)
+    part_at s k small = get_or-take per (drop (per * s) xs) k d small ∙ get_or-drop (per * s) xs k d
+        ∙ ap (λ (n : ℕ). get_or xs n d) (let e : per * s + k ≡ s * per + k = omega arith in e)
 
     -- the cells of a sector are wide where those of all are
     part_wide : ((i : ℕ) → i < count * per → length (f (get_or xs i d)) ≡ width) → (s : ℕ) → s < count → AreWide (take per (drop (per * s) xs))
@@ -85,7 +91,8 @@ module _ {X : Type 0} (f : X → List ℕ) (width : ℕ) (d : X) where
         ap (λ (x : X). length (f x)) (part_at s k (omega arith)) ∙ wide (s * per + k) (omega arith)
 
     -- the length of a sector of cells
-    pub length-cells_of : ((i : ℕ) → i < count * per → length (f (get_or xs i d)) ≡ width) → (s : ℕ) → s < count → length (flat_map f (take per (drop (per * s) xs))) ≡ width * per
+    pub length-cells_of : ((i : ℕ) → i < count * per → length (f (get_or xs i d)) ≡ width) → (s : ℕ) → s < count
+        → length (flat_map f (take per (drop (per * s) xs))) ≡ width * per
     length-cells_of wide s below = length-cells (take per (drop (per * s) xs)) (part_wide wide s below) ∙ ap (λ (n : ℕ). width * n) (part_long s below)
 
     -- the sectors that hold the cells
@@ -123,7 +130,8 @@ module _ {X : Type 0} (f : X → List ℕ) (width : ℕ) (d : X) where
         ∙ ap f (sym (part_at s k small)))
 
 -- one more cell was read
-pub spelled_more : {X : Type 0} (f : Option X → List ℕ) (bytes : ℕ → List ℕ) (items now : List (Option X)) (n : ℕ) (one : Option X) → now ≡ items ++ one ∷ [] → length items ≡ n
+pub spelled_more : {X : Type 0} (f : Option X → List ℕ) (bytes : ℕ → List ℕ) (items now : List (Option X)) (n : ℕ) (one : Option X) → now ≡ items ++ one ∷ []
+    → length items ≡ n
     → ((k : ℕ) → k < n → bytes k ≡ f (get_or items k None)) → bytes n ≡ f one → (k : ℕ) → k < n + 1 → bytes k ≡ f (get_or now k None)
 spelled_more f bytes items now n one is long so_far last =
     below_more (λ k. bytes k ≡ f (get_or now k None)) n
@@ -131,7 +139,8 @@ spelled_more f bytes items now n one is long so_far last =
     (last ∙ ap f (sym (get_or_push items one None n long) ∙ ap (λ ys. get_or ys n None) (sym is)))
 
 -- one more of a list was read
-pub first_more : {X : Type 0} (xs items now : List (Option X)) (n : ℕ) (one : Option X) → now ≡ items ++ one ∷ [] → items ≡ take n xs → n < length xs → one ≡ get_or xs n None → now ≡ take (n + 1) xs
+pub first_more : {X : Type 0} (xs items now : List (Option X)) (n : ℕ) (one : Option X) → now ≡ items ++ one ∷ [] → items ≡ take n xs → n < length xs
+    → one ≡ get_or xs n None → now ≡ take (n + 1) xs
 first_more xs items now n one is first within last =
     is ∙ ap (λ ys. ys ++ one ∷ []) first ∙ ap (λ y. take n xs ++ y ∷ []) last ∙ sym (take_more xs n None within)
 
@@ -140,7 +149,8 @@ pub cut : {X : Type 0} (at n : ℕ) (xs : List X) → take n (drop at xs) ≡ ta
 cut at n xs = ap (λ (k : ℕ). take k (drop at xs)) (let e : n ≡ at + n - at = omega arith in e)
 
 -- all of a list was read
-pub all_read : {X E : Type 0} (inner : Result (List X) E) (out : Option (List X)) (items : List X) (n : ℕ) → out ≡ result_ok inner → (IsOk inner ↔ (length items ≡ n))
+pub all_read : {X E : Type 0} (inner : Result (List X) E) (out : Option (List X)) (items : List X) (n : ℕ) → out ≡ result_ok inner
+    → (IsOk inner ↔ (length items ≡ n))
     → IfOk inner (λ array. array ≡ items) → length items ≡ n → out ≡ Some items
 all_read (Ok array) out items n is full same long = is ∙ ap (λ (xs : List _). Some xs) same
 all_read (Err left) out items n is full same long = absurd (false≢true (full.1 long))

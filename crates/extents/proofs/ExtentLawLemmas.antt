@@ -1,5 +1,6 @@
 -- The laws of maps of extents.
-use Rattle.std.proofs.Common.{◌≡◌, ◌≢◌, inl, inr, ℕ, zero, suc, ◌+◌, ◌-◌, ◌*◌, ◌/◌, ◌<◌, ◌≤◌, ◌==◌, nat_lt, min, Bool, true, false, cond, List, [], ◌∷◌, length, take, count_by, Option, Some, None, is_none, is_some, get_or, refl, sym, ◌∙◌, ap, subst, arith}
+use Rattle.std.proofs.Common.{◌≡◌, ◌≢◌, inl, inr, ℕ, zero, suc, ◌+◌, ◌-◌, ◌*◌, ◌/◌, ◌<◌, ◌≤◌, ◌==◌, nat_lt, min, Bool, true, false, cond, List, [], ◌∷◌, length}
+use Rattle.std.proofs.Common.{take, count_by, Option, Some, None, is_none, is_some, get_or, refl, sym, ◌∙◌, ap, subst, arith}
 use Rattle.std.proofs.lemmas.Bool.{cases_lt, cases_eq}
 use Rattle.std.proofs.lemmas.Bool.Decides.{nat_tests}
 use Rattle.std.proofs.lemmas.List.{take_all, ext_get_or}
@@ -11,7 +12,8 @@ use Rattle.extents.specs.ExtentLaws.{counted_below, IsCounted, TakingKeeps, Givi
 use Rattle.extents.proofs.OwnerLemmas.{HasOwner, free_or_owned, owned_is_within, owned_is_not_free, owner_is_one}
 use Rattle.extents.proofs.CountLemmas.{count_cons, count_same, count_none, count_parts, count_of_places}
 use Rattle.extents.proofs.TakeLemmas.{free_below_free, free_below_owned}
-use Rattle.extents.proofs.MapLemmas.{free_below_later, free_below_rises, kept_or_fresh, taken_kept, taken_places, taken_is_map, given_kept, given_none_left, given_is_map}
+use Rattle.extents.proofs.MapLemmas.{free_below_later, free_below_rises, kept_or_fresh, taken_kept, taken_places, taken_is_map, given_kept, given_none_left}
+use Rattle.extents.proofs.MapLemmas.{given_is_map}
 use Rattle.layout_map.specs.declared.sizes.TheConstants.{EXTENT_SECTORS, RESERVED_SECTORS}
 use Rattle.extents.specs.declared.volume_table.TheConstants.{MOST_VOLUMES}
 
@@ -31,7 +33,12 @@ none_below (Some owned) = grind (arith, nat_tests)
 counted_is : (owners : List (Option Owned)) (volume : ℕ) → counted_below owners volume ≡ count_by (is_below volume) owners
 unfolding counted_below
 counted_is owners zero = sym (count_none (is_below 0) owners None (λ k within. none_below (get_or owners k None)))
-counted_is owners (suc volume) = omega (arith, counted_is owners volume, count_parts (is_below (suc volume)) (is_below volume) (is_of volume) (below_parts volume) owners)
+counted_is owners (suc volume) = omega (
+  arith,
+  counted_is owners volume,
+  count_parts (is_below (suc volume)) (is_below volume) (is_of volume)
+      (below_parts volume) owners,
+)
 
 free_or_not : (owner : Option Owned) → cond (is_none owner) 1 0 + cond (is_some owner) 1 0 ≡ 1
 free_or_not None = refl
@@ -63,21 +70,51 @@ free_after old new volume first n appended (suc extent) within =
     let so_far = free_after old new volume first n appended extent (omega arith) in
     elim (free_or_owned old extent) [
       | inr owned ↦
-          let stays : HasOwner new extent = record { volume = owned.volume; place = owned.place; at = appended.kept extent owned.volume owned.place owned.at } in
+          let stays : HasOwner new extent = record {
+            volume = owned.volume;
+            place = owned.place;
+            at =
+                appended.kept extent owned.volume owned.place owned.at;
+          } in
           omega (arith, so_far, free_below_owned old extent owned, free_below_owned new extent stays, ap (free_below old) next, ap (free_below new) next)
       | inl free ↦ elim (cases_lt (free_below old extent) n) [
         | inl few ↦
-            let given : HasOwner new extent = record { volume = volume; place = first + free_below old extent; at = appended.taken extent (omega arith) free few } in
-            omega (arith, so_far, free_below_free old extent (omega arith) free, free_below_owned new extent given, ap (free_below old) next, ap (free_below new) next)
+            let given : HasOwner new extent = record {
+              volume = volume;
+              place = first + free_below old extent;
+              at =
+                  appended.taken extent (omega arith) free few;
+            } in
+            omega (
+              arith,
+              so_far,
+              free_below_free old extent (omega arith) free,
+              free_below_owned new extent given,
+              ap (free_below old) next,
+              ap (free_below new) next,
+            )
         | inr many ↦
-            omega (arith, so_far, free_below_free old extent (omega arith) free, free_below_free new extent (omega (arith, appended.extents)) (appended.left extent free many), ap (free_below old) next, ap (free_below new) next)
+            omega (
+              arith,
+              so_far,
+              free_below_free old extent (omega arith) free,
+              free_below_free new extent (omega (arith, appended.extents))
+                  (appended.left extent free many),
+              ap (free_below old) next,
+              ap (free_below new) next,
+            )
       ]
     ]
 
 -- n extents fewer are free
 taken_free : (old new : List (Option Owned)) (volume first n : ℕ) → n ≤ free_of old → AreAppended old new volume first n → free_of new + n ≡ free_of old
 taken_free old new volume first n enough appended =
-    omega (arith, free_after old new volume first n appended (length old) (omega arith), ap free_of (take_all (length old) old (omega arith)), ap free_of (take_all (length old) new (omega (arith, appended.extents))))
+    omega (
+      arith,
+      free_after old new volume first n appended (length old) (omega arith),
+      ap free_of (take_all (length old) old (omega arith)),
+      ap free_of (take_all (length old) new (omega (arith, appended.extents))),
+    )
 
 -- an extent is left where it is free and n free ones lie below it
 left_is : (old new : List (Option Owned)) (volume first n extent : ℕ) → AreAppended old new volume first n → extent < length new → owner_of new extent ≡ None
@@ -85,25 +122,34 @@ left_is : (old new : List (Option Owned)) (volume first n extent : ℕ) → AreA
 left_is old new volume first n extent appended within free = elim (free_or_owned old extent) [
   | inr owned ↦ absurd (owned_is_not_free new extent owned.volume owned.place (appended.kept extent owned.volume owned.place owned.at) free)
   | inl was_free ↦ elim (cases_lt (free_below old extent) n) [
-    | inl few ↦ absurd (owned_is_not_free new extent volume (first + free_below old extent) (appended.taken extent (omega (arith, appended.extents)) was_free few) free)
+    | inl few ↦ absurd (owned_is_not_free new extent volume (first + free_below old extent)
+        (appended.taken extent (omega (arith, appended.extents)) was_free few) free)
     | inr many ↦ many
   ]
 ]
 
 taken_lowest : (old new : List (Option Owned)) (volume first n extent place other : ℕ) → AreAppended old new volume first n
     → owner_of old extent ≡ None → IsAt new extent volume place → other < length new → owner_of new other ≡ None → extent < other
-taken_lowest old new volume first n extent place other appended was_free at within free = elim (kept_or_fresh old new volume first n extent volume place appended at) [
-  | inl kept ↦ absurd (owned_is_not_free old extent volume place kept was_free)
-  | inr fresh ↦ elim (cases_lt extent other) [
-    | inl before ↦ before
-    | inr after ↦
-        let back : other + (extent - other) ≡ extent = omega arith in
-        absurd (omega (arith, fresh.few, left_is old new volume first n other appended within free, free_below_later old other (extent - other), ap (free_below old) back))
-  ]
-]
+taken_lowest old new volume first n extent place other appended was_free at within free =
+    elim (kept_or_fresh old new volume first n extent volume place appended at) [
+      | inl kept ↦ absurd (owned_is_not_free old extent volume place kept was_free)
+      | inr fresh ↦ elim (cases_lt extent other) [
+        | inl before ↦ before
+        | inr after ↦
+            let back : other + (extent - other) ≡ extent = omega arith in
+            absurd (omega (
+              arith,
+              fresh.few,
+              left_is old new volume first n other appended within free,
+              free_below_later old other (extent - other),
+              ap (free_below old) back,
+            ))
+      ]
+    ]
 
 -- the place of an extent that was taken
-fresh_place : (old new : List (Option Owned)) (volume first n extent place : ℕ) → AreAppended old new volume first n → owner_of old extent ≡ None → IsAt new extent volume place
+fresh_place : (old new : List (Option Owned)) (volume first n extent place : ℕ) → AreAppended old new volume first n → owner_of old extent ≡ None
+    → IsAt new extent volume place
     → (extent < length old) × (place ≡ first + free_below old extent)
 fresh_place old new volume first n extent place appended was_free at = elim (kept_or_fresh old new volume first n extent volume place appended at) [
   | inl kept ↦ absurd (owned_is_not_free old extent volume place kept was_free)
@@ -130,7 +176,8 @@ taken_one old one other volume first n so or_so = ext_get_or None other one (or_
     ]
 
 -- what extents that are taken do to a map
-pub taking_keeps : (old new : List (Option Owned)) (volume n : ℕ) → IsExtentMap old → volume < MOST_VOLUMES → n ≤ free_of old → IsTaken old new volume n → TakingKeeps old new volume n
+pub taking_keeps : (old new : List (Option Owned)) (volume n : ℕ) → IsExtentMap old → volume < MOST_VOLUMES → n ≤ free_of old → IsTaken old new volume n
+    → TakingKeeps old new volume n
 taking_keeps old new volume n map within enough taken = record {
   map = taken_is_map old new volume n map within enough taken;
   places = taken_places old new volume (count_of old volume) n ((extents_are_counted old map).places volume) enough taken;
@@ -176,7 +223,12 @@ given_after old new volume given (suc extent) within =
               ap (free_below new) next,
             )
         | inr other ↦
-            let stays : HasOwner new extent = record { volume = owned.volume; place = owned.place; at = given.kept extent owned.volume owned.place other owned.at } in
+            let stays : HasOwner new extent = record {
+              volume = owned.volume;
+              place = owned.place;
+              at =
+                  given.kept extent owned.volume owned.place other owned.at;
+            } in
             omega (
               arith,
               so_far,
@@ -231,7 +283,8 @@ giving_back_keeps old new volume map given = record {
 }
 
 -- a block lies in one of the extents
-pub block_is_within : (owners : List (Option Owned)) (volume block sector : ℕ) → HasPlace owners volume (block / EXTENT_SECTORS) → IsWhere owners volume block sector
+pub block_is_within : (owners : List (Option Owned)) (volume block sector : ℕ) → HasPlace owners volume (block / EXTENT_SECTORS)
+    → IsWhere owners volume block sector
     → (RESERVED_SECTORS ≤ sector) × (sector < RESERVED_SECTORS + EXTENT_SECTORS * length owners)
 block_is_within owners volume block sector there is =
     let is_sector = is there.0 there.1 in
@@ -239,11 +292,13 @@ block_is_within owners volume block sector there is =
     (omega arith, omega arith)
 
 -- no two blocks lie in one sector
-pub sector_is_one : (owners : List (Option Owned)) (volume block other block' sector : ℕ) → HasPlace owners volume (block / EXTENT_SECTORS) → HasPlace owners other (block' / EXTENT_SECTORS)
+pub sector_is_one : (owners : List (Option Owned)) (volume block other block' sector : ℕ) → HasPlace owners volume (block / EXTENT_SECTORS)
+    → HasPlace owners other (block' / EXTENT_SECTORS)
     → IsWhere owners volume block sector → IsWhere owners other block' sector → (volume ≡ other) × (block ≡ block')
 sector_is_one owners volume block other block' sector there also is or_is =
     let one = is there.0 there.1 in
     let two = or_is also.0 also.1 in
     let same_extent : there.0 ≡ also.0 = omega arith in
-    let owner = owner_is_one owners also.0 volume (block / EXTENT_SECTORS) other (block' / EXTENT_SECTORS) (subst (λ e. IsAt owners e volume (block / EXTENT_SECTORS)) same_extent there.1) also.1 in
+    let owner = owner_is_one owners also.0 volume (block / EXTENT_SECTORS) other (block' / EXTENT_SECTORS)
+    (subst (λ e. IsAt owners e volume (block / EXTENT_SECTORS)) same_extent there.1) also.1 in
     (owner.0, omega (arith, owner.1))

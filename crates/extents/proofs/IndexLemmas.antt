@@ -1,5 +1,6 @@
 -- The index of a map's extents: each extent that is not free has a place of its own in it.
-use Rattle.std.proofs.Common.{◌≡◌, inl, inr, ℕ, zero, suc, ◌+◌, ◌-◌, ◌<◌, ◌≤◌, true, false, List, length, [], get_or, take, drop, replicate, Option, Some, None, refl, sym, ◌∙◌, ap, subst, add-zero, length-take, length-drop, get_or-take, get_or-drop, arith}
+use Rattle.std.proofs.Common.{◌≡◌, inl, inr, ℕ, zero, suc, ◌+◌, ◌-◌, ◌<◌, ◌≤◌, true, false, List, length, [], get_or, take, drop, replicate, Option, Some, None}
+use Rattle.std.proofs.Common.{refl, sym, ◌∙◌, ap, subst, add-zero, length-take, length-drop, get_or-take, get_or-drop, arith}
 use Rattle.std.proofs.lemmas.Bool.{cases_lt, cases_eq}
 use Rattle.std.proofs.lemmas.Bool.Decides.{nat_tests}
 use Rattle.std.proofs.lemmas.List.{get_or-replicate, length-replicate, get_or-set_same, get_or-set_other}
@@ -51,13 +52,21 @@ pub counted_within : (owners : List (Option Owned)) (volume : ℕ) → IsExtentM
 counted_within owners volume map below = omega (arith, counted_rises owners volume MOST_VOLUMES below, (extents_are_counted owners map).all)
 
 -- an extent's place is below the count of its volume's extents
-pub place_below : (owners : List (Option Owned)) (extent volume place : ℕ) → IsExtentMap owners → IsAt owners extent volume place → place < count_of owners volume
+pub place_below : (owners : List (Option Owned)) (extent volume place : ℕ) → IsExtentMap owners → IsAt owners extent volume place
+    → place < count_of owners volume
 place_below owners extent volume place map at = ((extents_are_counted owners map).places volume).below extent place at
 
 -- where an extent is in the index
-pub slot_within : (owners : List (Option Owned)) (extent volume place : ℕ) → IsExtentMap owners → IsAt owners extent volume place → counted_below owners volume + place < length owners
+pub slot_within : (owners : List (Option Owned)) (extent volume place : ℕ) → IsExtentMap owners → IsAt owners extent volume place
+    → counted_below owners volume + place < length owners
 slot_within owners extent volume place map at =
-    omega (arith, map.volumes extent volume place at, place_below owners extent volume place map at, counted_next owners volume, counted_within owners (volume + 1) map (omega (arith, map.volumes extent volume place at)))
+    omega (
+      arith,
+      map.volumes extent volume place at,
+      place_below owners extent volume place map at,
+      counted_next owners volume,
+      counted_within owners (volume + 1) map (omega (arith, map.volumes extent volume place at)),
+    )
 
 -- an extent of an earlier volume is before those of a later one
 slot_before : (owners : List (Option Owned)) (extent volume place other place' : ℕ) → IsExtentMap owners → IsAt owners extent volume place → volume < other
@@ -66,7 +75,8 @@ slot_before owners extent volume place other place' map at before =
     omega (arith, place_below owners extent volume place map at, counted_next owners volume, counted_rises owners (volume + 1) other (omega arith))
 
 -- no two extents have one place in the index
-pub slot_is_one : (owners : List (Option Owned)) (one volume place two other place' : ℕ) → IsExtentMap owners → IsAt owners one volume place → IsAt owners two other place'
+pub slot_is_one : (owners : List (Option Owned)) (one volume place two other place' : ℕ) → IsExtentMap owners → IsAt owners one volume place
+    → IsAt owners two other place'
     → counted_below owners volume + place ≡ counted_below owners other + place' → one ≡ two
 slot_is_one owners one volume place two other place' map at_one at_two same = elim (cases_eq volume other) [
   | inl is ↦
@@ -102,22 +112,26 @@ count_begins owners = record {
 }
 
 -- no volume has more than were counted
-pub count_few : (owners : List (Option Owned)) (counts : List ℕ) (extent volume : ℕ) → AreCountsBelow owners counts extent → IsExtentMap owners → volume < MOST_VOLUMES → get_or counts (volume + 1) 0 ≤ MOST_EXTENTS
+pub count_few : (owners : List (Option Owned)) (counts : List ℕ) (extent volume : ℕ) → AreCountsBelow owners counts extent → IsExtentMap owners
+    → volume < MOST_VOLUMES → get_or counts (volume + 1) 0 ≤ MOST_EXTENTS
 count_few owners counts extent volume so_far map below =
     omega (arith, so_far.each volume below, map.at_most, count_by-le-length (is_of volume) (take extent owners), length-take extent owners)
 
 -- a free extent is passed over
-pub count_passes : (owners : List (Option Owned)) (counts : List ℕ) (extent : ℕ) → AreCountsBelow owners counts extent → extent < length owners → owner_of owners extent ≡ None
+pub count_passes : (owners : List (Option Owned)) (counts : List ℕ) (extent : ℕ) → AreCountsBelow owners counts extent → extent < length owners
+    → owner_of owners extent ≡ None
     → AreCountsBelow owners counts (extent + 1)
 count_passes owners counts extent so_far within free = record {
   long = so_far.long;
   first = so_far.first;
-  each = λ volume below. so_far.each volume below ∙ sym (count_by_more_no (is_of volume) owners extent None within (ap (λ (o : Option Owned). is_of volume o) free));
+  each = λ volume below. so_far.each volume below ∙ sym
+      (count_by_more_no (is_of volume) owners extent None within (ap (λ (o : Option Owned). is_of volume o) free));
 }
 
 -- one that has an owner is counted
 pub count_adds : (owners : List (Option Owned)) (counts : List ℕ) (extent : ℕ) (owned : Owned) → AreCountsBelow owners counts extent → extent < length owners
-    → owner_of owners extent ≡ Some owned → owned.volume < MOST_VOLUMES → AreCountsBelow owners (set counts (owned.volume + 1) (get_or counts (owned.volume + 1) 0 + 1)) (extent + 1)
+    → owner_of owners extent ≡ Some owned → owned.volume < MOST_VOLUMES
+    → AreCountsBelow owners (set counts (owned.volume + 1) (get_or counts (owned.volume + 1) 0 + 1)) (extent + 1)
 count_adds owners counts extent owned so_far within at below_32 =
     let slot : ℕ = owned.volume + 1 in
     let value : ℕ = get_or counts slot 0 + 1 in
@@ -149,11 +163,13 @@ pub record AreStartsBelow (owners : List (Option Owned)) (starts : List ℕ) (vo
   pub rest : (v : ℕ) → volume ≤ v → v < MOST_VOLUMES → get_or starts (v + 1) 0 ≡ count_of owners v
 
 -- at first there are the counts
-pub starts_begin : (owners : List (Option Owned)) (counts : List ℕ) → length counts ≡ MOST_VOLUMES + 1 → get_or counts 0 0 ≡ 0 → ((v : ℕ) → v < MOST_VOLUMES → get_or counts (v + 1) 0 ≡ count_of owners v)
+pub starts_begin : (owners : List (Option Owned)) (counts : List ℕ) → length counts ≡ MOST_VOLUMES + 1 → get_or counts 0 0 ≡ 0
+    → ((v : ℕ) → v < MOST_VOLUMES → get_or counts (v + 1) 0 ≡ count_of owners v)
     → AreStartsBelow owners counts 0
 starts_begin owners counts long first each = record {
   long = long;
-  done = λ v up_to. let none : v ≡ 0 = omega arith in ap (λ (w : ℕ). get_or counts w 0) none ∙ first ∙ sym (counted_none owners) ∙ ap (counted_below owners) (sym none);
+  done = λ v up_to. let none : v ≡ 0 = omega arith in ap (λ (w : ℕ). get_or counts w 0) none ∙ first ∙ sym (counted_none owners)
+      ∙ ap (counted_below owners) (sym none);
   rest = λ v above below. each v below;
 }
 
@@ -185,14 +201,16 @@ start_adds owners starts volume so_far below =
     }
 
 -- where an extent goes, as it is found by its owner
-pub slot_is : (owners : List (Option Owned)) (starts : List ℕ) (extent volume first place : ℕ) (owned : Owned) → IsExtentMap owners → AreStarts owners starts → owner_of owners extent ≡ Some owned
+pub slot_is : (owners : List (Option Owned)) (starts : List ℕ) (extent volume first place : ℕ) (owned : Owned) → IsExtentMap owners → AreStarts owners starts
+    → owner_of owners extent ≡ Some owned
     → volume ≡ owned.volume → first ≡ get_or starts volume 0 → place ≡ owned.place → first + place ≡ counted_below owners owned.volume + owned.place
 slot_is owners starts extent volume first place owned map are_starts is volume_is first_is place_is =
     let below : owned.volume < MOST_VOLUMES = map.volumes extent owned.volume owned.place is in
     let start : get_or starts owned.volume 0 ≡ counted_below owners owned.volume = are_starts.each owned.volume (omega arith) in
     omega (arith, ap (λ (v : ℕ). get_or starts v 0) volume_is)
 
-pub slot_fits : (owners : List (Option Owned)) (starts : List ℕ) (extent volume first place : ℕ) (owned : Owned) → IsExtentMap owners → AreStarts owners starts → owner_of owners extent ≡ Some owned
+pub slot_fits : (owners : List (Option Owned)) (starts : List ℕ) (extent volume first place : ℕ) (owned : Owned) → IsExtentMap owners → AreStarts owners starts
+    → owner_of owners extent ≡ Some owned
     → volume ≡ owned.volume → first ≡ get_or starts volume 0 → place ≡ owned.place → first + place < MOST_EXTENTS
 slot_fits owners starts extent volume first place owned map are_starts is volume_is first_is place_is =
     omega (
@@ -208,7 +226,8 @@ pub record ArePackedBelow (owners : List (Option Owned)) (packed : List ℕ) (ex
   pub each : (e volume place : ℕ) → e < extent → IsAt owners e volume place → get_or packed (counted_below owners volume + place) 0 ≡ e
 
 -- a free extent is passed over
-pub pack_passes : (owners : List (Option Owned)) (packed : List ℕ) (extent : ℕ) → ArePackedBelow owners packed extent → owner_of owners extent ≡ None → ArePackedBelow owners packed (extent + 1)
+pub pack_passes : (owners : List (Option Owned)) (packed : List ℕ) (extent : ℕ) → ArePackedBelow owners packed extent → owner_of owners extent ≡ None
+    → ArePackedBelow owners packed (extent + 1)
 pack_passes owners packed extent so_far free = record {
   long = so_far.long;
   each = λ e volume place below at. elim (cases_eq e extent) [
@@ -218,7 +237,8 @@ pack_passes owners packed extent so_far free = record {
 }
 
 -- one that has an owner goes to its place
-pub pack_adds : (owners : List (Option Owned)) (packed : List ℕ) (extent : ℕ) (owned : Owned) → IsExtentMap owners → ArePackedBelow owners packed extent → owner_of owners extent ≡ Some owned
+pub pack_adds : (owners : List (Option Owned)) (packed : List ℕ) (extent : ℕ) (owned : Owned) → IsExtentMap owners → ArePackedBelow owners packed extent
+    → owner_of owners extent ≡ Some owned
     → ArePackedBelow owners (set packed (counted_below owners owned.volume + owned.place) extent) (extent + 1)
 pack_adds owners packed extent owned map so_far is =
     let slot : ℕ = counted_below owners owned.volume + owned.place in
@@ -232,7 +252,8 @@ pack_adds owners packed extent owned map so_far is =
             let its : counted_below owners volume + place ≡ slot = omega (arith, ap (counted_below owners) one.0, one.1) in
             ap (λ (s : ℕ). get_or (set packed slot extent) s 0) its ∙ get_or-set_same packed slot extent 0 (omega (arith, so_far.long)) ∙ sym same
         | inr other ↦
-            get_or-set_other packed slot (counted_below owners volume + place) extent 0 (λ same. other (slot_is_one owners e volume place extent owned.volume owned.place map at here same))
+            get_or-set_other packed slot (counted_below owners volume + place) extent 0
+            (λ same. other (slot_is_one owners e volume place extent owned.volume owned.place map at here same))
             ∙ so_far.each e volume place (omega arith) at
       ];
     }
@@ -258,7 +279,8 @@ part_is owners index volume at first end map same below first_is end_is =
     }
 
 -- what is in that part is the volume's extents
-pub part_is_extents : (owners : List (Option Owned)) (packed : List ℕ) (volume first end : ℕ) → IsExtentMap owners → ArePacked owners packed → IsPart owners volume first end
+pub part_is_extents : (owners : List (Option Owned)) (packed : List ℕ) (volume first end : ℕ) → IsExtentMap owners → ArePacked owners packed
+    → IsPart owners volume first end
     → AreExtentsOf owners volume (take (end - first) (drop first packed))
 part_is_extents owners packed volume first end map are_packed part = record {
   count = long;
@@ -286,7 +308,8 @@ none_are_extents owners volume map beyond = record {
 }
 
 -- the extents of a volume are at all its places
-pub extents_have_places : (owners : List (Option Owned)) (volume : ℕ) (extents : List ℕ) → AreExtentsOf owners volume extents → HasPlaces owners volume (length extents)
+pub extents_have_places : (owners : List (Option Owned)) (volume : ℕ) (extents : List ℕ) → AreExtentsOf owners volume extents
+    → HasPlaces owners volume (length extents)
 extents_have_places owners volume extents are = record {
   extent_at = λ place below. (get_or extents place 0, are.each place below);
   below = λ extent place at. (are.all extent place at).0;
@@ -294,5 +317,6 @@ extents_have_places owners volume extents are = record {
 }
 
 -- those that are not in the index are free
-pub others_are_free : (owners : List (Option Owned)) (index : ExtentIndex) → IsIndexedMap owners index → free_of owners + get_or index.starts MOST_VOLUMES 0 ≡ length owners
+pub others_are_free : (owners : List (Option Owned)) (index : ExtentIndex) → IsIndexedMap owners index
+    → free_of owners + get_or index.starts MOST_VOLUMES 0 ≡ length owners
 others_are_free owners index map = omega (arith, (extents_are_counted owners map.map).all, map.indexed.starts.each MOST_VOLUMES (omega arith))

@@ -1,5 +1,6 @@
 -- What the taking and the giving back of extents keep.
-use Rattle.std.proofs.Common.{◌≡◌, ◌≢◌, ◌⊎◌, inl, inr, ℕ, zero, suc, ◌+◌, ◌-◌, ◌<◌, ◌≤◌, List, length, Option, None, is_none, refl, sym, ◌∙◌, ap, subst, add-zero, mul-one, replicate, cond, arith}
+use Rattle.std.proofs.Common.{◌≡◌, ◌≢◌, ◌⊎◌, inl, inr, ℕ, zero, suc, ◌+◌, ◌-◌, ◌<◌, ◌≤◌, List, length, Option, None, is_none, refl, sym, ◌∙◌, ap, subst}
+use Rattle.std.proofs.Common.{add-zero, mul-one, replicate, cond, arith}
 use Rattle.std.specs.List.{refill}
 use Rattle.arrayvec.proofs.ArrayVecLemmas.{items-with_items}
 use Rattle.std.proofs.lemmas.Bool.{cases_lt, cases_eq}
@@ -39,13 +40,15 @@ free_below_later owners extent (suc more) =
     next a b = omega arith
 
 -- below a later extent more are free than below one that is free
-pub free_below_rises : (owners : List (Option Owned)) (first second : ℕ) → first < second → first < length owners → owner_of owners first ≡ None → free_below owners first < free_below owners second
+pub free_below_rises : (owners : List (Option Owned)) (first second : ℕ) → first < second → first < length owners → owner_of owners first ≡ None
+    → free_below owners first < free_below owners second
 free_below_rises owners first second before within free =
     let apart : first + 1 + (second - (first + 1)) ≡ second = omega arith in
     omega (arith, free_below_free owners first within free, free_below_later owners (first + 1) (second - (first + 1)), ap (free_below owners) apart)
 
 -- two free extents with as many free ones below them are the same
-free_is_one : (owners : List (Option Owned)) (first second : ℕ) → first < length owners → second < length owners → owner_of owners first ≡ None → owner_of owners second ≡ None
+free_is_one : (owners : List (Option Owned)) (first second : ℕ) → first < length owners → second < length owners → owner_of owners first ≡ None
+    → owner_of owners second ≡ None
     → free_below owners first ≡ free_below owners second → first ≡ second
 free_is_one owners first second first_within second_within first_free second_free same = elim (cases_eq first second) [
   | inl is ↦ is
@@ -68,7 +71,8 @@ find_free_below owners k (suc extent) within few =
     elim (free_or_owned owners extent) [
       | inl free ↦ elim (cases_eq k (free_below owners extent)) [
         | inl same ↦ (extent, record { within = omega arith; free = free; below = sym same })
-        | inr other ↦ find_free_below owners k extent (omega arith) (omega (arith, free_below_free owners extent (omega arith) free, ap (free_below owners) next))
+        | inr other ↦ find_free_below owners k extent (omega arith)
+            (omega (arith, free_below_free owners extent (omega arith) free, ap (free_below owners) next))
       ]
       | inr owned ↦ find_free_below owners k extent (omega arith) (omega (arith, free_below_owned owners extent owned, ap (free_below owners) next))
     ]
@@ -103,7 +107,8 @@ kept_or_fresh old new volume first n extent v place appended at = elim (free_or_
 ]
 
 -- the volume has the taken extents at the places after its last
-pub taken_places : (old new : List (Option Owned)) (volume first n : ℕ) → HasPlaces old volume first → n ≤ free_of old → AreAppended old new volume first n → HasPlaces new volume (first + n)
+pub taken_places : (old new : List (Option Owned)) (volume first n : ℕ) → HasPlaces old volume first → n ≤ free_of old → AreAppended old new volume first n
+    → HasPlaces new volume (first + n)
 taken_places old new volume first n places enough appended = record {
   extent_at = λ place below. elim (cases_lt place first) [
     | inl before ↦ let there = places.extent_at place before in (there.0, appended.kept there.0 volume place there.1)
@@ -123,29 +128,34 @@ taken_places old new volume first n places enough appended = record {
     ]
     | inr fresh_one ↦ elim (kept_or_fresh old new volume first n two volume place appended at_two) [
       | inl kept_two ↦ absurd (omega (arith, places.below two place kept_two, fresh_one.place_is))
-      | inr fresh_two ↦ free_is_one old one two fresh_one.within fresh_two.within fresh_one.free fresh_two.free (omega (arith, fresh_one.place_is, fresh_two.place_is))
+      | inr fresh_two ↦ free_is_one old one two fresh_one.within fresh_two.within fresh_one.free fresh_two.free
+          (omega (arith, fresh_one.place_is, fresh_two.place_is))
     ]
   ];
 }
 
 -- the extents of another volume are those that it had
-pub taken_kept : (old new : List (Option Owned)) (volume first n extent other place : ℕ) → AreAppended old new volume first n → other ≢ volume → IsAt new extent other place → IsAt old extent other place
+pub taken_kept : (old new : List (Option Owned)) (volume first n extent other place : ℕ) → AreAppended old new volume first n → other ≢ volume
+    → IsAt new extent other place → IsAt old extent other place
 taken_kept old new volume first n extent other place appended apart at = elim (kept_or_fresh old new volume first n extent other place appended at) [
   | inl kept ↦ kept
   | inr fresh ↦ absurd (apart fresh.volume_is)
 ]
 
 -- another volume has the places that it had
-pub taken_others : (old new : List (Option Owned)) (volume first n other count : ℕ) → AreAppended old new volume first n → other ≢ volume → HasPlaces old other count → HasPlaces new other count
+pub taken_others : (old new : List (Option Owned)) (volume first n other count : ℕ) → AreAppended old new volume first n → other ≢ volume
+    → HasPlaces old other count → HasPlaces new other count
 taken_others old new volume first n other count appended apart places = record {
   extent_at = λ place below. let there = places.extent_at place below in (there.0, appended.kept there.0 other place there.1);
   below = λ extent place at. places.below extent place (taken_kept old new volume first n extent other place appended apart at);
   once = λ one two place at_one at_two.
-      places.once one two place (taken_kept old new volume first n one other place appended apart at_one) (taken_kept old new volume first n two other place appended apart at_two);
+      places.once one two place (taken_kept old new volume first n one other place appended apart at_one)
+      (taken_kept old new volume first n two other place appended apart at_two);
 }
 
 -- what is a map of extents is one after extents were taken
-pub taken_is_map : (old new : List (Option Owned)) (volume n : ℕ) → IsExtentMap old → volume < MOST_VOLUMES → n ≤ free_of old → IsTaken old new volume n → IsExtentMap new
+pub taken_is_map : (old new : List (Option Owned)) (volume n : ℕ) → IsExtentMap old → volume < MOST_VOLUMES → n ≤ free_of old → IsTaken old new volume n
+    → IsExtentMap new
 taken_is_map old new volume n map within enough taken =
     let its = map.places volume in
     let places : HasPlaces old volume (count_of old volume) = subst (λ x. HasPlaces old volume x) (sym (count_of_places old volume its.0 its.1)) its.1 in
@@ -156,13 +166,18 @@ taken_is_map old new volume n map within enough taken =
         | inr fresh ↦ omega (arith, fresh.volume_is)
       ];
       places = λ v. elim (cases_eq v volume) [
-        | inl same ↦ (count_of old volume + n, subst (λ x. HasPlaces new x (count_of old volume + n)) (sym same) (taken_places old new volume (count_of old volume) n places enough taken))
+        | inl same ↦ (
+          count_of old volume + n,
+          subst (λ x. HasPlaces new x (count_of old volume + n)) (sym same)
+              (taken_places old new volume (count_of old volume) n places enough taken),
+        )
         | inr other ↦ let had = map.places v in (had.0, taken_others old new volume (count_of old volume) n v had.0 taken other had.1)
       ];
     }
 
 -- an extent that is some volume's after extents were given back was so before, and the volume is another
-pub given_kept : (old new : List (Option Owned)) (volume extent v place : ℕ) → IsGivenBack old new volume → IsAt new extent v place → IsAt old extent v place × (v ≢ volume)
+pub given_kept : (old new : List (Option Owned)) (volume extent v place : ℕ) → IsGivenBack old new volume → IsAt new extent v place → IsAt old extent v place
+    × (v ≢ volume)
 given_kept old new volume extent v place given at = elim (free_or_owned old extent) [
   | inl free ↦ absurd (owned_is_not_free new extent v place at (given.left extent free))
   | inr owned ↦ elim (cases_eq owned.volume volume) [
@@ -182,7 +197,8 @@ given_none_left old new volume given = record {
 }
 
 -- another volume has the places that it had
-pub given_others : (old new : List (Option Owned)) (volume other count : ℕ) → IsGivenBack old new volume → other ≢ volume → HasPlaces old other count → HasPlaces new other count
+pub given_others : (old new : List (Option Owned)) (volume other count : ℕ) → IsGivenBack old new volume → other ≢ volume → HasPlaces old other count
+    → HasPlaces new other count
 given_others old new volume other count given apart places = record {
   extent_at = λ place below. let there = places.extent_at place below in (there.0, given.kept there.0 other place apart there.1);
   below = λ extent place at. places.below extent place (given_kept old new volume extent other place given at).0;
@@ -203,7 +219,12 @@ given_is_map old new volume map given = record {
 
 -- a volume has no more places than the map has extents, and no more are free
 pub places_fit : (owners : List (Option Owned)) (volume n : ℕ) → IsExtentMap owners → n ≤ free_of owners → count_of owners volume + n ≤ 65536
-places_fit owners volume n map enough = omega (arith, map.at_most, count_by-le-length (is_of volume) owners, count_by-le-length {X = Option Owned} is_none owners)
+places_fit owners volume n map enough = omega (
+  arith,
+  map.at_most,
+  count_by-le-length (is_of volume) owners,
+  count_by-le-length {X = Option Owned} is_none owners,
+)
 
 none_at : (n extent : ℕ) → owner_of (replicate n None) extent ≡ None
 none_at n extent = elim (cases_lt extent n) [

@@ -12,7 +12,8 @@ pub record HasOwner (owners : List (Option Owned)) (extent : ℕ) : Type 0 where
   pub place : ℕ
   pub at : IsAt owners extent volume place
 
-by_owner : (owners : List (Option Owned)) (extent : ℕ) (owner : Option Owned) → owner_of owners extent ≡ owner → (owner_of owners extent ≡ None) ⊎ HasOwner owners extent
+by_owner : (owners : List (Option Owned)) (extent : ℕ) (owner : Option Owned) → owner_of owners extent ≡ owner → (owner_of owners extent ≡ None)
+    ⊎ HasOwner owners extent
 by_owner owners extent None is = inl is
 by_owner owners extent (Some owned) is = inr record { volume = owned.volume; place = owned.place; at = is }
 
@@ -40,12 +41,14 @@ place_or_0 None = 0
 place_or_0 (Some owned) = owned.place
 
 -- an extent has one owner
-pub owner_is_one : (owners : List (Option Owned)) (extent volume place volume' place' : ℕ) → IsAt owners extent volume place → IsAt owners extent volume' place' → (volume ≡ volume') × (place ≡ place')
+pub owner_is_one : (owners : List (Option Owned)) (extent volume place volume' place' : ℕ) → IsAt owners extent volume place → IsAt owners extent volume' place'
+    → (volume ≡ volume') × (place ≡ place')
 unfolding volume_or_0 place_or_0
 owner_is_one owners extent volume place volume' place' one two = (ap volume_or_0 (sym one ∙ two), ap place_or_0 (sym one ∙ two))
 
 -- an owner by its volume and its place
 pub owner_is : (owned : Owned) (volume place : ℕ) → owned.volume ≡ volume → owned.place ≡ place → Some owned ≡ Some record { volume = volume; place = place }
 owner_is owned volume place same_volume same_place =
-    let by_volume : Some owned ≡ Some record { volume = volume; place = owned.place } = ap (λ (v : ℕ). Some record { volume = v; place = owned.place }) same_volume in
+    let by_volume : Some owned ≡ Some record { volume = volume; place = owned.place } =
+    ap (λ (v : ℕ). Some record { volume = v; place = owned.place }) same_volume in
     by_volume ∙ ap (λ (p : ℕ). Some record { volume = volume; place = p }) same_place

@@ -14,7 +14,11 @@ pub record AreCopiedBelow (owners new : List (Option Owned)) (extent : ℕ) : Ty
 
 pub length-padded : (owners : List (Option Owned)) → length owners ≤ MOST_EXTENTS → length (owners_padded owners) ≡ MOST_EXTENTS
 unfolding owners_padded
-length-padded owners most = omega (arith, length-append owners (replicate (MOST_EXTENTS - length owners) None), length-replicate {A = Option Owned} (MOST_EXTENTS - length owners) None)
+length-padded owners most = omega (
+  arith,
+  length-append owners (replicate (MOST_EXTENTS - length owners) None),
+  length-replicate {A = Option Owned} (MOST_EXTENTS - length owners) None,
+)
 
 none_free : (n k : ℕ) → get_or (replicate {A = Option Owned} n None) k None ≡ None
 none_free n k = elim (cases_lt k n) [

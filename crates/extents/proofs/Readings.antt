@@ -1,5 +1,6 @@
 -- Cells that are read one after the other.
-use Rattle.std.proofs.Common.{◌≡◌, ℕ, ◌+◌, ◌-◌, ◌*◌, ◌/◌, ◌%◌, ◌<◌, ◌≤◌, List, [], ◌∷◌, ◌++◌, Option, Some, None, length, take, drop, get_or, refl, sym, ap, ◌∙◌, subst, below_more, arith}
+use Rattle.std.proofs.Common.{◌≡◌, ℕ, ◌+◌, ◌-◌, ◌*◌, ◌/◌, ◌%◌, ◌<◌, ◌≤◌, List, [], ◌∷◌, ◌++◌, Option, Some, None, length, take, drop, get_or, refl, sym, ap}
+use Rattle.std.proofs.Common.{◌∙◌, subst, below_more, arith}
 use Rattle.std.specs.Option.{IfSome}
 use Rattle.std.proofs.lemmas.List.{get_or_append_left, get_or_push}
 use Rattle.extents.specs.declared.record.Record.{Record}
@@ -11,7 +12,8 @@ use Rattle.extents.proofs.Cells.{cut}
 
 -- the part of a sector that a record has
 abbrev pub part_of : (sectors : List (List ℕ)) (number width each : ℕ) → List ℕ
-part_of sectors number width each = take (width * (number % each) + width - width * (number % each)) (drop (width * (number % each)) (get_or sectors (1 + number / each) []))
+part_of sectors number width each = take (width * (number % each) + width - width * (number % each))
+    (drop (width * (number % each)) (get_or sectors (1 + number / each) []))
 
 -- it is the record's cell
 pub cell_cut : (version : ℕ) (sectors : List (List ℕ)) (number width each : ℕ) → width ≡ record_width version → each ≡ records_a_sector version
@@ -30,8 +32,10 @@ none_is_at version sectors number past = record {
 }
 
 -- what was read of a record's part is at its place
-pub read_is_at : (version : ℕ) (sectors : List (List ℕ)) (number width each : ℕ) (read : Option (Option Record)) → width ≡ record_width version → each ≡ records_a_sector version → number < most_volumes version
-    → IfSome read (λ r. IsShort version r) → IfSome read (λ r. part_of sectors number width each ≡ record_bytes version r) → IfSome read (λ r. IsRecordAt version sectors number r)
+pub read_is_at : (version : ℕ) (sectors : List (List ℕ)) (number width each : ℕ) (read : Option (Option Record)) → width ≡ record_width version
+    → each ≡ records_a_sector version → number < most_volumes version
+    → IfSome read (λ r. IsShort version r) → IfSome read (λ r. part_of sectors number width each ≡ record_bytes version r)
+    → IfSome read (λ r. IsRecordAt version sectors number r)
 read_is_at version sectors number width each None wide many below short is = short
 read_is_at version sectors number width each (Some one) wide many below short is = record {
   spelled = λ within. cell_cut version sectors number width each wide many ∙ is;

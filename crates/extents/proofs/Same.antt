@@ -39,6 +39,8 @@ same_table a b version records extents = λ i. record {
 }
 
 -- the name that was made of a good name's bytes is that name
-pub made_name : (r : Option Name) (bytes : List ℕ) → (IsSome r ↔ IsGoodName bytes) → IfSome r (λ name. name.bytes.items ≡ bytes) → (name : Name) → bytes ≡ name.bytes.items → r ≡ Some name
-made_name None bytes some same name is = absurd (let P : List ℕ → Type 0 = IsGoodName in let no : false ≡ true = some.1 (subst P (sym is) name.good) in let bad : ⊥ = cc in bad)
+pub made_name : (r : Option Name) (bytes : List ℕ) → (IsSome r ↔ IsGoodName bytes) → IfSome r (λ name. name.bytes.items ≡ bytes) → (name : Name)
+    → bytes ≡ name.bytes.items → r ≡ Some name
+made_name None bytes some same name is = absurd (let P : List ℕ → Type 0 = IsGoodName in let no : false ≡ true =
+    some.1 (subst P (sym is) name.good) in let bad : ⊥ = cc in bad)
 made_name (Some made) bytes some same name is = ap Some (same_name made name (same ∙ is))

@@ -1,5 +1,6 @@
 -- The sectors of a table, and what their cells spell.
-use Rattle.std.proofs.Common.{◌≡◌, ℕ, zero, suc, ◌+◌, ◌-◌, ◌*◌, ◌<◌, ◌≤◌, Bool, true, false, cond, eqb, ltb, List, [], Option, Some, None, length, take, drop, get_or, refl, sym, ap, ◌∙◌, subst, ⊎_elim, arith}
+use Rattle.std.proofs.Common.{◌≡◌, ℕ, zero, suc, ◌+◌, ◌-◌, ◌*◌, ◌<◌, ◌≤◌, Bool, true, false, cond, eqb, ltb, List, [], Option, Some, None, length, take, drop}
+use Rattle.std.proofs.Common.{get_or, refl, sym, ap, ◌∙◌, subst, ⊎_elim, arith}
 use Rattle.std.specs.List.{flat_map}
 use Rattle.std.specs.Option.{is_none}
 use Rattle.std.proofs.Props.{props}
@@ -21,17 +22,20 @@ use Rattle.extents.proofs.Versions.{numbers_fit, width_all, records_all, table_l
 use Rattle.extents.specs.declared.volume_table.TheConstants.{MOST_VOLUMES}
 use Rattle.layout_map.specs.declared.sizes.TheConstants.{EXTENT_SECTORS, MOST_EXTENTS}
 
-pub length-spelling : (version : ℕ) (records : List (Option Record)) (extents : List (Option Owned)) → length (spelling version records extents) ≡ table_length version
+pub length-spelling : (version : ℕ) (records : List (Option Record)) (extents : List (Option Owned))
+    → length (spelling version records extents) ≡ table_length version
 unfolding spelling
 length-spelling version records extents = length-map-range_with_len (sector_of version records extents) 0 (table_length version)
 
 pub spelling_at : (version : ℕ) (records : List (Option Record)) (extents : List (Option Owned)) (k : ℕ) → k < table_length version
     → get_or (spelling version records extents) k [] ≡ sector_of version records extents k
 unfolding spelling
-spelling_at version records extents k within = get_or-map-range_with_len (sector_of version records extents) 0 (table_length version) k k [] within (omega arith)
+spelling_at version records extents k within = get_or-map-range_with_len (sector_of version records extents) 0 (table_length version) k k [] within
+    (omega arith)
 
 -- the sectors are known by each
-pub spelling_is : (version : ℕ) (records : List (Option Record)) (extents : List (Option Owned)) (sectors : List (List ℕ)) → length sectors ≡ table_length version
+pub spelling_is : (version : ℕ) (records : List (Option Record)) (extents : List (Option Owned)) (sectors : List (List ℕ))
+    → length sectors ≡ table_length version
     → ((k : ℕ) → k < table_length version → get_or sectors k [] ≡ sector_of version records extents k) → sectors ≡ spelling version records extents
 unfolding spelling
 spelling_is version records extents sectors long each = fill_by_all (sector_of version records extents) sectors (table_length version) [] long each
@@ -65,16 +69,20 @@ pub wrote_first : (version : ℕ) (records : List (Option Record)) (extents : Li
     → bytes ≡ sector_of version records extents k
 wrote_first version records extents k bytes first is = is ∙ ap (sector_of version records extents) (sym first)
 
-pub wrote_records : (version : ℕ) (records : List (Option Record)) (extents : List (Option Owned)) (k each : ℕ) (bytes : List ℕ) → 0 < k → k < 1 + record_sectors version → each ≡ records_a_sector version
-    → bytes ≡ flat_map (record_bytes version) (take (each * (k - 1) + each - each * (k - 1)) (drop (each * (k - 1)) records)) → bytes ≡ sector_of version records extents k
+pub wrote_records : (version : ℕ) (records : List (Option Record)) (extents : List (Option Owned)) (k each : ℕ) (bytes : List ℕ) → 0 < k
+    → k < 1 + record_sectors version → each ≡ records_a_sector version
+    → bytes ≡ flat_map (record_bytes version) (take (each * (k - 1) + each - each * (k - 1)) (drop (each * (k - 1)) records))
+    → bytes ≡ sector_of version records extents k
 unfolding record_sector
 wrote_records version records extents k each bytes some below as_many is =
     is ∙ ap (flat_map (record_bytes version)) (sym (cut (each * (k - 1)) each records))
     ∙ ap (λ (n : ℕ). flat_map (record_bytes version) (take n (drop (n * (k - 1)) records))) as_many
     ∙ sym (sector_of_records version records extents k (k - 1) (omega arith) (omega arith))
 
-pub wrote_extents : (version : ℕ) (records : List (Option Record)) (extents : List (Option Owned)) (k beyond : ℕ) (bytes : List ℕ) → beyond ≡ 1 + record_sectors version → beyond ≤ k
-    → bytes ≡ flat_map owner_bytes (take (128 * (k - beyond) + 128 - 128 * (k - beyond)) (drop (128 * (k - beyond)) extents)) → bytes ≡ sector_of version records extents k
+pub wrote_extents : (version : ℕ) (records : List (Option Record)) (extents : List (Option Owned)) (k beyond : ℕ) (bytes : List ℕ)
+    → beyond ≡ 1 + record_sectors version → beyond ≤ k
+    → bytes ≡ flat_map owner_bytes (take (128 * (k - beyond) + 128 - 128 * (k - beyond)) (drop (128 * (k - beyond)) extents))
+    → bytes ≡ sector_of version records extents k
 unfolding extent_sector
 wrote_extents version records extents k beyond bytes place past is =
     is ∙ ap (flat_map owner_bytes) (sym (cut (128 * (k - beyond)) 128 extents))
@@ -91,7 +99,8 @@ part_short version records at n short number within =
 abbrev pub Begin : (version : ℕ) → List (Option Record) → List (Option Owned) → List (List ℕ) → Type 0
 Begin version records extents sectors = take (table_length version) sectors ≡ spelling version records extents
 
-module _ (version : ℕ) (records : List (Option Record)) (extents : List (Option Owned)) (sectors : List (List ℕ)) (all_records : length records ≡ MOST_VOLUMES) (all_extents : length extents ≡ MOST_EXTENTS) where
+module _ (version : ℕ) (records : List (Option Record)) (extents : List (Option Owned)) (sectors : List (List ℕ)) (all_records : length records ≡ MOST_VOLUMES)
+    (all_extents : length extents ≡ MOST_EXTENTS) where
   some_each : 0 < records_a_sector version
   some_each = let some = (numbers_fit version).each in omega arith
 
@@ -101,12 +110,14 @@ module _ (version : ℕ) (records : List (Option Record)) (extents : List (Optio
   -- what is spelled is spelled cell by cell
   spelled_at : Begin version records extents sectors → (k : ℕ) → k < table_length version → get_or sectors k [] ≡ sector_of version records extents k
   spelled_at is k within =
-      sym (get_or-take (table_length version) sectors k [] within) ∙ ap (λ (xs : List (List ℕ)). get_or xs k []) is ∙ spelling_at version records extents k within
+      sym (get_or-take (table_length version) sectors k [] within) ∙ ap (λ (xs : List (List ℕ)). get_or xs k []) is
+      ∙ spelling_at version records extents k within
 
   pub spelled_first : Begin version records extents sectors → get_or sectors 0 [] ≡ first_sector version
   spelled_first is = spelled_at is 0 (let long = table_length_is version in omega arith)
 
-  pub spelled_records : ((number : ℕ) → IsShort version (record_of records number)) → Begin version records extents sectors → SpellRecords version sectors records
+  pub spelled_records : ((number : ℕ) → IsShort version (record_of records number)) → Begin version records extents sectors
+      → SpellRecords version sectors records
   unfolding record_sector
   spelled_records short is number below =
       cells_of_sectors (record_bytes version) (record_width version) None (records_a_sector version) 1 (record_sectors version) some_each sectors records enough
@@ -119,10 +130,12 @@ module _ (version : ℕ) (records : List (Option Record)) (extents : List (Optio
   spelled_extents is =
       cells_of_sectors owner_bytes 4 None 128 (1 + record_sectors version) 8 (omega arith) sectors extents (omega (arith, all_extents))
       (λ i within. length-owner_bytes (get_or extents i None))
-      (λ s within. spelled_at is (1 + record_sectors version + s) (let long = table_length_is version in omega arith) ∙ sector_of_extents version records extents (1 + record_sectors version + s) s refl)
+      (λ s within. spelled_at is (1 + record_sectors version + s) (let long = table_length_is version in omega arith)
+      ∙ sector_of_extents version records extents (1 + record_sectors version + s) s refl)
 
   -- what is spelled cell by cell is spelled
-  pub spelled_by : table_length version ≤ length sectors → ((k : ℕ) → k < table_length version → length (get_or sectors k []) ≡ 512) → get_or sectors 0 [] ≡ first_sector version
+  pub spelled_by : table_length version ≤ length sectors → ((k : ℕ) → k < table_length version → length (get_or sectors k []) ≡ 512)
+      → get_or sectors 0 [] ≡ first_sector version
       → SpellRecords version sectors records → SpellExtents version sectors extents → Begin version records extents sectors
   unfolding record_sector extent_sector
   spelled_by enough_sectors long first by_record by_extent =
@@ -130,7 +143,8 @@ module _ (version : ℕ) (records : List (Option Record)) (extents : List (Optio
       (λ k within. get_or-take (table_length version) sectors k [] within ∙ each k within)
     where
       record_part : (s : ℕ) → s < record_sectors version → get_or sectors (1 + s) [] ≡ record_sector version records s
-      record_part = sectors_of_cells (record_bytes version) (record_width version) None (records_a_sector version) 1 (record_sectors version) some_each sectors records enough
+      record_part = sectors_of_cells (record_bytes version) (record_width version) None (records_a_sector version) 1 (record_sectors version) some_each sectors
+          records enough
           (λ s below. long (1 + s) (let all = table_length_is version in omega arith) ∙ sym (width_all version))
           (λ number below. by_record number (omega (arith, records_all version)))
 
@@ -163,42 +177,52 @@ room_of records extents table number owner at =
     let most = extents_most (record_of records owner.volume) in
     let long = table.all_records in
     record {
-      volume = ⊎_elim (λ below. omega arith) (λ beyond. absurd (let none : extents_of EXTENT_SECTORS (record_of records owner.volume) ≡ 0 = ap (extents_of EXTENT_SECTORS) (get_or_past records owner.volume None (omega arith)) in omega arith)) (cases_lt owner.volume MOST_VOLUMES);
+      volume = ⊎_elim (λ below. omega arith) (λ beyond. absurd (let none : extents_of EXTENT_SECTORS (record_of records owner.volume) ≡ 0 =
+          ap (extents_of EXTENT_SECTORS) (get_or_past records owner.volume None (omega arith)) in omega arith)) (cases_lt owner.volume MOST_VOLUMES);
       place = omega arith;
     }
 
-pub table_room : {version : ℕ} (records : List (Option Record)) (extents : List (Option Owned)) → ∥ IsVolumeTable version records extents ∥₁ → OwnersHaveRoom extents
+pub table_room : {version : ℕ} (records : List (Option Record)) (extents : List (Option Owned)) → ∥ IsVolumeTable version records extents ∥₁
+    → OwnersHaveRoom extents
 table_room records extents table = ∥∥₁_elim table (hlevel props) (room_of records extents)
 
-pub table_all_records : {version : ℕ} (records : List (Option Record)) (extents : List (Option Owned)) → ∥ IsVolumeTable version records extents ∥₁ → length records ≡ MOST_VOLUMES
+pub table_all_records : {version : ℕ} (records : List (Option Record)) (extents : List (Option Owned)) → ∥ IsVolumeTable version records extents ∥₁
+    → length records ≡ MOST_VOLUMES
 table_all_records records extents table = ∥∥₁_elim table (hlevel props) (λ one. one.all_records)
 
-pub table_all_extents : {version : ℕ} (records : List (Option Record)) (extents : List (Option Owned)) → ∥ IsVolumeTable version records extents ∥₁ → length extents ≡ MOST_EXTENTS
+pub table_all_extents : {version : ℕ} (records : List (Option Record)) (extents : List (Option Owned)) → ∥ IsVolumeTable version records extents ∥₁
+    → length extents ≡ MOST_EXTENTS
 table_all_extents records extents table = ∥∥₁_elim table (hlevel props) (λ one. one.all_extents)
 
-pub table_version : {version : ℕ} (records : List (Option Record)) (extents : List (Option Owned)) → ∥ IsVolumeTable version records extents ∥₁ → IsVersion version
+pub table_version : {version : ℕ} (records : List (Option Record)) (extents : List (Option Owned)) → ∥ IsVolumeTable version records extents ∥₁
+    → IsVersion version
 table_version records extents table = ∥∥₁_elim table (hlevel props) (λ one. one.is_version)
 
-pub table_short : {version : ℕ} (records : List (Option Record)) (extents : List (Option Owned)) → ∥ IsVolumeTable version records extents ∥₁ → (volume : ℕ) → IsShort version (record_of records volume)
+pub table_short : {version : ℕ} (records : List (Option Record)) (extents : List (Option Owned)) → ∥ IsVolumeTable version records extents ∥₁ → (volume : ℕ)
+    → IsShort version (record_of records volume)
 table_short records extents table = ∥∥₁_elim table (hlevel props) (λ one. one.of_version.short)
 
 is_none_none : {X : Type 0} (one : Option X) → is_none one ≡ true → one ≡ None
 is_none_none None none = refl
 is_none_none (Some x) none = absurd (let no : ⊥ = cc in no)
 
-none_said : {version : ℕ} (records : List (Option Record)) (extents : List (Option Owned)) → IsVolumeTable version records extents → (volume : ℕ) → most_volumes version ≤ volume
+none_said : {version : ℕ} (records : List (Option Record)) (extents : List (Option Owned)) → IsVolumeTable version records extents → (volume : ℕ)
+    → most_volumes version ≤ volume
     → is_none (record_of records volume) ≡ true
 none_said records extents table volume past = ap is_none (table.of_version.few volume past)
 
-pub table_few : {version : ℕ} (records : List (Option Record)) (extents : List (Option Owned)) → ∥ IsVolumeTable version records extents ∥₁ → (volume : ℕ) → most_volumes version ≤ volume
+pub table_few : {version : ℕ} (records : List (Option Record)) (extents : List (Option Owned)) → ∥ IsVolumeTable version records extents ∥₁ → (volume : ℕ)
+    → most_volumes version ≤ volume
     → record_of records volume ≡ None
-table_few records extents table volume past = is_none_none (record_of records volume) (∥∥₁_elim table (hlevel props) (λ one. none_said records extents one volume past))
+table_few records extents table volume past = is_none_none (record_of records volume)
+    (∥∥₁_elim table (hlevel props) (λ one. none_said records extents one volume past))
 
 -- ---- what the sectors of a table spell
 
 pub table_first : (sectors : List (List ℕ)) (table : VolumeTable) → Spell sectors table → get_or sectors 0 [] ≡ first_sector table.version
 table_first sectors table is =
-    spelled_first table.version table.records table.extents sectors (table_all_records table.records table.extents table.is_table) (table_all_extents table.records table.extents table.is_table) is
+    spelled_first table.version table.records table.extents sectors (table_all_records table.records table.extents table.is_table)
+    (table_all_extents table.records table.extents table.is_table) is
 
 -- what was read of the first sector is the version
 pub version_of_table : (sectors : List (List ℕ)) (table : VolumeTable) (read : Option ℕ)
@@ -207,12 +231,14 @@ version_of_table sectors table read exact is = exact table.version (table_versio
 
 pub table_records : (sectors : List (List ℕ)) (table : VolumeTable) → Spell sectors table → SpellRecords table.version sectors table.records
 table_records sectors table is =
-    spelled_records table.version table.records table.extents sectors (table_all_records table.records table.extents table.is_table) (table_all_extents table.records table.extents table.is_table)
+    spelled_records table.version table.records table.extents sectors (table_all_records table.records table.extents table.is_table)
+    (table_all_extents table.records table.extents table.is_table)
     (table_short table.records table.extents table.is_table) is
 
 pub table_extents : (sectors : List (List ℕ)) (table : VolumeTable) → Spell sectors table → SpellExtents table.version sectors table.extents
 table_extents sectors table is =
-    spelled_extents table.version table.records table.extents sectors (table_all_records table.records table.extents table.is_table) (table_all_extents table.records table.extents table.is_table) is
+    spelled_extents table.version table.records table.extents sectors (table_all_records table.records table.extents table.is_table)
+    (table_all_extents table.records table.extents table.is_table) is
 
 pub table_records_at : (sectors : List (List ℕ)) (table : VolumeTable) → Spell sectors table → AreRecordsAt table.version sectors table.records
 table_records_at sectors table is number within = record {
@@ -223,20 +249,26 @@ table_records_at sectors table is number within = record {
 
 -- what was read of a table's sectors is the table's
 pub read_of_table : (sectors : List (List ℕ)) (table : VolumeTable) (version : ℕ) (read : Option (List (Option Record))) → version ≡ table.version
-    → ((records : List (Option Record)) → length records ≡ MOST_VOLUMES → AreRecordsAt version sectors records → read ≡ Some records) → Spell sectors table → read ≡ Some table.records
+    → ((records : List (Option Record)) → length records ≡ MOST_VOLUMES → AreRecordsAt version sectors records → read ≡ Some records) → Spell sectors table
+    → read ≡ Some table.records
 read_of_table sectors table version read same exact is =
-    exact table.records (table_all_records table.records table.extents table.is_table) (subst (λ (v : ℕ). AreRecordsAt v sectors table.records) (sym same) (table_records_at sectors table is))
+    exact table.records (table_all_records table.records table.extents table.is_table)
+    (subst (λ (v : ℕ). AreRecordsAt v sectors table.records) (sym same) (table_records_at sectors table is))
 
 pub owners_of_table : (sectors : List (List ℕ)) (table : VolumeTable) (version : ℕ) (read : Option (List (Option Owned))) → version ≡ table.version
-    → ((extents : List (Option Owned)) → length extents ≡ MOST_EXTENTS → OwnersHaveRoom extents → SpellExtents version sectors extents → read ≡ Some extents) → Spell sectors table → read ≡ Some table.extents
+    → ((extents : List (Option Owned)) → length extents ≡ MOST_EXTENTS → OwnersHaveRoom extents → SpellExtents version sectors extents → read ≡ Some extents)
+    → Spell sectors table → read ≡ Some table.extents
 owners_of_table sectors table version read same exact is =
     exact table.extents (table_all_extents table.records table.extents table.is_table) (table_room table.records table.extents table.is_table)
     (subst (λ (v : ℕ). SpellExtents v sectors table.extents) (sym same) (table_extents sectors table is))
 
 -- what was read is of its version
-pub read_of_version : (version : ℕ) (sectors : List (List ℕ)) (records : List (Option Record)) → length records ≡ MOST_VOLUMES → AreRecordsAt version sectors records → AreOfVersion version records
-read_of_version version sectors records long read = all_of_version version records long (λ volume below past. (read volume below).few past) (λ volume below. (read volume below).short)
+pub read_of_version : (version : ℕ) (sectors : List (List ℕ)) (records : List (Option Record)) → length records ≡ MOST_VOLUMES
+    → AreRecordsAt version sectors records → AreOfVersion version records
+read_of_version version sectors records long read = all_of_version version records long (λ volume below past. (read volume below).few past)
+    (λ volume below. (read volume below).short)
 
 -- what was read is spelled
-pub read_is_spelled : (version : ℕ) (sectors : List (List ℕ)) (records : List (Option Record)) → AreRecordsAt version sectors records → SpellRecords version sectors records
+pub read_is_spelled : (version : ℕ) (sectors : List (List ℕ)) (records : List (Option Record)) → AreRecordsAt version sectors records
+    → SpellRecords version sectors records
 read_is_spelled version sectors records read number below = (read number (let most = (numbers_fit version).volumes in omega arith)).spelled below

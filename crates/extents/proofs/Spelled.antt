@@ -1,5 +1,6 @@
 -- Records and owners, field by field.
-use Rattle.std.proofs.Common.{◌≡◌, ℕ, zero, suc, ◌+◌, ◌-◌, ◌^◌, ◌<◌, ◌≤◌, List, [], ◌∷◌, ◌++◌, Option, Some, None, length, take, drop, set, get_or, refl, sym, ap, ◌∙◌, append_assoc, arith}
+use Rattle.std.proofs.Common.{◌≡◌, ℕ, zero, suc, ◌+◌, ◌-◌, ◌^◌, ◌<◌, ◌≤◌, List, [], ◌∷◌, ◌++◌, Option, Some, None, length, take, drop, set, get_or, refl, sym}
+use Rattle.std.proofs.Common.{ap, ◌∙◌, append_assoc, arith}
 use Rattle.std.proofs.lemmas.List.{length-append, length-take, length-drop, take_at, take_all, drop_at, drop_all, append-nil}
 use borrow.Rule.Slice.PartMut.{put_mid}
 use Rattle.byteorder.specs.Endian.{little_bytes, little_number}
@@ -35,12 +36,18 @@ abbrev pub FitsName : ℕ → Record → Type 0
 FitsName version used = length used.name.bytes.items ≤ most_name_bytes version
 
 length-front : (version : ℕ) (used : Record) → FitsName version used
-    → length (((length used.name.bytes.items ∷ []) ++ used.name.bytes.items) ++ zeros (blocks_at version - (1 + length used.name.bytes.items))) ≡ blocks_at version
+    → length (((length used.name.bytes.items ∷ []) ++ used.name.bytes.items) ++ zeros (blocks_at version - (1 + length used.name.bytes.items))) ≡ blocks_at
+    version
 length-front version used short =
     let name = used.name.bytes.items in
     let first = length name ∷ [] in
     let fits = (numbers_fit version).name in
-    omega (arith, length-append first name, length-append (first ++ name) (zeros (blocks_at version - (1 + length name))), length-zeros (blocks_at version - (1 + length name)))
+    omega (
+      arith,
+      length-append first name,
+      length-append (first ++ name) (zeros (blocks_at version - (1 + length name))),
+      length-zeros (blocks_at version - (1 + length name)),
+    )
 
 pub length-used_bytes : (version : ℕ) (used : Record) → FitsName version used → length (used_bytes version used) ≡ record_width version
 unfolding used_bytes
@@ -58,7 +65,8 @@ length-used_bytes version used short =
     )
 
 -- what is written field by field over zeros
-pub used_spelled : (version : ℕ) (used : Record) (start number : List ℕ) (n : ℕ) → FitsName version used → start ≡ zeros (record_width version) → length used.name.bytes.items ≡ n
+pub used_spelled : (version : ℕ) (used : Record) (start number : List ℕ) (n : ℕ) → FitsName version used → start ≡ zeros (record_width version)
+    → length used.name.bytes.items ≡ n
     → number ≡ little_bytes 4 used.blocks → put_mid (blocks_at version) 4 (put_mid 1 n (set start 0 n) used.name.bytes.items) number ≡ used_bytes version used
 unfolding used_bytes
 used_spelled version used start number n short clear name_long is =
@@ -76,12 +84,15 @@ used_spelled version used start number n short clear name_long is =
     let number_long : length number ≡ 4 = ap length is ∙ length-little_bytes 4 used.blocks in
     let long2 : length with_blocks ≡ at + 4 = omega (arith, length-append with_rest number) in
     let begun : set start 0 n ≡ started size first =
-    ap (set start 0) (sym name_long) ∙ set_first start (length name) (omega (arith, ap length clear, length-zeros size)) ∙ started_more size 0 1 [] first start refl refl (omega arith) (clear ∙ started_none size) in
-    let named : put_mid 1 n (set start 0 n) name ≡ started size with_name = started_more size 1 n first name (set start 0 n) refl name_long (omega arith) begun in
+    ap (set start 0) (sym name_long) ∙ set_first start (length name) (omega (arith, ap length clear, length-zeros size))
+    ∙ started_more size 0 1 [] first start refl refl (omega arith) (clear ∙ started_none size) in
+    let named : put_mid 1 n (set start 0 n) name ≡ started size with_name =
+    started_more size 1 n first name (set start 0 n) refl name_long (omega arith) begun in
     let padded : put_mid 1 n (set start 0 n) name ≡ started size with_rest = named ∙ started_zeros size (at - (1 + length name)) with_name (omega arith) in
     started_more size at 4 with_rest number (put_mid 1 n (set start 0 n) name) long1 number_long (omega arith) padded
     ∙ started_zeros size (size - (at + 4)) with_blocks (omega arith)
-    ∙ started_all size (with_blocks ++ zeros (size - (at + 4))) (omega (arith, length-append with_blocks (zeros (size - (at + 4))), length-zeros (size - (at + 4))))
+    ∙ started_all size (with_blocks ++ zeros (size - (at + 4)))
+    (omega (arith, length-append with_blocks (zeros (size - (at + 4))), length-zeros (size - (at + 4))))
     ∙ ap (λ (xs : List ℕ). (with_rest ++ xs) ++ zeros (size - (at + 4))) is
 
 -- the bytes of a record in use, its length first
@@ -95,9 +106,11 @@ pub used_first : (version : ℕ) (used : Record) → get_or (used_bytes version 
 used_first version used = ap (λ (xs : List ℕ). get_or xs 0 0) (grouped version used).1
 
 pub used_name : (version : ℕ) (used : Record) (n : ℕ) → length used.name.bytes.items ≡ n → take n (drop 1 (used_bytes version used)) ≡ used.name.bytes.items
-used_name version used n long = ap (λ (xs : List ℕ). take n (drop 1 xs)) (grouped version used).1 ∙ take_at used.name.bytes.items (grouped version used).0 n long
+used_name version used n long = ap (λ (xs : List ℕ). take n (drop 1 xs)) (grouped version used).1
+    ∙ take_at used.name.bytes.items (grouped version used).0 n long
 
-pub used_number : (version : ℕ) (used : Record) → FitsName version used → little_number 4 (take 4 (drop (blocks_at version) (used_bytes version used))) ≡ used.blocks
+pub used_number : (version : ℕ) (used : Record) → FitsName version used
+    → little_number 4 (take 4 (drop (blocks_at version) (used_bytes version used))) ≡ used.blocks
 unfolding used_bytes
 used_number version used short =
     let name = used.name.bytes.items in
@@ -121,14 +134,17 @@ length-record_bytes version (Some used) short = length-used_bytes version used (
 record_first : (version : ℕ) (from : List ℕ) (used : Record) → from ≡ used_bytes version used → get_or from 0 0 ≡ length used.name.bytes.items
 record_first version from used is = ap (λ (xs : List ℕ). get_or xs 0 0) is ∙ used_first version used
 
-pub length_read : (version : ℕ) (from : List ℕ) (used : Record) → FitsName version used → from ≡ used_bytes version used → get_or from 0 0 ≤ most_name_bytes version
+pub length_read : (version : ℕ) (from : List ℕ) (used : Record) → FitsName version used → from ≡ used_bytes version used
+    → get_or from 0 0 ≤ most_name_bytes version
 length_read version from used short is = let first = record_first version from used is in omega arith
 
-pub name_read : (version : ℕ) (from : List ℕ) (used : Record) (n k : ℕ) → from ≡ used_bytes version used → n ≡ get_or from 0 0 → k ≡ n → take k (drop 1 from) ≡ used.name.bytes.items
+pub name_read : (version : ℕ) (from : List ℕ) (used : Record) (n k : ℕ) → from ≡ used_bytes version used → n ≡ get_or from 0 0 → k ≡ n
+    → take k (drop 1 from) ≡ used.name.bytes.items
 name_read version from used n k is read same =
     ap (λ (xs : List ℕ). take k (drop 1 xs)) is ∙ used_name version used k (sym (record_first version from used is) ∙ sym read ∙ sym same)
 
-pub blocks_read : (version : ℕ) (from : List ℕ) (used : Record) → FitsName version used → from ≡ used_bytes version used → little_number 4 (take 4 (drop (blocks_at version) from)) ≡ used.blocks
+pub blocks_read : (version : ℕ) (from : List ℕ) (used : Record) → FitsName version used → from ≡ used_bytes version used
+    → little_number 4 (take 4 (drop (blocks_at version) from)) ≡ used.blocks
 blocks_read version from used short is = ap (λ (xs : List ℕ). little_number 4 (take 4 (drop (blocks_at version) xs))) is ∙ used_number version used short
 
 -- so they are read from their place to that and four more
@@ -158,7 +174,12 @@ in_use version from (Some used) short is other = (used, refl, short used refl, i
 pub length-owner_bytes : (owner : Option Owned) → length (owner_bytes owner) ≡ 4
 unfolding owner_bytes
 length-owner_bytes None = length-zeros 4
-length-owner_bytes (Some owner) = omega (arith, length-append (little_bytes 2 (owner.volume + 1)) (little_bytes 2 owner.place), length-little_bytes 2 (owner.volume + 1), length-little_bytes 2 owner.place)
+length-owner_bytes (Some owner) = omega (
+  arith,
+  length-append (little_bytes 2 (owner.volume + 1)) (little_bytes 2 owner.place),
+  length-little_bytes 2 (owner.volume + 1),
+  length-little_bytes 2 owner.place,
+)
 
 -- bytes that spell a free extent have the number 0
 pub number_of_zeros : little_number 2 (take 2 (owner_bytes None)) ≡ 0
@@ -181,10 +202,12 @@ place_of_owner one room =
 
 pub free_read : (from : List ℕ) (owner : Option Owned) → OwnerHasRoom owner → from ≡ owner_bytes owner → little_number 2 (take 2 from) ≡ 0 → owner ≡ None
 free_read from None room is none = refl
-free_read from (Some one) room is none = absurd (let number = ap (λ (xs : List ℕ). little_number 2 (take 2 xs)) is ∙ number_of_owner one (room one refl).volume in omega arith)
+free_read from (Some one) room is none = absurd (let number = ap (λ (xs : List ℕ). little_number 2 (take 2 xs)) is
+    ∙ number_of_owner one (room one refl).volume in omega arith)
 
 pub owner_read : (from : List ℕ) (owner : Option Owned) → OwnerHasRoom owner → from ≡ owner_bytes owner → (little_number 2 (take 2 from) ≡ 0 → ⊥)
-    → (one : Owned) × (owner ≡ Some one) × (one.volume < 256) × (little_number 2 (take 2 from) ≡ one.volume + 1) × (little_number 2 (take 2 (drop 2 from)) ≡ one.place)
+    → (one : Owned) × (owner ≡ Some one) × (one.volume < 256) × (little_number 2 (take 2 from) ≡ one.volume + 1)
+    × (little_number 2 (take 2 (drop 2 from)) ≡ one.place)
 owner_read from None room is some = absurd (some (ap (λ (xs : List ℕ). little_number 2 (take 2 xs)) is ∙ number_of_zeros))
 owner_read from (Some one) room is some = (
   one,
@@ -205,7 +228,8 @@ owner_spelled one bytes first second long first_is second_is =
     let first_long : length first ≡ 2 = ap length first_is ∙ length-little_bytes 2 (one.volume + 1) in
     let all = first ++ drop 2 bytes in
     let front : take 2 all ≡ first = take_at first (drop 2 bytes) 2 first_long in
-    let none : drop 2 (drop 2 all) ≡ [] = ap (drop 2) (drop_at first (drop 2 bytes) 2 first_long) ∙ drop_all 2 (drop 2 bytes) (omega (arith, length-drop 2 bytes)) in
+    let none : drop 2 (drop 2 all) ≡ [] = ap (drop 2) (drop_at first (drop 2 bytes) 2 first_long)
+    ∙ drop_all 2 (drop 2 bytes) (omega (arith, length-drop 2 bytes)) in
     ap (λ (xs : List ℕ). xs ++ (second ++ drop 2 (drop 2 all))) front
     ∙ ap (λ (xs : List ℕ). first ++ (second ++ xs)) none
     ∙ ap (λ (xs : List ℕ). first ++ xs) (append-nil second ∙ second_is)

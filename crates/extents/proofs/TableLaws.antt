@@ -1,5 +1,6 @@
 -- What holds of the spelling of every table of volumes.
-use Rattle.std.proofs.Common.{◌≡◌, ℕ, zero, suc, ◌+◌, ◌-◌, ◌*◌, ◌/◌, ◌%◌, ◌<◌, ◌≤◌, List, [], Option, Some, None, length, take, take_all, drop, get_or, replicate, refl, sym, ap, ◌∙◌, subst, ⊎_elim, arith}
+use Rattle.std.proofs.Common.{◌≡◌, ℕ, zero, suc, ◌+◌, ◌-◌, ◌*◌, ◌/◌, ◌%◌, ◌<◌, ◌≤◌, List, [], Option, Some, None, length, take, take_all, drop, get_or}
+use Rattle.std.proofs.Common.{replicate, refl, sym, ap, ◌∙◌, subst, ⊎_elim, arith}
 use Rattle.std.proofs.lemmas.Bool.{cases_lt}
 use Rattle.std.proofs.lemmas.List.{length-replicate, take-replicate, get_or-replicate, get_or_past, ext_get_or}
 use Rattle.std.proofs.lemmas.Nat.{div_below, mod_below}
@@ -16,21 +17,25 @@ use Rattle.extents.specs.VolumeTables.{record_of, extents_of, IsShort, IsVolumeT
 use Rattle.extents.proofs.Bytes.{length-zeros, drop-zeros}
 use Rattle.extents.proofs.Cells.{length-cells_of}
 use Rattle.extents.proofs.Same.{same_record, same_table}
-use Rattle.extents.proofs.Sectors.{spelling_at, length-spelling, sector_of_records, sector_of_extents, spelled_by, table_first, table_records, table_extents, table_room, table_version, table_short, table_few, table_all_records, table_all_extents}
+use Rattle.extents.proofs.Sectors.{spelling_at, length-spelling, sector_of_records, sector_of_extents, spelled_by, table_first, table_records, table_extents}
+use Rattle.extents.proofs.Sectors.{table_room, table_version, table_short, table_few, table_all_records, table_all_extents}
 use Rattle.extents.proofs.FirstSectors.{first_byte, length-first_sector}
 use Rattle.extents.proofs.Versions.{numbers_fit, width_all, records_all, cell_room, table_length_is}
-use Rattle.extents.proofs.Spelled.{length-record_bytes, length-owner_bytes, not_used, name_read, blocks_read, first_of_zeros, free_read, number_of_zeros, number_of_owner, place_of_owner, same_owner}
+use Rattle.extents.proofs.Spelled.{length-record_bytes, length-owner_bytes, not_used, name_read, blocks_read, first_of_zeros, free_read, number_of_zeros}
+use Rattle.extents.proofs.Spelled.{number_of_owner, place_of_owner, same_owner}
 use Rattle.extents.proofs.Tables.{table_from}
 use Rattle.extents.specs.declared.volume_table.TheConstants.{MOST_VOLUMES}
 use Rattle.layout_map.specs.declared.sizes.TheConstants.{EXTENT_SECTORS, MOST_EXTENTS}
 
 -- ---- a table fills the sectors of its version
 
-length-record_sector : (version : ℕ) (records : List (Option Record)) (s : ℕ) → length records ≡ MOST_VOLUMES → ((volume : ℕ) → IsShort version (record_of records volume)) → s < record_sectors version
+length-record_sector : (version : ℕ) (records : List (Option Record)) (s : ℕ) → length records ≡ MOST_VOLUMES
+    → ((volume : ℕ) → IsShort version (record_of records volume)) → s < record_sectors version
     → length (record_sector version records s) ≡ 512
 unfolding record_sector
 length-record_sector version records s long short below =
-    length-cells_of (record_bytes version) (record_width version) None (records_a_sector version) 1 (record_sectors version) (let some = (numbers_fit version).each in omega arith) [] records
+    length-cells_of (record_bytes version) (record_width version) None (records_a_sector version) 1 (record_sectors version)
+    (let some = (numbers_fit version).each in omega arith) [] records
     (omega (arith, records_all version, (numbers_fit version).volumes, long)) (λ i within. length-record_bytes version (record_of records i) (short i)) s below
     ∙ width_all version
 
@@ -39,15 +44,18 @@ unfolding extent_sector
 length-extent_sector extents s long below =
     length-cells_of owner_bytes 4 None 128 1 8 (omega arith) [] extents (omega (arith, long)) (λ i within. length-owner_bytes (owner_of extents i)) s below
 
-pub length-sector_of : (version : ℕ) (records : List (Option Record)) (extents : List (Option Owned)) (k : ℕ) → length records ≡ MOST_VOLUMES → length extents ≡ MOST_EXTENTS
+pub length-sector_of : (version : ℕ) (records : List (Option Record)) (extents : List (Option Owned)) (k : ℕ) → length records ≡ MOST_VOLUMES
+    → length extents ≡ MOST_EXTENTS
     → ((volume : ℕ) → IsShort version (record_of records volume)) → k < table_length version → length (sector_of version records extents k) ≡ 512
 length-sector_of version records extents zero all_records all_extents short below = length-first_sector version
 length-sector_of version records extents (suc k) all_records all_extents short below =
     let all = table_length_is version in
     ⊎_elim
-    (λ (small : k < record_sectors version). ap length (sector_of_records version records extents (suc k) k (omega arith) small) ∙ length-record_sector version records k all_records short small)
+    (λ (small : k < record_sectors version). ap length (sector_of_records version records extents (suc k) k (omega arith) small)
+    ∙ length-record_sector version records k all_records short small)
     (λ (large : record_sectors version ≤ k).
-    ap length (sector_of_extents version records extents (suc k) (k - record_sectors version) (omega arith)) ∙ length-extent_sector extents (k - record_sectors version) all_extents (omega arith))
+    ap length (sector_of_extents version records extents (suc k) (k - record_sectors version) (omega arith))
+    ∙ length-extent_sector extents (k - record_sectors version) all_extents (omega arith))
     (cases_lt k (record_sectors version))
 
 pub fills : (table : VolumeTable) → (length (table_sectors table) ≡ table_length table.version)
@@ -57,13 +65,15 @@ fills table =
     let all_extents = table_all_extents table.records table.extents table.is_table in
     let short = table_short table.records table.extents table.is_table in (
       length-spelling table.version table.records table.extents,
-      λ number below. ap length (spelling_at table.version table.records table.extents number below) ∙ length-sector_of table.version table.records table.extents number all_records all_extents short below,
+      λ number below. ap length (spelling_at table.version table.records table.extents number below)
+          ∙ length-sector_of table.version table.records table.extents number all_records all_extents short below,
     )
 
 -- ---- sectors spell one table
 
 -- bytes spell one record of a version
-one_record : (version : ℕ) (bytes : List ℕ) (first second : Option Record) → IsShort version first → IsShort version second → bytes ≡ record_bytes version first → bytes ≡ record_bytes version second
+one_record : (version : ℕ) (bytes : List ℕ) (first second : Option Record) → IsShort version first → IsShort version second → bytes ≡ record_bytes version first
+    → bytes ≡ record_bytes version second
     → first ≡ second
 one_record version bytes None second short other_short is_first is_second =
     sym (not_used version bytes second is_second (ap (λ (xs : List ℕ). get_or xs 0 0) is_first ∙ first_of_zeros (record_width version)))
@@ -76,15 +86,20 @@ one_record version bytes (Some used) (Some other) short other_short is_first is_
     (sym (blocks_read version bytes used (short used refl) is_first) ∙ blocks_read version bytes other (other_short other refl) is_second))
 
 -- 4 bytes spell one owner
-one_owner : (bytes : List ℕ) (first second : Option Owned) → OwnerHasRoom first → OwnerHasRoom second → bytes ≡ owner_bytes first → bytes ≡ owner_bytes second → first ≡ second
-one_owner bytes None second room other_room is_first is_second = sym (free_read bytes second other_room is_second (ap (λ (xs : List ℕ). little_number 2 (take 2 xs)) is_first ∙ number_of_zeros))
-one_owner bytes (Some one) None room other_room is_first is_second = free_read bytes (Some one) room is_first (ap (λ (xs : List ℕ). little_number 2 (take 2 xs)) is_second ∙ number_of_zeros)
+one_owner : (bytes : List ℕ) (first second : Option Owned) → OwnerHasRoom first → OwnerHasRoom second → bytes ≡ owner_bytes first → bytes ≡ owner_bytes second
+    → first ≡ second
+one_owner bytes None second room other_room is_first is_second =
+    sym (free_read bytes second other_room is_second (ap (λ (xs : List ℕ). little_number 2 (take 2 xs)) is_first ∙ number_of_zeros))
+one_owner bytes (Some one) None room other_room is_first is_second =
+    free_read bytes (Some one) room is_first (ap (λ (xs : List ℕ). little_number 2 (take 2 xs)) is_second ∙ number_of_zeros)
 one_owner bytes (Some one) (Some other) room other_room is_first is_second =
     let both : owner_bytes (Some one) ≡ owner_bytes (Some other) = sym is_first ∙ is_second in
     let numbers : one.volume + 1 ≡ other.volume + 1 =
-    sym (number_of_owner one (room one refl).volume) ∙ ap (λ (xs : List ℕ). little_number 2 (take 2 xs)) both ∙ number_of_owner other (other_room other refl).volume in
+    sym (number_of_owner one (room one refl).volume) ∙ ap (λ (xs : List ℕ). little_number 2 (take 2 xs)) both
+    ∙ number_of_owner other (other_room other refl).volume in
     let places : one.place ≡ other.place =
-    sym (place_of_owner one (room one refl).place) ∙ ap (λ (xs : List ℕ). little_number 2 (take 2 (drop 2 xs))) both ∙ place_of_owner other (other_room other refl).place in
+    sym (place_of_owner one (room one refl).place) ∙ ap (λ (xs : List ℕ). little_number 2 (take 2 (drop 2 xs))) both
+    ∙ place_of_owner other (other_room other refl).place in
     ap Some (same_owner one other (omega arith) places)
 
 -- the first sector is of one version
@@ -102,10 +117,12 @@ one_table sectors first second is_first is_second =
     same_table first second same_version
     (ext_get_or None first.records second.records (records_long ∙ sym other_records_long) (λ k within. ⊎_elim
     (λ (below : k < most_volumes first.version).
-    one_record first.version (cell (record_width first.version) (records_a_sector first.version) 1 sectors k) (record_of first.records k) (record_of second.records k)
+    one_record first.version (cell (record_width first.version) (records_a_sector first.version) 1 sectors k) (record_of first.records k)
+    (record_of second.records k)
     (table_short first.records first.extents first.is_table k) (other_short k)
     (table_records sectors first is_first k below) (spelled k below))
-    (λ (past : most_volumes first.version ≤ k). table_few first.records first.extents first.is_table k past ∙ sym (table_few second.records second.extents second.is_table k (other_past k past)))
+    (λ (past : most_volumes first.version ≤ k). table_few first.records first.extents first.is_table k past
+    ∙ sym (table_few second.records second.extents second.is_table k (other_past k past)))
     (cases_lt k (most_volumes first.version))))
     (ext_get_or None first.extents second.extents (extents_long ∙ sym other_extents_long) (λ k within.
     one_owner (cell 4 128 (1 + record_sectors first.version) sectors k) (get_or first.extents k None) (get_or second.extents k None)
@@ -116,7 +133,8 @@ one_table sectors first second is_first is_second =
     same_version = one_version sectors first second is_first is_second
 
     other_short : (volume : ℕ) → IsShort first.version (record_of second.records volume)
-    other_short = subst (λ (v : ℕ). (volume : ℕ) → IsShort v (record_of second.records volume)) (sym same_version) (table_short second.records second.extents second.is_table)
+    other_short = subst (λ (v : ℕ). (volume : ℕ) → IsShort v (record_of second.records volume)) (sym same_version)
+        (table_short second.records second.extents second.is_table)
 
     spelled : SpellRecords first.version sectors second.records
     spelled = subst (λ (v : ℕ). SpellRecords v sectors second.records) (sym same_version) (table_records sectors second is_second)
@@ -169,7 +187,8 @@ cell_of_zeros width per first count number some within sectors room =
 zero_record : (number : ℕ) → number < most_volumes 1 → cell (record_width 1) (records_a_sector 1) 1 zero_sectors number ≡ zeros (record_width 1)
 zero_record number within =
     let all = table_length_is 1 in
-    cell_of_zeros (record_width 1) (records_a_sector 1) 1 (record_sectors 1) number (let some = (numbers_fit 1).each in omega arith) (omega (arith, records_all 1)) (omega arith)
+    cell_of_zeros (record_width 1) (records_a_sector 1) 1 (record_sectors 1) number (let some = (numbers_fit 1).each in omega arith)
+    (omega (arith, records_all 1)) (omega arith)
     (cell_room 1 number (record_width 1) (records_a_sector 1) refl refl)
 
 zero_owner : (number : ℕ) → number < MOST_EXTENTS → cell 4 128 (1 + record_sectors 1) zero_sectors number ≡ owner_bytes None
@@ -199,7 +218,8 @@ pub empty_is_zeros : (table : VolumeTable) → IsEmpty table → table_sectors t
 unfolding zero_sectors
 empty_is_zeros table empty =
     ap (λ (v : ℕ). spelling v table.records table.extents) empty.first_version
-    ∙ spelled_empty table.records table.extents (table_all_records table.records table.extents table.is_table) (table_all_extents table.records table.extents table.is_table) empty.no_record empty.all_free
+    ∙ spelled_empty table.records table.extents (table_all_records table.records table.extents table.is_table)
+    (table_all_extents table.records table.extents table.is_table) empty.no_record empty.all_free
 
 pub zeros_are_empty : (table : VolumeTable) → table_sectors table ≡ replicate (table_length 1) (zeros 512) → IsEmpty table
 unfolding zero_sectors
@@ -207,12 +227,14 @@ zeros_are_empty table is = record {
   first_version = first;
   no_record = λ volume. ⊎_elim
       (λ (within : volume < most_volumes 1).
-      one_record 1 (cell (record_width 1) (records_a_sector 1) 1 zero_sectors volume) (record_of table.records volume) None (short volume) (λ used none. absurd (let no : ⊥ = cc in no)) (spelled volume within) (zero_record volume within))
+      one_record 1 (cell (record_width 1) (records_a_sector 1) 1 zero_sectors volume) (record_of table.records volume) None (short volume)
+      (λ used none. absurd (let no : ⊥ = cc in no)) (spelled volume within) (zero_record volume within))
       (λ (past : most_volumes 1 ≤ volume). table_few table.records table.extents table.is_table volume (let same = ap most_volumes first in omega arith))
       (cases_lt volume (most_volumes 1));
   all_free = λ extent. ⊎_elim
       (λ (within : extent < MOST_EXTENTS).
-      one_owner (cell 4 128 (1 + record_sectors 1) zero_sectors extent) (owner_of table.extents extent) None (table_room table.records table.extents table.is_table extent) none_has_room (spelled_owners extent within) (zero_owner extent within))
+      one_owner (cell 4 128 (1 + record_sectors 1) zero_sectors extent) (owner_of table.extents extent) None
+      (table_room table.records table.extents table.is_table extent) none_has_room (spelled_owners extent within) (zero_owner extent within))
       (λ (past : MOST_EXTENTS ≤ extent). get_or_past table.extents extent None (omega (arith, extents_long)))
       (cases_lt extent MOST_EXTENTS);
 }
@@ -225,7 +247,8 @@ zeros_are_empty table is = record {
 
     first : table.version ≡ 1
     first =
-        let byte = first_byte (zeros 512) table.version (sym (zero_sector 0 (let all = table_length_is 1 in omega arith)) ∙ table_first zero_sectors table begin) in
+        let byte = first_byte (zeros 512) table.version
+        (sym (zero_sector 0 (let all = table_length_is 1 in omega arith)) ∙ table_first zero_sectors table begin) in
         let none = first_of_zeros 512 in
         let version = table_version table.records table.extents table.is_table in
         let some = version.0 in
@@ -248,7 +271,8 @@ zeros_are_empty table is = record {
 
 -- each of a list of Nones is None
 none_of : {X : Type 0} (none : Option X) (n k : ℕ) → get_or (replicate n none) k none ≡ none
-none_of none n k = ⊎_elim (λ (within : k < n). get_or-replicate n k none none within) (λ (past : n ≤ k). get_or_past (replicate n none) k none (omega (arith, length-replicate n none))) (cases_lt k n)
+none_of none n k = ⊎_elim (λ (within : k < n). get_or-replicate n k none none within)
+    (λ (past : n ≤ k). get_or_past (replicate n none) k none (omega (arith, length-replicate n none))) (cases_lt k n)
 
 unfoldable no_records : List (Option Record)
 no_records = replicate MOST_VOLUMES None
@@ -275,11 +299,21 @@ length-no_owners = length-replicate {A = Option Owned} MOST_EXTENTS None
 empty_table : IsVolumeTable 1 no_records no_owners
 empty_table =
     table_from 1 no_records no_owners (omega arith, omega arith)
-    (record { few = λ volume past. no_record_at volume; short = λ volume used is. absurd (let none : record_of no_records volume ≡ None = no_record_at volume in let no : ⊥ = cc in no); sized = λ volume used is. used.most })
+    (record {
+      few = λ volume past. no_record_at volume;
+      short =
+          λ volume used is. absurd (let none : record_of no_records volume ≡ None = no_record_at volume in let no : ⊥ = cc in no);
+      sized =
+          λ volume used is. used.most;
+    })
     length-no_records length-no_owners
     (λ i j first second at other same. absurd (let none : record_of no_records i ≡ None = no_record_at i in let no : ⊥ = cc in no))
     (λ extent owner at. absurd (let none : owner_of no_owners extent ≡ None = no_owner_at extent in let no : ⊥ = cc in no))
-    (λ volume below place within. absurd (let none : extents_of EXTENT_SECTORS (record_of no_records volume) ≡ 0 = ap (extents_of EXTENT_SECTORS) (no_record_at volume) in omega arith))
+    (λ volume below place within. absurd (let none : extents_of EXTENT_SECTORS (record_of no_records volume) ≡ 0 =
+    ap (extents_of EXTENT_SECTORS) (no_record_at volume) in omega arith))
 
 pub empty_exists : ∥ ((table : VolumeTable) × IsEmpty table) ∥₁
-empty_exists = ∣ (record { version = 1; records = no_records; extents = no_owners; is_table = ∣ empty_table ∣₁ }, record { first_version = refl; no_record = no_record_at; all_free = no_owner_at }) ∣₁
+empty_exists = ∣ (
+  record { version = 1; records = no_records; extents = no_owners; is_table = ∣ empty_table ∣₁ },
+  record { first_version = refl; no_record = no_record_at; all_free = no_owner_at },
+) ∣₁

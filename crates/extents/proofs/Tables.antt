@@ -18,11 +18,13 @@ use Rattle.layout_map.specs.declared.sizes.TheConstants.{EXTENT_SECTORS, MOST_EX
 use Rattle.extents.specs.declared.volume_table.TheConstants.{MOST_VOLUMES}
 
 -- a record after the last takes no extent
-none_beyond_end : (records : List (Option Record)) (volume : ℕ) → length records ≡ MOST_VOLUMES → MOST_VOLUMES ≤ volume → extents_of EXTENT_SECTORS (record_of records volume) ≡ 0
+none_beyond_end : (records : List (Option Record)) (volume : ℕ) → length records ≡ MOST_VOLUMES → MOST_VOLUMES ≤ volume
+    → extents_of EXTENT_SECTORS (record_of records volume) ≡ 0
 none_beyond_end records volume long beyond = ap (extents_of EXTENT_SECTORS) (get_or_past records volume None (omega arith))
 
 -- each volume has its places
-places_from : (records : List (Option Record)) (extents : List (Option Owned)) → length records ≡ MOST_VOLUMES → OwnersFit EXTENT_SECTORS records extents → AllPlacesOccur EXTENT_SECTORS records extents
+places_from : (records : List (Option Record)) (extents : List (Option Owned)) → length records ≡ MOST_VOLUMES → OwnersFit EXTENT_SECTORS records extents
+    → AllPlacesOccur EXTENT_SECTORS records extents
     → (volume : ℕ) → (volume < MOST_VOLUMES) ⊎ (MOST_VOLUMES ≤ volume) → HasPlaces extents volume (extents_of EXTENT_SECTORS (record_of records volume))
 places_from records extents long fit occur volume side = record {
   extent_at = ⊎_elim (λ below. occur volume below) (λ beyond place within. absurd (omega (arith, none_beyond_end records volume long beyond))) side;
@@ -35,7 +37,8 @@ places_from records extents long fit occur volume side = record {
 }
 
 -- what the checks find makes a table
-pub table_from : (version : ℕ) (records : List (Option Record)) (extents : List (Option Owned)) → IsVersion version → AreOfVersion version records → length records ≡ MOST_VOLUMES → length extents ≡ MOST_EXTENTS
+pub table_from : (version : ℕ) (records : List (Option Record)) (extents : List (Option Owned)) → IsVersion version → AreOfVersion version records
+    → length records ≡ MOST_VOLUMES → length extents ≡ MOST_EXTENTS
     → AreDistinct records → OwnersFit EXTENT_SECTORS records extents → AllPlacesOccur EXTENT_SECTORS records extents → IsVolumeTable version records extents
 table_from version records extents is_version of_version all_records all_extents distinct fit occur = record {
   is_version = is_version;
@@ -47,7 +50,8 @@ table_from version records extents is_version of_version all_records all_extents
 }
 
 -- the owners of a table fit
-pub table_owners : {version : ℕ} (records : List (Option Record)) (extents : List (Option Owned)) → IsVolumeTable version records extents → OwnersFit EXTENT_SECTORS records extents
+pub table_owners : {version : ℕ} (records : List (Option Record)) (extents : List (Option Owned)) → IsVolumeTable version records extents
+    → OwnersFit EXTENT_SECTORS records extents
 table_owners records extents table extent owner at = record {
   within = (table.places owner.volume).below extent owner.place at;
   first = λ other same.
@@ -56,7 +60,8 @@ table_owners records extents table extent owner at = record {
 }
 
 -- the places of a table occur
-pub table_places : {version : ℕ} (records : List (Option Record)) (extents : List (Option Owned)) → IsVolumeTable version records extents → AllPlacesOccur EXTENT_SECTORS records extents
+pub table_places : {version : ℕ} (records : List (Option Record)) (extents : List (Option Owned)) → IsVolumeTable version records extents
+    → AllPlacesOccur EXTENT_SECTORS records extents
 table_places records extents table volume below = (table.places volume).extent_at
 
 -- what was read within a list of options
@@ -65,7 +70,8 @@ read_at xs i x within is = get_or_default xs i None x within ∙ sym is
 
 -- what is there is within the list
 pub some_within : {X : Type 0} (xs : List (Option X)) (i : ℕ) (x : X) → get_or xs i None ≡ Some x → i < length xs
-some_within xs i x at = ⊎_elim (λ below. below) (λ beyond. absurd (let past : get_or xs i None ≡ None = get_or_past xs i None beyond in let no : ⊥ = cc in no)) (cases_lt i (length xs))
+some_within xs i x at = ⊎_elim (λ below. below) (λ beyond. absurd (let past : get_or xs i None ≡ None = get_or_past xs i None beyond in let no : ⊥ = cc in no))
+    (cases_lt i (length xs))
 
 -- what is at no place before this one
 pub none_before : (number other : ℕ) → (other < number → ⊥) → number ≤ other
@@ -88,7 +94,8 @@ pub not_named : (records : List (Option Record)) (number : ℕ) (one : Record) (
     → bytes_eq one.name.bytes.items bytes ≡ false → IsNamed records number bytes → ⊥
 not_named records number one bytes at differs named =
     let same : one ≡ named.0 = cc in
-    let equal : bytes_eq one.name.bytes.items bytes ≡ true = (bytes_eq-Decides one.name.bytes.items bytes).1 (ap (λ (r : Record). r.name.bytes.items) same ∙ named.2) in
+    let equal : bytes_eq one.name.bytes.items bytes ≡ true =
+    (bytes_eq-Decides one.name.bytes.items bytes).1 (ap (λ (r : Record). r.name.bytes.items) same ∙ named.2) in
     cc
 
 -- among distinct names, the first record of a used record's name is that record
@@ -103,10 +110,15 @@ pub found_named : (records : List (Option Record)) (number : ℕ) (bytes : List 
 found_named records number bytes None none same = absurd (let no : ⊥ = cc in no)
 found_named records number bytes (Some i) found same =
     let one : i ≡ number = cc in
-    record { named = (found.named.0, ap (λ (k : ℕ). record_of records k) (sym one) ∙ found.named.1, found.named.2); first = λ other named. let least : i ≤ other = found.first other named in omega arith }
+    record {
+      named = (found.named.0, ap (λ (k : ℕ). record_of records k) (sym one) ∙ found.named.1, found.named.2);
+      first =
+          λ other named. let least : i ≤ other = found.first other named in omega arith;
+    }
 
 -- an owner that fits is found first at its extent
-pub first_owner : (extents : List (Option Owned)) (extent : ℕ) (owner : Owned) → owner_of extents extent ≡ Some owner → ((other : ℕ) → owner_of extents other ≡ Some owner → extent ≤ other)
+pub first_owner : (extents : List (Option Owned)) (extent : ℕ) (owner : Owned) → owner_of extents extent ≡ Some owner
+    → ((other : ℕ) → owner_of extents other ≡ Some owner → extent ≤ other)
     → (r : Option ℕ) → MatchOption r ((e : ℕ) → owner_of extents e ≡ Some owner → ⊥) (λ e. IsFirstAt extents owner e) → r ≡ Some extent
 first_owner extents extent owner at least None none = absurd (none extent at)
 first_owner extents extent owner at least (Some e) found =
@@ -134,13 +146,15 @@ not_false {b = true} h = refl
 not_false {b = false} h = sym h
 
 -- an owner whose first extent was found occurs
-pub occurs_found : (extents : List (Option Owned)) (owner : Owned) (r : Option ℕ) → MatchOption r ((e : ℕ) → owner_of extents e ≡ Some owner → ⊥) (λ e. IsFirstAt extents owner e)
+pub occurs_found : (extents : List (Option Owned)) (owner : Owned) (r : Option ℕ)
+    → MatchOption r ((e : ℕ) → owner_of extents e ≡ Some owner → ⊥) (λ e. IsFirstAt extents owner e)
     → is_some r ≡ true → (extent : ℕ) × (owner_of extents extent ≡ Some owner)
 occurs_found extents owner None none some = absurd (let no : ⊥ = cc in no)
 occurs_found extents owner (Some e) found some = (e, found.at)
 
 -- an owner of which none was found does not
-pub occurs_not : (extents : List (Option Owned)) (owner : Owned) (r : Option ℕ) → MatchOption r ((e : ℕ) → owner_of extents e ≡ Some owner → ⊥) (λ e. IsFirstAt extents owner e)
+pub occurs_not : (extents : List (Option Owned)) (owner : Owned) (r : Option ℕ)
+    → MatchOption r ((e : ℕ) → owner_of extents e ≡ Some owner → ⊥) (λ e. IsFirstAt extents owner e)
     → is_some r ≡ false → (extent : ℕ) × (owner_of extents extent ≡ Some owner) → ⊥
 occurs_not extents owner None none some at = none at.0 at.1
 occurs_not extents owner (Some e) found some at = cc
@@ -156,13 +170,15 @@ all_of_version version records long none short = record {
       (cases_lt volume MOST_VOLUMES);
   short = λ volume. ⊎_elim
       (λ (below : volume < MOST_VOLUMES). short volume below)
-      (λ (beyond : MOST_VOLUMES ≤ volume) used is. absurd (let past : record_of records volume ≡ None = get_or_past records volume None (omega (arith, long)) in let no : ⊥ = cc in no))
+      (λ (beyond : MOST_VOLUMES ≤ volume) used is. absurd
+      (let past : record_of records volume ≡ None = get_or_past records volume None (omega (arith, long)) in let no : ⊥ = cc in no))
       (cases_lt volume MOST_VOLUMES);
   sized = λ volume used is. used.most;
 }
 
 -- a table is one of the greatest version too
-upgraded : (version : ℕ) (records : List (Option Record)) (extents : List (Option Owned)) → IsVolumeTable version records extents → IsVolumeTable 2 records extents
+upgraded : (version : ℕ) (records : List (Option Record)) (extents : List (Option Owned)) → IsVolumeTable version records extents
+    → IsVolumeTable 2 records extents
 upgraded version records extents table = record {
   is_version = (omega arith, omega arith);
   of_version = record {
@@ -176,5 +192,6 @@ upgraded version records extents table = record {
   places = table.places;
 }
 
-pub table_upgraded : {version : ℕ} (records : List (Option Record)) (extents : List (Option Owned)) → ∥ IsVolumeTable version records extents ∥₁ → ∥ IsVolumeTable 2 records extents ∥₁
+pub table_upgraded : {version : ℕ} (records : List (Option Record)) (extents : List (Option Owned)) → ∥ IsVolumeTable version records extents ∥₁
+    → ∥ IsVolumeTable 2 records extents ∥₁
 table_upgraded {version} records extents table = ∥∥₁_elim table (hlevel props) (λ one. ∣ upgraded version records extents one ∣₁)

@@ -10,13 +10,15 @@ use Rattle.extents.specs.ExtentMaps.{free_below}
 use Rattle.extents.proofs.OwnerLemmas.{HasOwner, free_or_owned, owned_is_within, owned_is_not_free}
 
 -- one more extent is free below the next where this one is free
-pub free_below_free : (owners : List (Option Owned)) (extent : ℕ) → extent < length owners → owner_of owners extent ≡ None → free_below owners (extent + 1) ≡ free_below owners extent + 1
+pub free_below_free : (owners : List (Option Owned)) (extent : ℕ) → extent < length owners → owner_of owners extent ≡ None
+    → free_below owners (extent + 1) ≡ free_below owners extent + 1
 free_below_free owners extent within free = count_by_more_yes is_none owners extent None within (ap (λ (o : Option Owned). is_none o) free)
 
 -- and as many as below this one where it is some volume's
 pub free_below_owned : (owners : List (Option Owned)) (extent : ℕ) → HasOwner owners extent → free_below owners (extent + 1) ≡ free_below owners extent
 free_below_owned owners extent owned =
-    count_by_more_no is_none owners extent None (owned_is_within owners extent owned.volume owned.place owned.at) (ap (λ (o : Option Owned). is_none o) owned.at)
+    count_by_more_no is_none owners extent None (owned_is_within owners extent owned.volume owned.place owned.at)
+    (ap (λ (o : Option Owned). is_none o) owned.at)
 
 -- what `AreAppended` says, as far as the extents below this one are done
 pub record AreAppendedBelow (old new : List (Option Owned)) (volume first n given extent : ℕ) : Type 0 where
@@ -76,7 +78,8 @@ append_passes_rest old new volume first n given extent so_far all within =
 
 -- a free extent is given
 pub append_gives : (old new : List (Option Owned)) (volume first n given extent : ℕ) → AreAppendedBelow old new volume first n given extent
-    → is_some (owner_of new extent) ≡ false → given < n → extent < length new → AreAppendedBelow old (set new extent (Some record { volume = volume; place = first + given })) volume first n (given + 1) (extent + 1)
+    → is_some (owner_of new extent) ≡ false → given < n → extent < length new
+    → AreAppendedBelow old (set new extent (Some record { volume = volume; place = first + given })) volume first n (given + 1) (extent + 1)
 append_gives old new volume first n given extent so_far no_owner few within =
     let owner : Option Owned = Some record { volume = volume; place = first + given } in
     let was_free : owner_of old extent ≡ None = sym (so_far.rest extent (omega arith)) ∙ free_by_test (owner_of new extent) no_owner in
@@ -84,12 +87,14 @@ append_gives old new volume first n given extent so_far no_owner few within =
     record {
       given_is = omega (arith, so_far.given_is, free_below_free old extent (omega (arith, so_far.extents)) was_free);
       extents = length-set new extent owner ∙ so_far.extents;
-      kept = λ e other place at. get_or-set_other new extent e owner None (λ same. owned_is_not_free old e other place at (ap (λ x. owner_of old x) same ∙ was_free)) ∙ so_far.kept e other place at;
+      kept = λ e other place at. get_or-set_other new extent e owner None
+          (λ same. owned_is_not_free old e other place at (ap (λ x. owner_of old x) same ∙ was_free)) ∙ so_far.kept e other place at;
       taken = λ e below old_free fewer. elim (cases_eq e extent) [
         | inl same ↦ ap (λ x. owner_of (set new extent owner) x) same ∙ get_or-set_same new extent owner None within
             ∙ ap (λ (p : ℕ). Some record { volume = volume; place = first + p }) (as_many ∙ ap (λ x. free_below old x) (sym same))
         | inr other ↦ get_or-set_other new extent e owner None other ∙ so_far.taken e (omega arith) old_free fewer
       ];
-      left = λ e old_free many. get_or-set_other new extent e owner None (λ same. absurd (omega (arith, ap (λ x. free_below old x) same))) ∙ so_far.left e old_free many;
+      left = λ e old_free many. get_or-set_other new extent e owner None (λ same. absurd (omega (arith, ap (λ x. free_below old x) same)))
+          ∙ so_far.left e old_free many;
       rest = λ e above. get_or-set_other new extent e owner None (λ same. omega arith) ∙ so_far.rest e (omega arith);
     }

@@ -109,7 +109,8 @@ most_volumes_most version = (numbers_fit version).volumes
 
 -- a record's bytes lie within a sector
 pub cell_fits : (width per number : ℕ) → width * per ≡ 512 → number < per → width * number + width ≤ 512
-cell_fits width per number all below = let more : width * (number + 1) ≤ width * per = mul-le-mul_left width (let h : number + 1 ≤ per = omega arith in h) in omega arith
+cell_fits width per number all below = let more : width * (number + 1) ≤ width * per =
+    mul-le-mul_left width (let h : number + 1 ≤ per = omega arith in h) in omega arith
 
 -- the greatest version has no fewer of both
 pub most_of_last : (version : ℕ) → (most_volumes version ≤ most_volumes 2) × (most_name_bytes version ≤ most_name_bytes 2)
@@ -133,9 +134,11 @@ cell_room version number width each wide many =
     cell_fits width each (number % each) all (mod_below number each (omega arith))
 
 -- the records of a sector are among those of the version
-pub records_within : (version number each : ℕ) → each ≡ records_a_sector version → 0 < number → number < 1 + record_sectors version → each * (number - 1) + each ≤ 64
+pub records_within : (version number each : ℕ) → each ≡ records_a_sector version → 0 < number → number < 1 + record_sectors version
+    → each * (number - 1) + each ≤ 64
 records_within version number each many some below =
     let most = (numbers_fit version).volumes in
     let all : record_sectors version * each ≡ most_volumes version = ap (λ (n : ℕ). record_sectors version * n) many ∙ records_all version in
-    let more : each * (number - 1 + 1) ≤ each * record_sectors version = mul-le-mul_left each (let h : number - 1 + 1 ≤ record_sectors version = omega arith in h) in
+    let more : each * (number - 1 + 1) ≤ each * record_sectors version =
+    mul-le-mul_left each (let h : number - 1 + 1 ≤ record_sectors version = omega arith in h) in
     omega arith

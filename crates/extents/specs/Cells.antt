@@ -29,7 +29,8 @@ AreRecordsAt version sectors records = (number : ℕ) → number < MOST_VOLUMES 
 
 -- the cells of the 1,024 extents spell these owners
 abbrev pub SpellExtents : (version : ℕ) → List (List ℕ) → List (Option Owned) → Type 0
-SpellExtents version sectors extents = (number : ℕ) → number < MOST_EXTENTS → cell 4 128 (1 + record_sectors version) sectors number ≡ owner_bytes (slice_index_or extents number None)
+SpellExtents version sectors extents = (number : ℕ) → number < MOST_EXTENTS
+    → cell 4 128 (1 + record_sectors version) sectors number ≡ owner_bytes (slice_index_or extents number None)
 
 -- the numbers of an owner fit their bytes
 pub record HasRoom (owner : Owned) : Type 0 where

@@ -30,14 +30,17 @@ pub record TakingKeeps (old new : List (Option Owned)) (volume n : ℕ) : Type 0
   -- n extents fewer are free
   pub free : free_of new + n ≡ free_of old
   -- a free extent that was taken lies below each one that is left
-  pub lowest : (extent place other : ℕ) → owner_of old extent ≡ None → IsAt new extent volume place → other < length new → owner_of new other ≡ None → extent < other
+  pub lowest : (extent place other : ℕ) → owner_of old extent ≡ None → IsAt new extent volume place → other < length new → owner_of new other ≡ None
+      → extent < other
   -- of two that were taken the lower one has the lower place
-  pub rising : (lower upper place place' : ℕ) → lower < upper → owner_of old lower ≡ None → owner_of old upper ≡ None → IsAt new lower volume place → IsAt new upper volume place' → place < place'
+  pub rising : (lower upper place place' : ℕ) → lower < upper → owner_of old lower ≡ None → owner_of old upper ≡ None → IsAt new lower volume place
+      → IsAt new upper volume place' → place < place'
   -- no other owners come of it
   pub only : (other : List (Option Owned)) → IsTaken old other volume n → other ≡ new
 
 abbrev pub TakingKeepsMaps : Type 0
-TakingKeepsMaps = (old new : List (Option Owned)) (volume n : ℕ) → IsExtentMap old → volume < MOST_VOLUMES → n ≤ free_of old → IsTaken old new volume n → TakingKeeps old new volume n
+TakingKeepsMaps = (old new : List (Option Owned)) (volume n : ℕ) → IsExtentMap old → volume < MOST_VOLUMES → n ≤ free_of old → IsTaken old new volume n
+    → TakingKeeps old new volume n
 
 -- what extents that are given back do to a map
 pub record GivingBackKeeps (old new : List (Option Owned)) (volume : ℕ) : Type 0 where
@@ -57,10 +60,12 @@ GivingBackKeepsMaps = (old new : List (Option Owned)) (volume : ℕ) → IsExten
 
 -- a block of a volume lies in one of the extents, above the 64 reserved sectors
 abbrev pub BlocksAreWithin : Type 0
-BlocksAreWithin = (owners : List (Option Owned)) (volume block sector : ℕ) → HasPlace owners volume (block / EXTENT_SECTORS) → IsWhere owners volume block sector
+BlocksAreWithin = (owners : List (Option Owned)) (volume block sector : ℕ) → HasPlace owners volume (block / EXTENT_SECTORS)
+    → IsWhere owners volume block sector
     → (RESERVED_SECTORS ≤ sector) × (sector < RESERVED_SECTORS + EXTENT_SECTORS * length owners)
 
 -- no two blocks, of one volume or of two, lie in one logical sector
 abbrev pub NoSectorIsShared : Type 0
-NoSectorIsShared = (owners : List (Option Owned)) (volume block other block' sector : ℕ) → HasPlace owners volume (block / EXTENT_SECTORS) → HasPlace owners other (block' / EXTENT_SECTORS)
+NoSectorIsShared = (owners : List (Option Owned)) (volume block other block' sector : ℕ) → HasPlace owners volume (block / EXTENT_SECTORS)
+    → HasPlace owners other (block' / EXTENT_SECTORS)
     → IsWhere owners volume block sector → IsWhere owners other block' sector → (volume ≡ other) × (block ≡ block')

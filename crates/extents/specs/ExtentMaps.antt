@@ -35,7 +35,8 @@ pub record AreAppended (old new : List (Option Owned)) (volume first n : ℕ) : 
   -- an extent that has an owner keeps it
   pub kept : (extent other place : ℕ) → IsAt old extent other place → IsAt new extent other place
   -- a free extent goes to the volume where fewer than n free ones lie below it, and as many places are between `first` and its place
-  pub taken : (extent : ℕ) → extent < length old → owner_of old extent ≡ None → free_below old extent < n → IsAt new extent volume (first + free_below old extent)
+  pub taken : (extent : ℕ) → extent < length old → owner_of old extent ≡ None → free_below old extent < n
+      → IsAt new extent volume (first + free_below old extent)
   -- the other free extents stay free
   pub left : (extent : ℕ) → owner_of old extent ≡ None → n ≤ free_below old extent → owner_of new extent ≡ None
 
@@ -60,4 +61,5 @@ HasPlace owners volume place = (extent : ℕ) × IsAt owners extent volume place
 
 -- the logical sector of block k of a volume: it is number k mod 64 of the extent at place k div 64, and extent 0 begins at sector 64
 abbrev pub IsWhere : List (Option Owned) → (volume block sector : ℕ) → Type 0
-IsWhere owners volume block sector = (extent : ℕ) → IsAt owners extent volume (block / EXTENT_SECTORS) → sector ≡ RESERVED_SECTORS + EXTENT_SECTORS * extent + block % EXTENT_SECTORS
+IsWhere owners volume block sector = (extent : ℕ) → IsAt owners extent volume (block / EXTENT_SECTORS)
+    → sector ≡ RESERVED_SECTORS + EXTENT_SECTORS * extent + block % EXTENT_SECTORS

@@ -43,7 +43,8 @@ first_sector version = (version - 1) ∷ zeros 511
 abbrev pub sector_of : (version : ℕ) → List (Option Record) → List (Option Owned) → ℕ → List ℕ
 sector_of version records extents number =
     if number == 0 then first_sector version
-    else (if nat_lt number (1 + record_sectors version) then record_sector version records (number - 1) else extent_sector extents (number - (1 + record_sectors version)))
+    else (if nat_lt number (1 + record_sectors version) then record_sector version records (number - 1) else extent_sector extents
+    (number - (1 + record_sectors version)))
 
 -- the sectors of records and extents
 unfoldable pub spelling : (version : ℕ) → List (Option Record) → List (Option Owned) → List (List ℕ)

@@ -3,7 +3,8 @@ ghost use Rattle.std.specs.Prelude.{◌≡◌, ◌↔◌, ℕ, Some, IsTrue, Mat
 ghost use Rattle.extents.specs.Owners.{owner_of};
 ghost use Rattle.extents.specs.VolumeTables.{record_of, extents_of, AreDistinct, AreOfVersion, IsVolumeTable};
 ghost use Rattle.extents.specs.Versions.{IsVersion, extent_blocks};
-ghost use Rattle.extents.specs.Checks.{IsNamed, IsFirstNamed, IsFirstAt, OwnersFit, PlacesOccur, AllPlacesOccur, AreFreeFrom};
+ghost use Rattle.extents.specs.Checks.{IsNamed, IsFirstNamed, IsFirstAt, OwnersFit, PlacesOccur, AllPlacesOccur};
+ghost use Rattle.extents.specs.Checks.{AreFreeFrom};
 
 use crate::extent_map::{MAX_EXTENTS, extents_for};
 use crate::volume_table::MOST_VOLUMES;
@@ -11,7 +12,8 @@ use crate::{Name, Owned, Record};
 
 // The number of the first record with this name. None where there is none.
 fn first_named(records: &[Option<Record>], name: &Name) -> Option<usize>
-    ensures { MatchOption result ((i : ℕ) → IsNamed records.now i name.now.bytes.items → ⊥) (λ i. IsFirstNamed records.now name.now.bytes.items i) }
+    ensures { MatchOption result ((i : ℕ) → IsNamed records.now i name.now.bytes.items → ⊥)
+        (λ i. IsFirstNamed records.now name.now.bytes.items i) }
 {
     for (number, record) in records.iter().enumerate() {
         if let Some(record) = record {
@@ -39,7 +41,8 @@ fn are_distinct(records: &[Option<Record>]) -> bool
 
 // The first extent that has this owner. None where there is none.
 fn first_at(extents: &[Option<Owned>], owner: Owned) -> Option<usize>
-    ensures { MatchOption result ((e : ℕ) → owner_of extents.now e ≡ Some owner → ⊥) (λ e. IsFirstAt extents.now owner e) }
+    ensures { MatchOption result ((e : ℕ) → owner_of extents.now e ≡ Some owner → ⊥)
+        (λ e. IsFirstAt extents.now owner e) }
 {
     for (extent, other) in extents.iter().enumerate() {
         if *other == Some(owner) {
@@ -59,7 +62,8 @@ fn extents_of_volume(version: u8, records: &[Option<Record>], volume: u8) -> u16
     }
 }
 
-// Whether each extent that is not free has a place that its volume's length takes, and no extent before it has the same.
+// Whether each extent that is not free has a place that its volume's length takes, and no extent before it has the
+// same.
 fn owners_fit(version: u8, records: &[Option<Record>], extents: &[Option<Owned>]) -> bool
     ensures { IsTrue result ↔ OwnersFit (extent_blocks version) records.now extents.now }
 {

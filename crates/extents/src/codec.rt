@@ -25,8 +25,10 @@ use sector_model::Sector;
 fn read_version(from: &[Sector]) -> Option<u8>
     requires { length from.now ≡ TABLE_SECTORS }
     ensures sectors { (number : ℕ) → number < TABLE_SECTORS → length (slice_index_or from.now number []) ≡ 512 }
-    ensures some { IfSome result (λ version. IsVersion version × (slice_index_or from.now 0 [] ≡ first_sector version)) }
-    ensures exact { (version : ℕ) → IsVersion version → slice_index_or from.now 0 [] ≡ first_sector version → result ≡ Some version }
+    ensures some { IfSome result (λ version. IsVersion version
+        × (slice_index_or from.now 0 [] ≡ first_sector version)) }
+    ensures exact { (version : ℕ) → IsVersion version → slice_index_or from.now 0 [] ≡ first_sector version
+        → result ≡ Some version }
 {
     version_of(&from[0])
 }
@@ -54,7 +56,8 @@ fn read_records(
 ) -> Option<[Option<Record>; MOST_VOLUMES]>
     ensures long { IfSome result (λ records. length records ≡ MOST_VOLUMES) }
     ensures some { IfSome result (λ records. AreRecordsAt version from.now records) }
-    ensures exact { (records : List (Option Record)) → length records ≡ MOST_VOLUMES → AreRecordsAt version from.now records → result ≡ Some records }
+    ensures exact { (records : List (Option Record)) → length records ≡ MOST_VOLUMES
+        → AreRecordsAt version from.now records → result ≡ Some records }
 {
     let mut records = ArrayVec::<Option<Record>, MOST_VOLUMES>::new();
     for number in 0..MOST_VOLUMES {
@@ -113,10 +116,11 @@ impl VolumeTable {
         }
     }
 
-    /// The table that the sectors begin with, of a set with so many extents. Sectors after those of its version are not looked at.
+    /// The table that the sectors begin with, of a set with so many extents. Sectors after those of its version are not
+    /// looked at.
     ///
-    /// None where they spell no table: where sector 0 is not a version and zeros, a record has no good name, one that is
-    /// too long for the version, 0 blocks or more than 65,536, or a byte other than 0 outside its fields, two names
+    /// None where they spell no table: where sector 0 is not a version and zeros, a record has no good name, one that
+    /// is too long for the version, 0 blocks or more than 65,536, or a byte other than 0 outside its fields, two names
     /// are equal, an extent in use names no used record, the places of a record are not exactly those that its blocks
     /// take, each once, or an extent that the set does not have is in use.
     pub fn decode(from: &[Sector; TABLE_SECTORS], extents: u32) -> Option<VolumeTable>

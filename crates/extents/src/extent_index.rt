@@ -33,7 +33,8 @@ fn counts_of(owners: &[Option<Owned>]) -> [u16; MOST_VOLUMES + 1]
     requires { IsExtentMap owners.now }
     ensures long { length result ≡ MOST_VOLUMES + 1 }
     ensures first { slice_index result 0 ≡ 0 }
-    ensures counts { (volume : ℕ) → volume < MOST_VOLUMES → slice_index result (volume + 1) ≡ count_of owners.now volume }
+    ensures counts { (volume : ℕ) → volume < MOST_VOLUMES
+        → slice_index result (volume + 1) ≡ count_of owners.now volume }
 {
     let mut counts = [0; MOST_VOLUMES + 1];
     for owner in owners {

@@ -1,11 +1,13 @@
 //! Which volume has which extents, and where the blocks of a volume lie.
 ghost use Rattle.std.specs.Prelude.{◌≡◌, ◌+◌, ◌/◌, ◌<◌, ◌≤◌, length};
 ghost use Rattle.extents.specs.Owners.{owner_of, HasPlaces};
-ghost use Rattle.extents.specs.ExtentMaps.{IsExtentMap, free_of, is_of, count_of, AreAppended, IsTaken, IsGivenBack, HasPlace, IsWhere};
+ghost use Rattle.extents.specs.ExtentMaps.{IsExtentMap, free_of, is_of, count_of, AreAppended, IsTaken, IsGivenBack};
+ghost use Rattle.extents.specs.ExtentMaps.{HasPlace, IsWhere};
 ghost use Rattle.extents.specs.ExtentIndexes.{AreExtentsOf};
 ghost use Rattle.extents.specs.VolumeTables.{extents_for};
 ghost use Rattle.extents.specs.Versions.{extent_blocks};
-ghost use Rattle.extents.specs.ExtentLaws.{EachExtentIsCounted, TakingKeepsMaps, GivingBackKeepsMaps, BlocksAreWithin, NoSectorIsShared};
+ghost use Rattle.extents.specs.ExtentLaws.{EachExtentIsCounted, TakingKeepsMaps, GivingBackKeepsMaps, BlocksAreWithin};
+ghost use Rattle.extents.specs.ExtentLaws.{NoSectorIsShared};
 
 use crate::Owned;
 use crate::extent_index::ExtentIndex;
@@ -102,8 +104,8 @@ impl ExtentMap {
         &index.packed[first..end]
     }
 
-    /// Appends the `n` lowest free extents to a volume, in rising order. The volume is below 64, and `n` extents at least
-    /// are free.
+    /// Appends the `n` lowest free extents to a volume, in rising order. The volume is below 64, and `n` extents at
+    /// least are free.
     pub fn take(&mut self, volume: u8, n: u32)
         requires volume { volume < MOST_VOLUMES }
         requires free { n ≤ free_of self.old }

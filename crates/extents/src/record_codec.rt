@@ -43,7 +43,8 @@ fn write_record(version: u8, one: &Option<Record>, to: &mut [u8])
 fn read_used(version: u8, from: &[u8]) -> Option<Record>
     requires { length from.now ≡ record_width version }
     ensures short { IfSome result (λ r. length r.name.bytes.items ≤ most_name_bytes version) }
-    ensures exact { (r : Record) → length r.name.bytes.items ≤ most_name_bytes version → from.now ≡ used_bytes version r → result ≡ Some r }
+    ensures exact { (r : Record) → length r.name.bytes.items ≤ most_name_bytes version → from.now ≡ used_bytes version r
+        → result ≡ Some r }
 {
     let length = usize::from(from[0]);
     if length > most_name_bytes(version) {
@@ -71,7 +72,8 @@ fn record_in(version: u8, from: &[u8]) -> Option<Option<Record>>
     Some(Some(read_used(version, from)?))
 }
 
-/// The record that these bytes spell, None in it for one that is not used. None where they spell no record of this version.
+/// The record that these bytes spell, None in it for one that is not used. None where they spell no record of this
+/// version.
 pub fn read_record(version: u8, from: &[u8]) -> Option<Option<Record>>
     requires { length from.now ≡ record_width version }
     ensures short { IfSome result (λ r. IsShort version r) }
@@ -92,7 +94,8 @@ pub fn read_record(version: u8, from: &[u8]) -> Option<Option<Record>>
 /// Writes a sector of records, over whatever the sector held.
 pub fn write_records(version: u8, records: &[Option<Record>], to: &mut Sector)
     requires long { length records.now ≡ records_a_sector version }
-    requires short { (number : ℕ) → number < length records.now → IsShort version (slice_index_or records.now number None) }
+    requires short { (number : ℕ) → number < length records.now
+        → IsShort version (slice_index_or records.now number None) }
     ensures { to.new ≡ flat_map (record_bytes version) records.now }
 {
     let width = record_width(version);

@@ -9,10 +9,12 @@ mod refused;
 
 // In version 1, the name `a`, with 64 blocks and with 65.
 const A_64: &[u8] =
-    b"\x01\x61\x00\x00\x00\x00\x00\x00\x00\x00\x00\x00\x00\x00\x00\x00\x00\x00\x00\x00\x00\x00\x00\x00\x00\x00\x00\x00\x40\x00\x00\x00";
+    b"\x01\x61\x00\x00\x00\x00\x00\x00\x00\x00\x00\x00\x00\x00\x00\x00\x00\x00\x00\x00\
+      \x00\x00\x00\x00\x00\x00\x00\x00\x40\x00\x00\x00";
 
 const A_65: &[u8] =
-    b"\x01\x61\x00\x00\x00\x00\x00\x00\x00\x00\x00\x00\x00\x00\x00\x00\x00\x00\x00\x00\x00\x00\x00\x00\x00\x00\x00\x00\x41\x00\x00\x00";
+    b"\x01\x61\x00\x00\x00\x00\x00\x00\x00\x00\x00\x00\x00\x00\x00\x00\x00\x00\x00\x00\
+      \x00\x00\x00\x00\x00\x00\x00\x00\x41\x00\x00\x00";
 
 // What the sectors after those of version 1 hold: no table, so that whoever looks at them or changes them is seen.
 const LEFT: u8 = 0xa5;
@@ -35,8 +37,8 @@ fn sectors_of(records: &[u8], entries: &[u8]) -> [Sector; 25] {
     sectors
 }
 
-// The sectors of version 2, all zero but for the record of `a` with so many blocks, below 256, and the first bytes of the
-// extents' entries.
+// The sectors of version 2, all zero but for the record of `a` with so many blocks, below 256, and the first bytes of
+// the extents' entries.
 fn second_sectors_of(blocks: u8, entries: &[u8]) -> [Sector; 25] {
     let mut sectors = [[0; 512]; 25];
     sectors[0][0] = 1;
@@ -107,8 +109,8 @@ fn table_vectors(rt: HostRuntime) {
     volume_table_law();
 }
 
-// The table of version 1 of `a` with 64 blocks: after sector 0, which is `01` and 511 zeros, sector 1 of version 2 begins
-// with `0161`, 62 zeros and `40000000`, and sector 17 with `01000000`. All else is zero.
+// The table of version 1 of `a` with 64 blocks: after sector 0, which is `01` and 511 zeros, sector 1 of version 2
+// begins with `0161`, 62 zeros and `40000000`, and sector 17 with `01000000`. All else is zero.
 #[test]
 fn upgraded_vector(rt: HostRuntime) {
     let sectors = sectors_of(A_64, b"\x01\x00\x00\x00");

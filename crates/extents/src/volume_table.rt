@@ -39,17 +39,19 @@ pub struct Found {
 impl VolumeTable {
     /// The record of a name. `None` where no record is used for it.
     pub fn record_named(&self, name: &[u8]) -> Option<Found>
-        ensures { MatchOption result (HasRecord self.now.records name.now → ⊥) (λ found. IsRecordFor self.now.records name.now found.number found.count) }
+        ensures { MatchOption result (HasRecord self.now.records name.now → ⊥)
+            (λ found. IsRecordFor self.now.records name.now found.number found.count) }
     {
         found_in(&self.records, name)
     }
 
-    /// Changes the record of a volume, below 64, and the owners of the extents to those of a map of at most 1,024, so that they are a table again
-    /// (conditions). The extents after the map are free.
+    /// Changes the record of a volume, below 64, and the owners of the extents to those of a map of at most 1,024, so
+    /// that they are a table again (conditions). The extents after the map are free.
     pub fn set(&mut self, volume: u8, entry: Option<Record>, map: &ExtentMap)
         requires of_table { volume < MOST_VOLUMES }
         requires most { length map.now ≤ MOST_EXTENTS }
-        requires is_table { ∥ IsVolumeTable self.old.version (slice_set self.old.records volume entry) (owners_padded map.now) ∥₁ }
+        requires is_table { ∥ IsVolumeTable self.old.version (slice_set self.old.records volume entry)
+            (owners_padded map.now) ∥₁ }
         ensures version { self.new.version ≡ self.old.version }
         ensures records { self.new.records ≡ slice_set self.old.records volume entry }
         ensures extents { self.new.extents ≡ owners_padded map.now }
@@ -70,7 +72,8 @@ impl VolumeTable {
 
 // The record of a name among these. None where no record is used for it.
 fn found_in(records: &[Option<Record>], name: &[u8]) -> Option<Found>
-    ensures { MatchOption result (HasRecord records.now name.now → ⊥) (λ found. IsRecordFor records.now name.now found.number found.count) }
+    ensures { MatchOption result (HasRecord records.now name.now → ⊥)
+        (λ found. IsRecordFor records.now name.now found.number found.count) }
 {
     for (number, record) in records.iter().enumerate() {
         if let Some(record) = record {

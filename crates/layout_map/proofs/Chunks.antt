@@ -59,7 +59,8 @@ abbrev Held : ℕ → Type 0
 Held n = (s p m : ℕ) → p ≡ n - 1 - s % n → m < n → m ≢ p → (chunk_on n s p m / (n - 1) ≡ s) × (chunk_on n s p m % n ≡ m)
 
 -- each other member holds one of the stripe's chunks
-pub chunk_is_held : (n : ℕ) → 3 ≤ n → n ≤ MOST_MEMBERS → (s p m : ℕ) → p ≡ n - 1 - s % n → m < n → m ≢ p → (chunk_on n s p m / (n - 1) ≡ s) × (chunk_on n s p m % n ≡ m)
+pub chunk_is_held : (n : ℕ) → 3 ≤ n → n ≤ MOST_MEMBERS → (s p m : ℕ) → p ≡ n - 1 - s % n → m < n → m ≢ p → (chunk_on n s p m / (n - 1) ≡ s)
+    × (chunk_on n s p m % n ≡ m)
 chunk_is_held n least most = by_members Held
     (λ s p m is within other. (omega arith, omega arith))
     (λ s p m is within other. (omega arith, omega arith))

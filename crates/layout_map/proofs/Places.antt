@@ -10,7 +10,8 @@ use Rattle.layout_map.specs.Law.{HoldsOneSector}
 use Rattle.layout_map.proofs.Chunks.{parity_is_free, chunk_is_only, chunk_on, chunk_is_held}
 
 -- the five sizes of a chunk
-pub chunk_cases : {members chunk stripes : ℕ} → IsGeometry members chunk stripes → (chunk ≡ 8) ⊎ ((chunk ≡ 16) ⊎ ((chunk ≡ 32) ⊎ ((chunk ≡ 64) ⊎ (chunk ≡ 128))))
+pub chunk_cases : {members chunk stripes : ℕ} → IsGeometry members chunk stripes → (chunk ≡ 8)
+    ⊎ ((chunk ≡ 16) ⊎ ((chunk ≡ 32) ⊎ ((chunk ≡ 64) ⊎ (chunk ≡ 128))))
 chunk_cases {chunk} limits = by_size limits.chunk_size
   where
     by_size : IsTrue (is_chunk_size chunk) → (chunk ≡ 8) ⊎ ((chunk ≡ 16) ⊎ ((chunk ≡ 32) ⊎ ((chunk ≡ 64) ⊎ (chunk ≡ 128))))
@@ -47,14 +48,20 @@ data_sectors_by_rows members chunk stripes = omega arith
 -- no set has more data sectors
 pub data_sectors_most : {members chunk stripes : ℕ} → IsGeometry members chunk stripes → data_sectors_of members chunk stripes ≤ 58720256
 data_sectors_most {members} {chunk} {stripes} limits =
-    omega (arith, data_sectors_by_rows members chunk stripes, mul-le (rows_of chunk stripes) (members - 1) 8388608 7 (rows_most limits) (omega (arith, limits.members_most)))
+    omega (
+      arith,
+      data_sectors_by_rows members chunk stripes,
+      mul-le (rows_of chunk stripes) (members - 1) 8388608 7 (rows_most limits)
+          (omega (arith, limits.members_most)),
+    )
 
 -- no set has more extents
 pub extents_most : (members chunk stripes : ℕ) → extents_of members chunk stripes ≤ MOST_EXTENTS
 extents_most members chunk stripes = omega arith
 
 -- the extents lie within the data sectors, above the reserved ones
-pub extents_fit : {members chunk stripes : ℕ} → IsGeometry members chunk stripes → RESERVED_SECTORS + extents_of members chunk stripes * EXTENT_SECTORS ≤ data_sectors_of members chunk stripes
+pub extents_fit : {members chunk stripes : ℕ} → IsGeometry members chunk stripes
+    → RESERVED_SECTORS + extents_of members chunk stripes * EXTENT_SECTORS ≤ data_sectors_of members chunk stripes
 extents_fit {members} {chunk} {stripes} limits = by_sectors (data_sectors_of members chunk stripes) limits.has_extent
   where
     by_sectors : (sectors : ℕ) → 1 ≤ min MOST_EXTENTS ((sectors - RESERVED_SECTORS) / EXTENT_SECTORS)
@@ -62,7 +69,8 @@ extents_fit {members} {chunk} {stripes} limits = by_sectors (data_sectors_of mem
     by_sectors sectors one = omega arith
 
 -- the row of a place belongs to the stripe of its chunk
-pub stripe_of_row : {members chunk logical member row : ℕ} → 0 < chunk → IsPlace members chunk logical member row → row / chunk ≡ stripe_of_chunk members (logical / chunk)
+pub stripe_of_row : {members chunk logical member row : ℕ} → 0 < chunk → IsPlace members chunk logical member row
+    → row / chunk ≡ stripe_of_chunk members (logical / chunk)
 stripe_of_row {members} {chunk} {logical} some place =
     ap (λ (r : ℕ). r / chunk) place.on_row ∙ div-mul-add (stripe_of_chunk members (logical / chunk)) chunk (logical % chunk) (mod_below logical chunk some)
 
@@ -72,7 +80,8 @@ offset_of_row {members} {chunk} {logical} some place =
     ap (λ (r : ℕ). r % chunk) place.on_row ∙ mod-mul-add (stripe_of_chunk members (logical / chunk)) chunk (logical % chunk) (mod_below logical chunk some)
 
 -- a place is on one of the members
-pub place_member_below : {members chunk stripes logical member row : ℕ} → IsGeometry members chunk stripes → IsPlace members chunk logical member row → member < members
+pub place_member_below : {members chunk stripes logical member row : ℕ} → IsGeometry members chunk stripes → IsPlace members chunk logical member row
+    → member < members
 place_member_below {members} {chunk} {stripes} {logical} limits place =
     omega (arith, place.on_member, limits.members_least, mod_below (logical / chunk) members (omega (arith, limits.members_least)))
 
@@ -82,7 +91,8 @@ pub place_row_below : {members chunk stripes logical member row : ℕ} → IsGeo
 place_row_below {members} {chunk} {stripes} {logical} limits below place =
     let some : 0 < chunk = omega (arith, chunk_least limits) in
     let in_chunks : logical / chunk < stripes * (members - 1) = div_below logical chunk (stripes * (members - 1)) some below in
-    let in_stripes : logical / chunk / (members - 1) < stripes = div_below (logical / chunk) (members - 1) stripes (omega (arith, limits.members_least)) in_chunks in
+    let in_stripes : logical / chunk / (members - 1) < stripes =
+    div_below (logical / chunk) (members - 1) stripes (omega (arith, limits.members_least)) in_chunks in
     omega (arith, place.on_row, mul-add-lt (logical / chunk / (members - 1)) chunk (logical % chunk) stripes in_stripes (mod_below logical chunk some))
 
 -- what lies in one of the rows is a data sector
@@ -108,15 +118,18 @@ logical_is_one {members} {chunk} {stripes} {first} {second} limits one two =
     let same_chunk : first / chunk ≡ second / chunk = chunk_is_only members limits.members_least limits.members_most (first / chunk) (second / chunk)
     (sym (stripe_of_row some one) ∙ stripe_of_row some two) (sym one.on_member ∙ two.on_member) in
     let same_offset : first % chunk ≡ second % chunk = sym (offset_of_row some one) ∙ offset_of_row some two in
-    sym (div-add-mod' first chunk) ∙ ap (λ (c : ℕ). c * chunk + first % chunk) same_chunk ∙ ap (λ (r : ℕ). second / chunk * chunk + r) same_offset ∙ div-add-mod' second chunk
+    sym (div-add-mod' first chunk) ∙ ap (λ (c : ℕ). c * chunk + first % chunk) same_chunk ∙ ap (λ (r : ℕ). second / chunk * chunk + r) same_offset
+    ∙ div-add-mod' second chunk
 
 -- the sectors after a sector of a chunk lie in the rows after its row, on the same member
 pub place_goes_on : {members chunk logical member row : ℕ} (further : ℕ) → IsPlace members chunk logical member row → logical % chunk + further < chunk
     → IsPlace members chunk (logical + further) member (row + further)
 place_goes_on {members} {chunk} {logical} {member} {row} further place within =
     let whole : logical + further ≡ logical / chunk * chunk + (logical % chunk + further) = omega (arith, div-add-mod' logical chunk) in
-    let same_chunk : (logical + further) / chunk ≡ logical / chunk = ap (λ (l : ℕ). l / chunk) whole ∙ div-mul-add (logical / chunk) chunk (logical % chunk + further) within in
-    let offset : (logical + further) % chunk ≡ logical % chunk + further = ap (λ (l : ℕ). l % chunk) whole ∙ mod-mul-add (logical / chunk) chunk (logical % chunk + further) within in
+    let same_chunk : (logical + further) / chunk ≡ logical / chunk = ap (λ (l : ℕ). l / chunk) whole
+    ∙ div-mul-add (logical / chunk) chunk (logical % chunk + further) within in
+    let offset : (logical + further) % chunk ≡ logical % chunk + further = ap (λ (l : ℕ). l % chunk) whole
+    ∙ mod-mul-add (logical / chunk) chunk (logical % chunk + further) within in
     record {
       on_member = place.on_member ∙ sym (ap (member_of_chunk members) same_chunk);
       on_row = omega (arith, place.on_row, offset, ap (λ (c : ℕ). stripe_of_chunk members c * chunk) same_chunk);
@@ -127,7 +140,8 @@ abbrev pub parity_member_of : ℕ → ℕ → ℕ → ℕ
 parity_member_of members chunk row = members - 1 - row / chunk % members
 
 -- it holds none of the stripe's chunks
-pub parity_is_there : {members chunk stripes : ℕ} (row : ℕ) → IsGeometry members chunk stripes → IsParityOf members chunk row (parity_member_of members chunk row)
+pub parity_is_there : {members chunk stripes : ℕ} (row : ℕ) → IsGeometry members chunk stripes
+    → IsParityOf members chunk row (parity_member_of members chunk row)
 parity_is_there {members} {chunk} row limits = record {
   in_set = omega (arith, limits.members_least);
   holds_none = λ c is. parity_is_free members limits.members_least limits.members_most c (row / chunk) is;
@@ -139,7 +153,8 @@ sector_on members chunk parity member row = chunk_on members (row / chunk) parit
 
 -- it lies there
 pub sector_is_placed : {members chunk stripes : ℕ} (parity member row : ℕ) → IsGeometry members chunk stripes
-    → parity ≡ parity_member_of members chunk row → member < members → member ≢ parity → IsPlace members chunk (sector_on members chunk parity member row) member row
+    → parity ≡ parity_member_of members chunk row → member < members → member ≢ parity
+    → IsPlace members chunk (sector_on members chunk parity member row) member row
 sector_is_placed {members} {chunk} parity member row limits is within other =
     let some : 0 < chunk = omega (arith, chunk_least limits) in
     let offset : row % chunk < chunk = mod_below row chunk some in
@@ -167,7 +182,8 @@ place_beside_parity {members} {chunk} {row} limits place parity same =
     place_is_no_parity limits place (subst (λ (m : ℕ). IsParityOf members chunk row m) (sym same) parity)
 
 -- no other member holds none of the stripe's chunks
-pub parity_is_at : {members chunk stripes member row : ℕ} → IsGeometry members chunk stripes → IsParityOf members chunk row member → member ≡ parity_member_of members chunk row
+pub parity_is_at : {members chunk stripes member row : ℕ} → IsGeometry members chunk stripes → IsParityOf members chunk row member
+    → member ≡ parity_member_of members chunk row
 parity_is_at {members} {chunk} {stripes} {member} {row} limits parity = elim (cases_eq member (parity_member_of members chunk row)) [
   | inl same ↦ same
   | inr other ↦ absurd (place_is_no_parity limits (sector_is_placed (parity_member_of members chunk row) member row limits refl parity.in_set other) parity)
@@ -179,7 +195,8 @@ pub parity_is_one : {members chunk stripes member member' row : ℕ} → IsGeome
 parity_is_one limits one two = parity_is_at limits one ∙ sym (parity_is_at limits two)
 
 -- the rows of a stripe have their parity on one member
-pub parity_of_stripe : {members chunk row row' member : ℕ} → row / chunk ≡ row' / chunk → IsParityOf members chunk row member → IsParityOf members chunk row' member
+pub parity_of_stripe : {members chunk row row' member : ℕ} → row / chunk ≡ row' / chunk → IsParityOf members chunk row member
+    → IsParityOf members chunk row' member
 parity_of_stripe same parity = record {
   in_set = parity.in_set;
   holds_none = λ c is. parity.holds_none c (is ∙ sym same);

@@ -33,7 +33,8 @@ impl Geometry {
     /// The geometry of a set with these members, sectors of a chunk and stripes.
     ///
     /// Refused with `BadGeometry` where a number is outside its limits (3 to 8 members, a chunk of 8, 16, 32, 64 or 128
-    /// sectors, 2 to 65,536 stripes), or where the data sectors, less the 64 reserved ones, hold no extent of 64 sectors.
+    /// sectors, 2 to 65,536 stripes), or where the data sectors, less the 64 reserved ones, hold no extent of 64
+    /// sectors.
     pub fn new(members: u8, chunk: u16, stripes: u32) -> Result<Geometry, Refusal>
         ensures within { IsOk result ↔ IsGeometry members chunk stripes }
         ensures members { IfOk result (λ geometry. geometry.members ≡ members) }

@@ -1,5 +1,6 @@
 -- Sectors in vectors, one vector after the other.
-use Rattle.std.proofs.Common.{◌≡◌, ℕ, zero, suc, ◌+◌, ◌*◌, ◌<◌, ◌≤◌, List, [], ◌∷◌, ◌++◌, length, get_or, set, take, drop, replicate, refl, sym, ap, ◌∙◌, arith, append-nil, append_assoc, take-add, take-append-drop, length-drop, length-take-le}
+use Rattle.std.proofs.Common.{◌≡◌, ℕ, zero, suc, ◌+◌, ◌*◌, ◌<◌, ◌≤◌, List, [], ◌∷◌, ◌++◌, length, get_or, set, take, drop, replicate, refl, sym, ap, ◌∙◌, arith}
+use Rattle.std.proofs.Common.{append-nil, append_assoc, take-add, take-append-drop, length-drop, length-take-le}
 use Rattle.std.specs.Prelude.{bit_xor, bit_or}
 use Rattle.std.specs.Simd.Lanes.{chunk, put_chunk, zip2, fold_l}
 use Rattle.std.proofs.lemmas.List.{take_more, take_more_set, drop-append-le, replicate-append-replicate}

@@ -115,7 +115,8 @@ xor_of_all-middle (y ∷ before) after x =
     xor_of-left_comm a b c = sym (xor_of-assoc a b c) ∙ ap (λ s. xor_of s c) (xor_of-comm a b) ∙ xor_of-assoc b a c
 
 -- the XOR of the first sectors, with one sector more
-pub xor_of_all-take : (sectors : List (List ℕ)) (i : ℕ) → i < length sectors → xor_of_all (take (i + 1) sectors) ≡ xor_of (xor_of_all (take i sectors)) (get_or sectors i [])
+pub xor_of_all-take : (sectors : List (List ℕ)) (i : ℕ) → i < length sectors
+    → xor_of_all (take (i + 1) sectors) ≡ xor_of (xor_of_all (take i sectors)) (get_or sectors i [])
 xor_of_all-take sectors i within =
     let so_far = xor_of_all (take i sectors) in
     let sector = get_or sectors i [] in
@@ -126,7 +127,8 @@ xor_of_all-take sectors i within =
     ∙ xor_of-zero-xor_of so_far sector
 
 -- one sector of a row replaced
-pub xor_of_all-set : (row : List (List ℕ)) (place : ℕ) (new : List ℕ) → place < length row → xor_of_all (set row place new) ≡ xor_of (xor_of (xor_of_all row) (get_or row place [])) new
+pub xor_of_all-set : (row : List (List ℕ)) (place : ℕ) (new : List ℕ) → place < length row
+    → xor_of_all (set row place new) ≡ xor_of (xor_of (xor_of_all row) (get_or row place [])) new
 xor_of_all-set [] place new within = absurd (omega arith)
 xor_of_all-set (x ∷ row) zero new within =
     let rest = xor_of_all row in
@@ -139,7 +141,8 @@ xor_of_all-set (x ∷ row) (suc place) new within =
     ∙ ap (λ s. xor_of s new) (sym (xor_of-assoc x rest old))
 
 -- in a sound row each sector is the XOR of all the others
-pub sector_from_others : (before after : List (List ℕ)) (sector : List ℕ) → length sector ≡ 512 → IsSoundRow (before ++ sector ∷ after) → sector ≡ xor_of_all (before ++ after)
+pub sector_from_others : (before after : List (List ℕ)) (sector : List ℕ) → length sector ≡ 512 → IsSoundRow (before ++ sector ∷ after)
+    → sector ≡ xor_of_all (before ++ after)
 sector_from_others before after sector long sound =
     let others = xor_of_all (before ++ after) in
     let zero_in_all : xor_of sector others ≡ zero_sector = sym (xor_of_all-middle before after sector) ∙ sound in
@@ -151,7 +154,8 @@ pub sound_from_others : (before after : List (List ℕ)) → IsSoundRow (before 
 sound_from_others before after = xor_of_all-middle before after (xor_of_all (before ++ after)) ∙ xor_of-self (xor_of_all (before ++ after))
 
 -- in a sound row the sector at a place is the XOR of the sectors at the other places
-pub sector_from_others_at : (row : List (List ℕ)) (place : ℕ) → place < length row → length (get_or row place []) ≡ 512 → IsSoundRow row → get_or row place [] ≡ xor_of_all (take place row ++ drop (place + 1) row)
+pub sector_from_others_at : (row : List (List ℕ)) (place : ℕ) → place < length row → length (get_or row place []) ≡ 512 → IsSoundRow row
+    → get_or row place [] ≡ xor_of_all (take place row ++ drop (place + 1) row)
 sector_from_others_at row place within long sound =
     let split : row ≡ take place row ++ get_or row place [] ∷ drop (place + 1) row =
     sym (take-append-drop place row) ∙ ap (λ rest. take place row ++ rest) (drop_more row place [] within) in
@@ -187,7 +191,8 @@ settled d n p =
         ∙ ap (λ s. xor_of zero_sector s) (sym (xor_of-assoc p d n))
 
 -- a sound row stays sound where one sector is replaced and another, the parity, takes the difference
-pub sound_after_delta : (row : List (List ℕ)) (data_place parity_place : ℕ) (new : List ℕ) → data_place < length row → parity_place < length row → data_place ≢ parity_place → IsSoundRow row
+pub sound_after_delta : (row : List (List ℕ)) (data_place parity_place : ℕ) (new : List ℕ) → data_place < length row → parity_place < length row
+    → data_place ≢ parity_place → IsSoundRow row
     → IsSoundRow (set (set row data_place new) parity_place (xor_of (xor_of (get_or row parity_place []) (get_or row data_place [])) new))
 sound_after_delta row data_place parity_place new data_within parity_within apart sound =
     let d = get_or row data_place [] in

@@ -20,7 +20,8 @@ data Ends (line : Invocation) (done : Result (Unit {0}) FolderFault) (status : �
   unassembled : IsChecked line → status ≡ 0 → health ≡ Unassembled → result ≡ 4 → Ends line done status health result
   refused : (refusal : Refusal) → IsChecked line → done ≡ Err (Refused refusal) → IsNone refusal → status ≡ 1 → result ≡ 4 → Ends line done status health result
 
-ends_by : (line : Invocation) → IsChecked line → (done : Result (Unit {0}) FolderFault) (status : ℕ) (health : Health) (result : ℕ) → result ≡ status_by done status health
+ends_by : (line : Invocation) → IsChecked line → (done : Result (Unit {0}) FolderFault) (status : ℕ) (health : Health) (result : ℕ)
+    → result ≡ status_by done status health
     → status ≡ (if is_ok done then 0 else 1) → Ends line done status health result
 ends_by line asks (Ok value) status Complete result is st = well asks st refl is
 ends_by line asks (Ok value) status Incomplete result is st = incomplete asks st refl is
@@ -31,7 +32,8 @@ ends_by line asks (Err (Refused TwoLost)) status health result is st = refused T
 ends_by line asks (Err (Refused Worn)) status health result is st = refused Worn asks refl tt st is
 ends_by line asks (Err fault) status health result is st = plainly is (λ _. st)
 
-ends_of : (line : Invocation) (done : Result (Unit {0}) FolderFault) (status : ℕ) (health : Health) (result : ℕ) → result ≡ checked_status line done status health
+ends_of : (line : Invocation) (done : Result (Unit {0}) FolderFault) (status : ℕ) (health : Health) (result : ℕ)
+    → result ≡ checked_status line done status health
     → status ≡ (if is_ok done then 0 else 1) → Ends line done status health result
 ends_of (Status f i j true) done status health result is st = ends_by (Status f i j true) tt done status health result is st
 ends_of (Examine f i j true) done status health result is st = ends_by (Examine f i j true) tt done status health result is st
@@ -41,7 +43,8 @@ at_most_one : (done : Result (Unit {0}) FolderFault) (status : ℕ) → status �
 at_most_one (Ok value) status is = omega (arith, is)
 at_most_one (Err fault) status is = omega (arith, is)
 
-module _ (line : Invocation) (done : Result (Unit {0}) FolderFault) (status : ℕ) (health : Health) (result : ℕ) (is : result ≡ checked_status line done status health)
+module _ (line : Invocation) (done : Result (Unit {0}) FolderFault) (status : ℕ) (health : Health) (result : ℕ)
+    (is : result ≡ checked_status line done status health)
     (st : status ≡ (if is_ok done then 0 else 1)) where
   pub most_of : result ≤ 4
   most_of = elim (ends_of line done status health result is st) [
@@ -119,7 +122,8 @@ module _ (line : Invocation) (done : Result (Unit {0}) FolderFault) (status : �
   ]
 
 -- a line to make a set asks for nothing more
-pub misshapen_status : (line : Invocation) (done : Result (Unit {0}) FolderFault) (status : ℕ) (health : Health) → IsMisshapen line → checked_status line done status health ≡ status
+pub misshapen_status : (line : Invocation) (done : Result (Unit {0}) FolderFault) (status : ℕ) (health : Health) → IsMisshapen line
+    → checked_status line done status health ≡ status
 misshapen_status (Make folder id members chunk stripes) done status health bad = refl
 misshapen_status line done status health bad = absurd bad
 

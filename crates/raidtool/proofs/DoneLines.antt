@@ -23,14 +23,16 @@ use Rattle.raidtool.specs.FolderFiles.{WereTaken}
 use Rattle.device_files.specs.Faults.{fault_line}
 use Rattle.raidtool.specs.Stops.{IsBlamed}
 use Rattle.set_commands.specs.Run.{Streams}
-use Rattle.raidtool.specs.Tool.{IsBlamedIn, IsChecked, IsCutOff, IsDoneIn, IsEndOf, IsEndOfLine, IsFirst, IsMisshapen, IsNone, IsPartWritten, IsStopOf, IsWritten, PassesNone, WasRefused, WasStopped, folder_text, id_text}
+use Rattle.raidtool.specs.Tool.{IsBlamedIn, IsChecked, IsCutOff, IsDoneIn, IsEndOf, IsEndOfLine, IsFirst, IsMisshapen, IsNone, IsPartWritten, IsStopOf}
+use Rattle.raidtool.specs.Tool.{IsWritten, PassesNone, WasRefused, WasStopped, folder_text, id_text}
 use Rattle.command_line.proofs.Asked.{SameInvocation}
 use Rattle.raidtool.proofs.InspectionsTold.{inspections_written}
 use Rattle.raidtool.proofs.Repaired.{told_progress, told_scrub}
 use Rattle.raidtool.proofs.Statuses.{told_status}
 
 -- what it writes was written
-pub written_of : (line : Invocation) (honest : Type 0) (bank : BankView) (was is : Streams) → DoesOn line honest bank was is → IsWritten line was.contents is.contents
+pub written_of : (line : Invocation) (honest : Type 0) (bank : BankView) (was is : Streams) → DoesOn line honest bank was is
+    → IsWritten line was.contents is.contents
 written_of (Run folder id) honest bank was is does = tt
 written_of (Make folder id members chunk stripes) honest bank was is does = (does.0.1.within, does.1)
 written_of (Status folder id json check) honest bank was is does = told_status honest id bank json was.contents is.contents does
@@ -66,8 +68,10 @@ done_too (Examine f i json check) (Examine g j as_json as_check) was is same don
 done_too a b was is same done = absurd same
 
 -- a set was made
-pub made_done : (folder : Bor Text) (id : List ℕ) (members chunk stripes : ℕ) (geometry : Geometry) (done : Result (Unit {0}) FolderFault) (was is : Streams) → HasSizes members chunk stripes geometry
-    → OnOk done (IsMadeSet id geometry) → OnOk done (Appends was.contents is.contents made_line) → OnOk done (IsDone (Make folder id members chunk stripes) was is)
+pub made_done : (folder : Bor Text) (id : List ℕ) (members chunk stripes : ℕ) (geometry : Geometry) (done : Result (Unit {0}) FolderFault) (was is : Streams)
+    → HasSizes members chunk stripes geometry
+    → OnOk done (IsMadeSet id geometry) → OnOk done (Appends was.contents is.contents made_line)
+    → OnOk done (IsDone (Make folder id members chunk stripes) was is)
 made_done folder id members chunk stripes geometry (Ok value) was is sizes made written = (made.0, ((geometry, sizes, made.1), written))
 made_done folder id members chunk stripes geometry (Err fault) was is sizes made written = tt
 
@@ -78,7 +82,8 @@ replaced_done folder id slot (Ok value) was is replaced written = (replaced.0, (
 replaced_done folder id slot (Err fault) was is replaced written = tt
 
 -- a line that makes no set has no sizes that are none
-pub no_make : (line : Invocation) → ((folder : Bor Text) (id : List ℕ) (members chunk stripes : ℕ) → line ≡ Make folder id members chunk stripes → ⊥) → IsMisshapen line → ⊥
+pub no_make : (line : Invocation) → ((folder : Bor Text) (id : List ℕ) (members chunk stripes : ℕ) → line ≡ Make folder id members chunk stripes → ⊥)
+    → IsMisshapen line → ⊥
 no_make (Make folder id members chunk stripes) other bad = other folder id members chunk stripes refl
 no_make line other bad = bad
 
@@ -121,18 +126,23 @@ both_done P Q (Err fault) first second = tt
 
 -- a line that needs no file to be made was done in the folder whose files were opened
 pub served_in : {F L : Type 0} (Opens : (path : List ℕ) → Result (Option F) OpenFault → Type 0) (IsSafe : F → Type 0)
-    (Inspects : (path : List ℕ) → Result (Option L) OpenFault → Type 0) (IsSynced : (folder : List ℕ) → Type 0) (line : Invocation) (done : Result (Unit {0}) FolderFault)
+    (Inspects : (path : List ℕ) → Result (Option L) OpenFault → Type 0) (IsSynced : (folder : List ℕ) → Type 0) (line : Invocation)
+    (done : Result (Unit {0}) FolderFault)
     → ((folder : Bor Text) (id : List ℕ) (members chunk stripes : ℕ) → line ≡ Make folder id members chunk stripes → ⊥)
     → ((folder : Bor Text) (id : List ℕ) (slot : ℕ) → line ≡ Replace folder id slot → ⊥)
     → ((folder : Bor Text) (id : Option (List ℕ)) (json check : Bool) → line ≡ Examine folder id json check → ⊥)
-    → OnOk done (WereTaken IsSafe (λ slot. Opens (slot_path (folder_text line) slot)) (λ _. ⊥) (IsMissingIn (id_text line))) → OnOk done (IsDoneIn Opens IsSafe Inspects IsSynced line)
-served_in Opens IsSafe Inspects IsSynced (Make folder id members chunk stripes) done no_make no_replace no_inspection opened = absurd (no_make folder id members chunk stripes refl)
+    → OnOk done (WereTaken IsSafe (λ slot. Opens (slot_path (folder_text line) slot)) (λ _. ⊥) (IsMissingIn (id_text line)))
+    → OnOk done (IsDoneIn Opens IsSafe Inspects IsSynced line)
+served_in Opens IsSafe Inspects IsSynced (Make folder id members chunk stripes) done no_make no_replace no_inspection opened =
+    absurd (no_make folder id members chunk stripes refl)
 served_in Opens IsSafe Inspects IsSynced (Replace folder id slot) done no_make no_replace no_inspection opened = absurd (no_replace folder id slot refl)
-served_in Opens IsSafe Inspects IsSynced (Examine folder id json check) done no_make no_replace no_inspection opened = absurd (no_inspection folder id json check refl)
+served_in Opens IsSafe Inspects IsSynced (Examine folder id json check) done no_make no_replace no_inspection opened =
+    absurd (no_inspection folder id json check refl)
 served_in Opens IsSafe Inspects IsSynced line done no_make no_replace no_inspection opened = opened
 
 -- and what is blamed is what opening its files, or creating them, came to
-pub served_blamed : {F Made L : Type 0} (Opens : (path : List ℕ) → Result (Option F) OpenFault → Type 0) (Creates : (path : List ℕ) → Result Made CreateFault → Type 0)
+pub served_blamed : {F Made L : Type 0} (Opens : (path : List ℕ) → Result (Option F) OpenFault → Type 0)
+    (Creates : (path : List ℕ) → Result Made CreateFault → Type 0)
     (HasFailed : F → Type 0) (Inspects : (path : List ℕ) → Result (Option L) OpenFault → Type 0) (line : Invocation) (done : Result (Unit {0}) FolderFault)
     → ((folder : Bor Text) (id : Option (List ℕ)) (json check : Bool) → line ≡ Examine folder id json check → ⊥)
     → IfErr done (IsBlamed Opens Creates HasFailed (folder_text line)) → IfErr done (IsBlamedIn Opens Creates HasFailed Inspects line)
@@ -154,16 +164,37 @@ end_of_line (Upgrade folder id) refusal stops = stops
 end_of_line (Examine folder id json check) refusal stops = stops
 
 -- the program says what stopped a line
-pub was_stopped : (words : List Text) (Blamed : Invocation → FolderFault → Type 0) (line : Invocation) (folder : List ℕ) (Told : List ℕ → Type 0) (Same : Type 0) (fault : FolderFault)
+pub was_stopped : (words : List Text) (Blamed : Invocation → FolderFault → Type 0) (line : Invocation) (folder : List ℕ) (Told : List ℕ → Type 0)
+    (Same : Type 0) (fault : FolderFault)
     → AsksFor words line → folder ≡ folder_text line → IsStopOf line fault → Blamed line fault → Told (fault_line folder fault) → (IsFirst fault → Same)
     → ((refusal : Refusal) → fault ≡ Refused refusal → IsChecked line → ¬ IsNone refusal)
     → WasRefused (IsEndOf words) Told Same ⊎ WasStopped words Blamed Told Same
 was_stopped words Blamed line folder Told Same (Refused refusal) asked is stops blamed told alone apart =
     inl (record { refusal = refusal; ends = inr (inr (line, asked, end_of_line line refusal stops, apart refusal refl)); told = told; alone = alone })
 was_stopped words Blamed line folder Told Same (NoFile slot) asked is stops blamed told alone apart =
-    inr (record { line = line; fault = NoFile slot; asked = asked; of_files = tt; stops = stops; blamed = blamed; told = subst (λ (f : List ℕ). Told (fault_line f (NoFile slot))) is told; same = alone tt })
+    inr (record {
+      line = line;
+      fault = NoFile slot;
+      asked = asked;
+      of_files = tt;
+      stops = stops;
+      blamed = blamed;
+      told =
+          subst (λ (f : List ℕ). Told (fault_line f (NoFile slot))) is told;
+      same = alone tt;
+    })
 was_stopped words Blamed line folder Told Same (InUse slot) asked is stops blamed told alone apart =
-    inr (record { line = line; fault = InUse slot; asked = asked; of_files = tt; stops = stops; blamed = blamed; told = subst (λ (f : List ℕ). Told (fault_line f (InUse slot))) is told; same = alone tt })
+    inr (record {
+      line = line;
+      fault = InUse slot;
+      asked = asked;
+      of_files = tt;
+      stops = stops;
+      blamed = blamed;
+      told =
+          subst (λ (f : List ℕ). Told (fault_line f (InUse slot))) is told;
+      same = alone tt;
+    })
 was_stopped words Blamed line folder Told Same (NotOpened slot reason) asked is stops blamed told alone apart =
     inr (record {
       line = line;
@@ -176,7 +207,17 @@ was_stopped words Blamed line folder Told Same (NotOpened slot reason) asked is 
       same = alone tt;
     })
 was_stopped words Blamed line folder Told Same (NotRegular slot) asked is stops blamed told alone apart =
-    inr (record { line = line; fault = NotRegular slot; asked = asked; of_files = tt; stops = stops; blamed = blamed; told = subst (λ (f : List ℕ). Told (fault_line f (NotRegular slot))) is told; same = alone tt })
+    inr (record {
+      line = line;
+      fault = NotRegular slot;
+      asked = asked;
+      of_files = tt;
+      stops = stops;
+      blamed = blamed;
+      told =
+          subst (λ (f : List ℕ). Told (fault_line f (NotRegular slot))) is told;
+      same = alone tt;
+    })
 was_stopped words Blamed line folder Told Same (NotSafe slot shortage) asked is stops blamed told alone apart =
     inr (record {
       line = line;
@@ -189,16 +230,37 @@ was_stopped words Blamed line folder Told Same (NotSafe slot shortage) asked is 
       same = alone tt;
     })
 was_stopped words Blamed line folder Told Same (OtherSet slot) asked is stops blamed told alone apart =
-    inr (record { line = line; fault = OtherSet slot; asked = asked; of_files = tt; stops = stops; blamed = blamed; told = subst (λ (f : List ℕ). Told (fault_line f (OtherSet slot))) is told; same = alone tt })
+    inr (record {
+      line = line;
+      fault = OtherSet slot;
+      asked = asked;
+      of_files = tt;
+      stops = stops;
+      blamed = blamed;
+      told =
+          subst (λ (f : List ℕ). Told (fault_line f (OtherSet slot))) is told;
+      same = alone tt;
+    })
 was_stopped words Blamed line folder Told Same NotSynced asked is stops blamed told alone apart =
-    inr (record { line = line; fault = NotSynced; asked = asked; of_files = tt; stops = stops; blamed = blamed; told = subst (λ (f : List ℕ). Told (fault_line f NotSynced)) is told; same = alone tt })
+    inr (record {
+      line = line;
+      fault = NotSynced;
+      asked = asked;
+      of_files = tt;
+      stops = stops;
+      blamed = blamed;
+      told =
+          subst (λ (f : List ℕ). Told (fault_line f NotSynced)) is told;
+      same = alone tt;
+    })
 
 is_cut : (fault : FolderFault) → (fault ≡ Refused WriteFault) ⊎ (fault ≢ Refused WriteFault)
 is_cut (Refused WriteFault) = inl refl
 is_cut fault = inr (λ cut. cc)
 
 -- standard output got nothing then, or a part of what the line writes
-pub unmade_by : (line : Invocation) (folder : List ℕ) (out new_out : Option (List ℕ)) (Told : List ℕ → Type 0) (Same : Type 0) (fault : FolderFault) → Told (fault_line folder fault)
+pub unmade_by : (line : Invocation) (folder : List ℕ) (out new_out : Option (List ℕ)) (Told : List ℕ → Type 0) (Same : Type 0) (fault : FolderFault)
+    → Told (fault_line folder fault)
     → (fault ≢ Refused WriteFault → Same) → (fault ≡ Refused WriteFault → IsPartWritten line out new_out)
     → Same ⊎ IsCutOff line out new_out Told
 unmade_by line folder out new_out Told Same fault told same part = elim (is_cut fault) [

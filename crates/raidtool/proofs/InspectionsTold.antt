@@ -30,13 +30,15 @@ told_at honest own id json old new text same inspections = by_found inspections.
     by_found (Some one) is told = (one ∷ [], (text, [], told, of_id one is, refl, sym (append-nil text)))
 
 -- the same after it
-told_then : (id : Option (List ℕ)) (json : Bool) (examined : List Examined) (first rest : List ℕ) → AreInspections id json examined first → Told id json rest → Told id json (first ++ rest)
+told_then : (id : Option (List ℕ)) (json : Bool) (examined : List Examined) (first rest : List ℕ) → AreInspections id json examined first → Told id json rest
+    → Told id json (first ++ rest)
 told_then id json [] first rest are more = subst (Told id json) (ap (λ (t : List ℕ). t ++ rest) (sym are)) more
 told_then id json (one ∷ others) first rest (part, left, is, own, are, split) more =
     let beyond = told_then id json others left rest are more in
     (one ∷ beyond.0, (part, left ++ rest, is, own, beyond.1, ap (λ (t : List ℕ). t ++ rest) split ∙ append_assoc part left rest))
 
-told_above : (honest : Type 0) (json : Bool) (most : ℕ) (above : Option (List ℕ)) (old new : BankView) (text : List ℕ) → InspectsAbove honest json most above old new text
+told_above : (honest : Type 0) (json : Bool) (most : ℕ) (above : Option (List ℕ)) (old new : BankView) (text : List ℕ)
+    → InspectsAbove honest json most above old new text
     → Told None json text
 told_above honest json zero above old new text inspections = ([], inspections.1)
 told_above honest json (suc most) above old new text (inl none) = ([], none.1)
@@ -50,14 +52,16 @@ told honest None json bank text inspections = told_above honest json 20 None ban
 told honest (Some id) json bank text inspections = told_at honest (Some id) id json bank inspections.0 text refl inspections.1
 
 -- they were written
-pub inspections_written : (honest : Type 0) (id : Option (List ℕ)) (json : Bool) (bank : BankView) (was is : Option (List ℕ)) → ExaminesOn honest id json bank was is
+pub inspections_written : (honest : Type 0) (id : Option (List ℕ)) (json : Bool) (bank : BankView) (was is : Option (List ℕ))
+    → ExaminesOn honest id json bank was is
     → IsInspectionTold id json (Appends was is)
 inspections_written honest id json bank was is done =
     let all = told honest id json bank done.text done.inspections in
     record { examined = all.0; text = done.text; inspections = all.1; some = done.some; written = done.written }
 
 -- or a beginning of them
-pub inspections_cut : (honest : Type 0) (id : Option (List ℕ)) (json : Bool) (bank : BankView) (was is : Option (List ℕ)) → ExaminesPartOn honest id json bank was is
+pub inspections_cut : (honest : Type 0) (id : Option (List ℕ)) (json : Bool) (bank : BankView) (was is : Option (List ℕ))
+    → ExaminesPartOn honest id json bank was is
     → IsInspectionTold id json (AppendsPart was is)
 inspections_cut honest id json bank was is done =
     let all = told honest id json bank done.text done.inspections in

@@ -37,17 +37,21 @@ pub noted_next : {F Fault : Type 0} (told : F → List ℕ) (Creates : ℕ → R
     → bytes ≡ need slot → AreOthersKept was is slot → AreOtherNotesKept notes_was notes_is slot
     → IsNotedOf told (Creates slot) bytes (before_in notes_was slot) (file_in was slot) (file_in is slot) (before_in notes_is slot)
     → (k : ℕ) → IsNotedIn told (Creates k) (need k) (before_in notes_first k) (file_in first k) (file_in is k) (before_in notes_is k)
-noted_next told Creates need first was is notes_first notes_was notes_is slot bytes all beyond unnoted enough others other_notes here k = elim (cases_eq k slot) [
-  | inl same ↦
-      let on : slot ≤ slot = omega arith in
-      subst (λ (j : ℕ). IsNotedIn told (Creates j) (need j) (before_in notes_first j) (file_in first j) (file_in is j) (before_in notes_is j)) (sym same)
-      (inl (subst (λ (n : ℕ). IsNotedOf told (Creates slot) n (before_in notes_first slot) (file_in first slot) (file_in is slot) (before_in notes_is slot)) enough
-      (subst (λ note. IsNotedOf told (Creates slot) bytes note (file_in first slot) (file_in is slot) (before_in notes_is slot)) (unnoted slot on)
-      (subst (λ file. IsNotedOf told (Creates slot) bytes (before_in notes_was slot) file (file_in is slot) (before_in notes_is slot)) (beyond slot on) here))))
-  | inr apart ↦
-      subst (λ file. IsNotedIn told (Creates k) (need k) (before_in notes_first k) (file_in first k) file (before_in notes_is k)) (sym (others k apart))
-      (subst (λ note. IsNotedIn told (Creates k) (need k) (before_in notes_first k) (file_in first k) (file_in was k) note) (sym (other_notes k apart)) (all k))
-]
+noted_next told Creates need first was is notes_first notes_was notes_is slot bytes all beyond unnoted enough others other_notes here k =
+    elim (cases_eq k slot) [
+      | inl same ↦
+          let on : slot ≤ slot = omega arith in
+          subst (λ (j : ℕ). IsNotedIn told (Creates j) (need j) (before_in notes_first j) (file_in first j) (file_in is j) (before_in notes_is j)) (sym same)
+          (inl (subst (λ (n : ℕ). IsNotedOf told (Creates slot) n (before_in notes_first slot) (file_in first slot) (file_in is slot) (before_in notes_is slot))
+          enough
+          (subst (λ note. IsNotedOf told (Creates slot) bytes note (file_in first slot) (file_in is slot) (before_in notes_is slot)) (unnoted slot on)
+          (subst (λ file. IsNotedOf told (Creates slot) bytes (before_in notes_was slot) file (file_in is slot) (before_in notes_is slot)) (beyond slot on)
+          here))))
+      | inr apart ↦
+          subst (λ file. IsNotedIn told (Creates k) (need k) (before_in notes_first k) (file_in first k) file (before_in notes_is k)) (sym (others k apart))
+          (subst (λ note. IsNotedIn told (Creates k) (need k) (before_in notes_first k) (file_in first k) (file_in was k) note) (sym (other_notes k apart))
+          (all k))
+    ]
 
 -- what is noted of the files after a slot is what it was at first
 pub notes_next : (first was is : List Before) (slot : ℕ) → ((k : ℕ) → slot ≤ k → before_in was k ≡ before_in first k)

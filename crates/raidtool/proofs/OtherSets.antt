@@ -21,7 +21,8 @@ use Rattle.recovery.proofs.Finding.{Honest, none_failed_first, none_failed_secon
 pub record InspectedTo (honest : Type 0) (id : List ℕ) (first n : ℕ) (old now : BankView) : Type 0 where
   pub later : IsLater old.panel now.panel
   pub reads : honest → HasRead old.history now.history
-  pub none : honest → NoDeviceFailed old.panel now.panel → (slot : ℕ) → first ≤ slot → slot < n → SlotCountsNone id old.panel.devices slot (readable old.history slot)
+  pub none : honest → NoDeviceFailed old.panel now.panel → (slot : ℕ) → first ≤ slot → slot < n
+      → SlotCountsNone id old.panel.devices slot (readable old.history slot)
 
 pub inspected_none : (honest : Type 0) (id : List ℕ) (first : ℕ) (old : BankView) → InspectedTo honest id first first old old
 inspected_none honest id first old = record {
@@ -41,11 +42,13 @@ module _ (honest honest_mid : Type 0) (on : honest → honest_mid) (id : List �
       let second_stay = none_failed_second old.panel mid.panel new.panel inspected.later stay in
       let same : readable mid.history ≡ readable old.history = same_readable old mid (is_old h) (is_mid h) inspected.later (inspected.reads h) first_stay in
       let sought : NewestFound id mid.panel.devices n (readable mid.history) found = finds.sought (on h) second_stay found is in
-      let there : NewestFound id mid.panel.devices n (readable old.history) found = subst (λ (image : Slots). NewestFound id mid.panel.devices n image found) same sought in
+      let there : NewestFound id mid.panel.devices n (readable old.history) found =
+      subst (λ (image : Slots). NewestFound id mid.panel.devices n image found) same sought in
       subst (λ (devices : ℕ). NewestFound id devices n (readable old.history) found) inspected.later.devices there
 
   -- it has none
-  pub inspected_next : (answer : Result (Option Superblock) Refusal) → answer ≡ Ok None → Finds honest_mid id mid.panel.devices (NewestFound id mid.panel.devices n) mid new answer
+  pub inspected_next : (answer : Result (Option Superblock) Refusal) → answer ≡ Ok None
+      → Finds honest_mid id mid.panel.devices (NewestFound id mid.panel.devices n) mid new answer
       → InspectedTo honest id first (n + 1) old new
   inspected_next answer is finds = record {
     later = later_both old.panel mid.panel new.panel inspected.later finds.later;
@@ -53,7 +56,8 @@ module _ (honest honest_mid : Type 0) (on : honest → honest_mid) (id : List �
     none = λ fair stay slot from below. by_case fair stay slot from below (cases_lt slot n);
   }
     where
-      by_case : honest → NoDeviceFailed old.panel new.panel → (slot : ℕ) → first ≤ slot → slot < n + 1 → (slot < n) ⊎ (n ≤ slot) → SlotCountsNone id old.panel.devices slot (readable old.history slot)
+      by_case : honest → NoDeviceFailed old.panel new.panel → (slot : ℕ) → first ≤ slot → slot < n + 1 → (slot < n) ⊎ (n ≤ slot)
+          → SlotCountsNone id old.panel.devices slot (readable old.history slot)
       by_case fair stay slot from below (inl before) = inspected.none fair (none_failed_first old.panel mid.panel new.panel finds.later stay) slot from before
       by_case fair stay slot from below (inr beyond) =
           let at : n ≡ slot = omega (arith, beyond, below) in

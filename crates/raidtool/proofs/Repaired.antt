@@ -9,14 +9,16 @@ use Rattle.set_commands.specs.Steps.{Rebuilds}
 use Rattle.raidtool.specs.Tool.{IsProgressTold, IsScrubTold}
 
 -- without a number of steps a rebuild goes on to its end
-goes_to_end : (honest : Type 0) (steps : Option ℕ) (old new : StoreView) (progress : Progress) → Rebuilds honest steps old new (Ok progress) → steps ≡ None → progress ≡ Complete
+goes_to_end : (honest : Type 0) (steps : Option ℕ) (old new : StoreView) (progress : Progress) → Rebuilds honest steps old new (Ok progress) → steps ≡ None
+    → progress ≡ Complete
 goes_to_end honest steps old new Complete made none = refl
 goes_to_end honest steps old new (Position position) made none =
     let most = made.all_made position refl in
     let never : Some most.0 ≡ None = sym most.1 ∙ none in
     absurd cc
 
-pub told_progress : (honest : Type 0) (id : List ℕ) (steps : Option ℕ) (bank : BankView) (IsWritten : List ℕ → Type 0) → RebuildsOn honest id steps bank IsWritten → IsProgressTold steps IsWritten
+pub told_progress : (honest : Type 0) (id : List ℕ) (steps : Option ℕ) (bank : BankView) (IsWritten : List ℕ → Type 0)
+    → RebuildsOn honest id steps bank IsWritten → IsProgressTold steps IsWritten
 told_progress honest id steps bank IsWritten on = record {
   rows = row_count on.last.array.table;
   progress = on.progress;

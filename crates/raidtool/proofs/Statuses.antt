@@ -17,7 +17,8 @@ use Rattle.command_line.specs.Invocations.{AsksFor, Enters, IsFaultOf}
 use Rattle.set_commands.specs.Fresh.{IsFreshEnd}
 use Rattle.set_commands.specs.Serving.{IsEarly, IsEnd, StatusOn, TellsOn, TellsPartOn}
 use Rattle.report.specs.Replies.{refusal_line}
-use Rattle.raidtool.specs.Tool.{ComesFirst, IsAsked, IsCutOff, IsEndOf, IsMemoryFault, IsMisshapen, IsPartWritten, IsRun, IsStatusCut, IsStatusTold, IsWritten, WasRefused}
+use Rattle.raidtool.specs.Tool.{ComesFirst, IsAsked, IsCutOff, IsEndOf, IsMemoryFault, IsMisshapen, IsPartWritten, IsRun, IsStatusCut, IsStatusTold, IsWritten}
+use Rattle.raidtool.specs.Tool.{WasRefused}
 use Rattle.set_commands.proofs.FreshLemmas.{end_of_fresh}
 use Rattle.command_line.proofs.Asked.{SameInvocation, no_words, not_refused}
 
@@ -53,7 +54,8 @@ bad_alone words (Usage error) bad is other =
     elim kind [ inl memory ↦ absurd (other memory) | inr none ↦ absurd none ]
 
 -- what was found to be no fault of memory is none
-pub no_memory_fault : (fault same : InvocationFault) (is_memory : Bool) → (IsTrue is_memory ↔ IsMemoryFault fault) → is_memory ≡ false → fault ≡ same → ¬ IsMemoryFault same
+pub no_memory_fault : (fault same : InvocationFault) (is_memory : Bool) → (IsTrue is_memory ↔ IsMemoryFault fault) → is_memory ≡ false → fault ≡ same
+    → ¬ IsMemoryFault same
 no_memory_fault fault same is_memory both none is memory =
     let never : true ≡ false = sym (both.1 (subst IsMemoryFault (sym is) memory)) ∙ none in
     absurd cc
@@ -91,11 +93,13 @@ part_too (Examine f i json check) (Examine g j as_json as_check) old new same is
 part_too (Run f i) (Run g j) old new same is = is
 part_too a b old new same is = absurd same
 
-pub cut_too : (a b : Invocation) (out new_out : Option (List ℕ)) (Told : List ℕ → Type 0) → SameInvocation a b → IsCutOff b out new_out Told → IsCutOff a out new_out Told
+pub cut_too : (a b : Invocation) (out new_out : Option (List ℕ)) (Told : List ℕ → Type 0) → SameInvocation a b → IsCutOff b out new_out Told
+    → IsCutOff a out new_out Told
 cut_too a b out new_out Told same cut = record { part = part_too a b out new_out same cut.part; told = cut.told }
 
 pub misshapen_too : (a b : Invocation) → SameInvocation a b → IsMisshapen a → IsMisshapen b
-misshapen_too (Make f i members chunk stripes) (Make g j m c s) same is = let sizes = same.2 in λ geometry. is (rw (sizes.members_same, sizes.chunk_same, sizes.stripes_same) geometry)
+misshapen_too (Make f i members chunk stripes) (Make g j m c s) same is = let sizes =
+    same.2 in λ geometry. is (rw (sizes.members_same, sizes.chunk_same, sizes.stripes_same) geometry)
 misshapen_too (Make f i members chunk stripes) b same is = absurd same
 misshapen_too a b same is = absurd is
 
@@ -123,7 +127,8 @@ pub first_uncut : (refusal : Refusal) → ComesFirst refusal → refusal ≢ Wri
 first_uncut refusal first cut = subst ComesFirst cut first
 
 -- so where nothing is read, and nothing was written but where the writer failed, it leaves both as they were
-pub uncut_alone : (More Same : Type 0) (done : Result (Unit {0}) Refusal) → More → IfErr done (λ refusal. refusal ≢ WriteFault → Same) → IfErr done (λ refusal. ComesFirst refusal → More × Same)
+pub uncut_alone : (More Same : Type 0) (done : Result (Unit {0}) Refusal) → More → IfErr done (λ refusal. refusal ≢ WriteFault → Same)
+    → IfErr done (λ refusal. ComesFirst refusal → More × Same)
 uncut_alone More Same (Ok value) more same = tt
 uncut_alone More Same (Err refusal) more same = λ first. (more, same (first_uncut refusal first))
 
@@ -142,7 +147,8 @@ first_early TwoLost (inr (inr (inr ends))) first = absurd first
 first_early Worn (inr (inr (inr ends))) first = absurd first
 first_early refusal (inr (inr (inr ends))) first = absurd ends
 
-pub first_alone : (Same : Type 0) (done : Result (Unit {0}) Refusal) → IfErr done IsEnd → IfErr done (λ refusal. IsEarly refusal → Same) → IfErr done (λ refusal. ComesFirst refusal → Same)
+pub first_alone : (Same : Type 0) (done : Result (Unit {0}) Refusal) → IfErr done IsEnd → IfErr done (λ refusal. IsEarly refusal → Same)
+    → IfErr done (λ refusal. ComesFirst refusal → Same)
 first_alone Same (Ok value) ends alone = tt
 first_alone Same (Err refusal) ends alone = λ first. alone (first_early refusal ends first)
 
@@ -151,8 +157,10 @@ pub fresh_first : (refusal : Refusal) → IsFreshEnd refusal → ComesFirst refu
 fresh_first refusal ends first = elim (end_of_fresh refusal ends) [ inl served ↦ inl (first_early refusal served first) | inr unusable ↦ inr unusable ]
 
 -- the same of a script over a set that is made for it
-pub fresh_refused : (words : List Text) → words ≡ [] → (Same : Type 0) (Told : List ℕ → Type 0) (done : Result (Unit {0}) Refusal) (status : ℕ) → status ≡ (if is_ok done then 0 else 1) → status ≡ 1
-    → IfErr done IsFreshEnd → IfErr done (λ refusal. Told (refusal_line refusal)) → IfErr done (λ refusal. IsEarly refusal ⊎ (refusal ≡ NotUsable) → Same) → WasRefused (IsEndOf words) Told Same
+pub fresh_refused : (words : List Text) → words ≡ [] → (Same : Type 0) (Told : List ℕ → Type 0) (done : Result (Unit {0}) Refusal) (status : ℕ)
+    → status ≡ (if is_ok done then 0 else 1) → status ≡ 1
+    → IfErr done IsFreshEnd → IfErr done (λ refusal. Told (refusal_line refusal)) → IfErr done (λ refusal. IsEarly refusal ⊎ (refusal ≡ NotUsable) → Same)
+    → WasRefused (IsEndOf words) Told Same
 fresh_refused words none Same Told (Ok value) status is one ends told alone = absurd (omega (arith, is, one))
 fresh_refused words none Same Told (Err refusal) status is one ends told alone =
     record { refusal = refusal; ends = inr (inl (none, ends)); told = told; alone = λ first. alone (fresh_first refusal ends first) }
@@ -161,12 +169,15 @@ fresh_refused words none Same Told (Err refusal) status is one ends told alone =
 
 status_of_set : (honest : Type 0) (id : List ℕ) (bank : BankView) (status : SetStatus) → StatusOn honest id bank status → status.id ≡ id
 status_of_set honest id bank status told =
-    (told.tells.going (told.opened.opens.going told.store refl)).id ∙ (told.opened.opens.goes_on told.store refl).not_older.same_id ∙ told.opened.assembles.of_id told.opened.array refl
+    (told.tells.going (told.opened.opens.going told.store refl)).id ∙ (told.opened.opens.goes_on told.store refl).not_older.same_id
+    ∙ told.opened.assembles.of_id told.opened.array refl
 
-pub told_status : (honest : Type 0) (id : List ℕ) (bank : BankView) (json : Bool) (was is : Option (List ℕ)) → TellsOn honest id bank json was is → IsStatusTold id json was is
+pub told_status : (honest : Type 0) (id : List ℕ) (bank : BankView) (json : Bool) (was is : Option (List ℕ)) → TellsOn honest id bank json was is
+    → IsStatusTold id json was is
 told_status honest id bank json was is tells =
     record { status = tells.status; of_set = status_of_set honest id bank tells.status tells.told; written = tells.written }
 
-pub cut_status : (honest : Type 0) (id : List ℕ) (bank : BankView) (json : Bool) (was is : Option (List ℕ)) → TellsPartOn honest id bank json was is → IsStatusCut id json was is
+pub cut_status : (honest : Type 0) (id : List ℕ) (bank : BankView) (json : Bool) (was is : Option (List ℕ)) → TellsPartOn honest id bank json was is
+    → IsStatusCut id json was is
 cut_status honest id bank json was is tells =
     record { status = tells.status; of_set = status_of_set honest id bank tells.status tells.told; part = tells.written }

@@ -1,5 +1,6 @@
 -- What follows for a command from files that were opened and made safe, and where that failed.
-use Rattle.std.proofs.Common.{◌≡◌, ◌∙◌, ◌<◌, ◌≤◌, ◌+◌, ℕ, ap, inl, inr, refl, Bool, List, [], Option, Some, None, Ok, Err, IfSome, IsSome, OnOk, arith, subst, sym, true, false}
+use Rattle.std.proofs.Common.{◌≡◌, ◌∙◌, ◌<◌, ◌≤◌, ◌+◌, ℕ, ap, inl, inr, refl, Bool, List, [], Option, Some, None, Ok, Err, IfSome, IsSome, OnOk, arith, subst}
+use Rattle.std.proofs.Common.{sym, true, false}
 use Rattle.std.proofs.lemmas.Bool.{false≢true}
 use Rattle.std.specs.Prelude.{Result, is_some, zero, suc}
 use Rattle.std.specs.declared.io.Error.{Error}
@@ -55,17 +56,20 @@ were_taken tells told IsSafe HasFailed Opens files unsynced barred IsNeeded MayL
   opens = made.opens;
   passed = lacking;
   safe = λ slot under. safe_of tells told IsSafe HasFailed (file_in made.opened slot) (file_in files slot) (flag_in unsynced slot) (made.made_safe slot under);
-  kept = λ slot under needed. kept_of tells told IsSafe HasFailed (file_in made.opened slot) (file_in files slot) (flag_in unsynced slot) (made.made_safe slot under)
+  kept = λ slot under needed. kept_of tells told IsSafe HasFailed (file_in made.opened slot) (file_in files slot) (flag_in unsynced slot)
+      (made.made_safe slot under)
       (unmarked slot under needed);
 }
 
 -- ---- where that failed
 
 -- a slot that is refused for its mark is named because a call of its file failed
-pub unsynced_blamed : {F Made : Type 0} (tells : Bool) (told : F → List ℕ) (IsSafe HasFailed : F → Type 0) (SyncFailed : F → Error → Type 0) (Slots : (slot : ℕ) → Result (Option F) OpenFault → Type 0)
+pub unsynced_blamed : {F Made : Type 0} (tells : Bool) (told : F → List ℕ) (IsSafe HasFailed : F → Type 0) (SyncFailed : F → Error → Type 0)
+    (Slots : (slot : ℕ) → Result (Option F) OpenFault → Type 0)
     (files : List (Option F)) (unsynced : List Bool) (barred : List (Option Reason)) (Opens : (path : List ℕ) → Result (Option F) OpenFault → Type 0)
     (Creates : (path : List ℕ) → Result Made CreateFault → Type 0) (folder : List ℕ) (first end : ℕ) (fault : FolderFault)
-    → WereMadeSafe tells told IsSafe (IsGivenUp HasFailed SyncFailed) Slots files unsynced barred → IsUnsyncedIn unsynced first end fault → IsBlamed Opens Creates HasFailed folder fault
+    → WereMadeSafe tells told IsSafe (IsGivenUp HasFailed SyncFailed) Slots files unsynced barred → IsUnsyncedIn unsynced first end fault
+    → IsBlamed Opens Creates HasFailed folder fault
 unsynced_blamed tells told IsSafe HasFailed SyncFailed Slots files unsynced barred Opens Creates folder first end (NoFile slot) made is =
     let failed = failed_of tells told IsSafe (IsGivenUp HasFailed SyncFailed) (file_in made.opened slot) (file_in files slot) (flag_in unsynced slot)
     (made.made_safe slot is.0.1.1) is.1 in
@@ -99,8 +103,10 @@ pub barred_opening : {F : Type 0} (Opens : Result (Option F) OpenFault → Type 
 barred_opening Opens file found reason is opens = (rw is at opens).1
 
 -- one that is refused for it is named because that is what opening its path came to
-pub barred_blamed : {F Made : Type 0} (tells : Bool) (told : F → List ℕ) (IsSafe GivenUp HasFailed : F → Type 0) (files : List (Option F)) (unsynced : List Bool)
-    (barred : List (Option Reason)) (Opens : (path : List ℕ) → Result (Option F) OpenFault → Type 0) (Creates : (path : List ℕ) → Result Made CreateFault → Type 0)
+pub barred_blamed : {F Made : Type 0} (tells : Bool) (told : F → List ℕ) (IsSafe GivenUp HasFailed : F → Type 0) (files : List (Option F))
+    (unsynced : List Bool)
+    (barred : List (Option Reason)) (Opens : (path : List ℕ) → Result (Option F) OpenFault → Type 0)
+    (Creates : (path : List ℕ) → Result Made CreateFault → Type 0)
     (folder : List ℕ) (fault : FolderFault) → WereMadeSafe tells told IsSafe GivenUp (λ slot. Opens (slot_path folder slot)) files unsynced barred
     → IsPassingFault barred fault → IsBlamed Opens Creates HasFailed folder fault
 barred_blamed tells told IsSafe GivenUp HasFailed files unsynced barred Opens Creates folder (NotOpened slot reason) made is =
@@ -121,7 +127,8 @@ passing_slot barred slot (NotOpened other reason) is = is.0
 passing_slot barred slot (Refused refusal) is = elim is [ inl memory ↦ inl (inl (inl memory)) | inr worn ↦ inl (inr (inr (subst EndsIt (sym worn) tt))) ]
 passing_slot barred slot fault is = absurd is
 
-pub unsynced_unmade : (unsynced : List Bool) (first members : ℕ) (fault : FolderFault) → IsUnsyncedIn unsynced first (members + 2) fault → IsUnmade members fault
+pub unsynced_unmade : (unsynced : List Bool) (first members : ℕ) (fault : FolderFault) → IsUnsyncedIn unsynced first (members + 2) fault
+    → IsUnmade members fault
 unsynced_unmade unsynced first members (NoFile slot) is = is.0.1.0
 unsynced_unmade unsynced first members fault is = absurd is
 

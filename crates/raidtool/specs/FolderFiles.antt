@@ -13,21 +13,23 @@ use Rattle.device_files.specs.Faults.{IsUnmadeFile}
 
 -- The files of ten slots were opened, each that was used is safe, none of which this holds was given up for its sync, and one that is there was passed over
 -- because it could not be opened only where its slot may be lacking.
-pub record WereTaken {F : Type 0} (IsSafe : F → Type 0) (Opens : (slot : ℕ) → Result (Option F) OpenFault → Type 0) (IsNeeded MayLack : ℕ → Type 0) : Type 0 where
-  pub opened : List (Option F)
-  pub files : List (Option F)
-  pub barred : List (Option Reason)
-  pub opens : (slot : ℕ) → slot < 10 → IsOpenedAs (Opens slot) (file_in opened slot) (barred_in barred slot)
-  pub passed : (slot : ℕ) → slot < 10 → IsSome (barred_in barred slot) → MayLack slot
-  pub safe : (slot : ℕ) → slot < 10 → IfSome (file_in files slot) IsSafe
-  pub kept : (slot : ℕ) → slot < 10 → IsNeeded slot → is_some (file_in files slot) ≡ is_some (file_in opened slot)
+pub record WereTaken {F : Type 0} (IsSafe : F → Type 0) (Opens : (slot : ℕ) → Result (Option F) OpenFault → Type 0) (IsNeeded MayLack : ℕ → Type 0) : Type 0
+  where
+    pub opened : List (Option F)
+    pub files : List (Option F)
+    pub barred : List (Option Reason)
+    pub opens : (slot : ℕ) → slot < 10 → IsOpenedAs (Opens slot) (file_in opened slot) (barred_in barred slot)
+    pub passed : (slot : ℕ) → slot < 10 → IsSome (barred_in barred slot) → MayLack slot
+    pub safe : (slot : ℕ) → slot < 10 → IfSome (file_in files slot) IsSafe
+    pub kept : (slot : ℕ) → slot < 10 → IsNeeded slot → is_some (file_in files slot) ≡ is_some (file_in opened slot)
 
 -- the files of a folder's ten slots were opened: each is what the opening of its path came to
 abbrev pub WereOpened : {F Fault : Type 0} → (Opens : (path : List ℕ) → Result (Option F) Fault → Type 0) → (folder : List ℕ) → Type 0
 WereOpened Opens folder = (files : List (Option _)) × ((slot : ℕ) → slot < 10 → Opens (slot_path folder slot) (Ok (file_in files slot)))
 
 -- that is noted of the file of a slot, or neither it nor what is noted of it was touched
-abbrev pub IsNotedIn : {F Fault : Type 0} → (told : F → List ℕ) (Creates : Result (F × Before) Fault → Type 0) → ℕ → (was : Before) (old new : Option F) (is : Before) → Type 0
+abbrev pub IsNotedIn : {F Fault : Type 0} → (told : F → List ℕ) (Creates : Result (F × Before) Fault → Type 0) → ℕ
+    → (was : Before) (old new : Option F) (is : Before) → Type 0
 IsNotedIn told Creates bytes was old new is = IsNotedOf told Creates bytes was old new is ⊎ ((new ≡ old) × (is ≡ was))
 
 -- where the file of a slot is named, this holds of each slot below it, and that of each after it

@@ -29,10 +29,12 @@ IsToldAfter contents line old new = (mid : _) × HasPassed contents old mid × I
 
 -- the file of a slot is named as not opened, or as in use, only where that is what opening its path came to, or creating it; as not made only where creating it
 -- failed, or a call of a file did
-abbrev pub IsBlamed : {F Made : Type 0} → (Opens : (path : List ℕ) → Result (Option F) OpenFault → Type 0) (Creates : (path : List ℕ) → Result Made CreateFault → Type 0)
+abbrev pub IsBlamed : {F Made : Type 0} → (Opens : (path : List ℕ) → Result (Option F) OpenFault → Type 0)
+    (Creates : (path : List ℕ) → Result Made CreateFault → Type 0)
     (HasFailed : F → Type 0) → (folder : List ℕ) → FolderFault → Type 0
 IsBlamed Opens Creates HasFailed folder (NoFile slot) = Creates (slot_path folder slot) (Err CreateFault.Failed) ⊎ ((file : _) × HasFailed file)
-IsBlamed Opens Creates HasFailed folder (InUse slot) = Opens (slot_path folder slot) (Err OpenFault.Busy) ⊎ Creates (slot_path folder slot) (Err CreateFault.Busy)
+IsBlamed Opens Creates HasFailed folder (InUse slot) = Opens (slot_path folder slot) (Err OpenFault.Busy)
+    ⊎ Creates (slot_path folder slot) (Err CreateFault.Busy)
 IsBlamed Opens Creates HasFailed folder (NotOpened slot reason) = Opens (slot_path folder slot) (Err (OpenFault.Barred reason))
 IsBlamed Opens Creates HasFailed folder (NotRegular slot) = Opens (slot_path folder slot) (Err OpenFault.NotRegular)
 IsBlamed Opens Creates HasFailed folder (NotSafe slot shortage) = (file : _) × HasFailed file

@@ -231,12 +231,14 @@ abbrev pub IsDoneIn : {F L : Type 0} → (Opens : (path : List ℕ) → Result (
 IsDoneIn Opens IsSafe Inspects IsSynced (Make folder id members chunk stripes) =
     WereTaken IsSafe (λ slot. Opens (slot_path folder.now slot)) (λ slot. slot < members + 2) (λ _. ⊥) × IsSynced folder.now
 IsDoneIn Opens IsSafe Inspects IsSynced (Replace folder id slot) =
-    WereTaken IsSafe (λ other. Opens (slot_path folder.now other)) (λ other. other ≡ slot) (λ other. (other ≢ slot) × IsMissingIn id other) × IsSynced folder.now
+    WereTaken IsSafe (λ other. Opens (slot_path folder.now other)) (λ other. other ≡ slot) (λ other. (other ≢ slot) × IsMissingIn id other)
+    × IsSynced folder.now
 IsDoneIn Opens IsSafe Inspects IsSynced (Examine folder id json check) = WereOpened Inspects folder.now
 IsDoneIn Opens IsSafe Inspects IsSynced line = WereTaken IsSafe (λ slot. Opens (slot_path (folder_text line) slot)) (λ _. ⊥) (IsMissingIn (id_text line))
 
 -- a device file is named only where that is what opening its path came to, or creating it, or a call of a file, or opening it for reading alone
-abbrev pub IsBlamedIn : {F Made L : Type 0} → (Opens : (path : List ℕ) → Result (Option F) OpenFault → Type 0) (Creates : (path : List ℕ) → Result Made CreateFault → Type 0)
+abbrev pub IsBlamedIn : {F Made L : Type 0} → (Opens : (path : List ℕ) → Result (Option F) OpenFault → Type 0)
+    (Creates : (path : List ℕ) → Result Made CreateFault → Type 0)
     (HasFailed : F → Type 0) (Inspects : (path : List ℕ) → Result (Option L) OpenFault → Type 0) → Invocation → FolderFault → Type 0
 IsBlamedIn Opens Creates HasFailed Inspects (Examine folder id json check) fault = IsInspectionBlamed Inspects folder.now fault
 IsBlamedIn Opens Creates HasFailed Inspects line fault = IsBlamed Opens Creates HasFailed (folder_text line) fault

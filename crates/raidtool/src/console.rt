@@ -1,8 +1,9 @@
 //! Standard input and standard output of the program.
 //!
-//! Replies to lines that begin with `read ` are buffered, and leave together: before any other line is given to be done, before the system is asked for
-//! more of the script, and when the buffered bytes fill their buffer. So whoever types or pipes lines has each answer before he is waited for, each
-//! command that changes a volume begins once all replies before it are with the system, and many reads cost few calls of the system.
+//! Replies to lines that begin with `read ` are buffered, and leave together: before any other line is given to be
+//! done, before the system is asked for more of the script, and when the buffered bytes fill their buffer. So whoever
+//! types or pipes lines has each answer before he is waited for, each command that changes a volume begins once all
+//! replies before it are with the system, and many reads cost few calls of the system.
 //!
 //! The script and the writer share the replies, in a cell, and no contract says what a cell holds.
 //! So what is decided and done is a function over values, what reaches into the cell is one call of
@@ -12,7 +13,8 @@ ghost use Rattle.std.specs.IoError.{error_kind};
 ghost use Rattle.std.specs.Io.{WritesAtMost};
 ghost use Rattle.std.specs.Io.Buffered.{reader_buffer, reader_capacity, reader_inner, writer_inner};
 ghost use Rattle.std.specs.Io.KnownBytes.{Appends, Keeps, WriteAppends};
-ghost use Rattle.raidtool.specs.Sending.{HasLeft, IsBegun, IsStopped, MadeWay, MayWait, WasSent, left, waiting, written};
+ghost use Rattle.raidtool.specs.Sending.{HasLeft, IsBegun, IsStopped, MadeWay, MayWait, WasSent, left, waiting};
+ghost use Rattle.raidtool.specs.Sending.{written};
 
 use std::alloc::Global;
 use std::cell::{RefCell, RefMut};
@@ -183,7 +185,8 @@ impl<W: Write + Drop> Replies<W> {
     }
 }
 
-/// The script, each line of which is given once the replies before it have left, or may wait. It ends where they can't leave.
+/// The script, each line of which is given once the replies before it have left, or may wait. It ends where they can't
+/// leave.
 #[derive(Drop)]
 pub struct Script<'a, R: Read + Drop, W: Write + Drop> {
     lines: BufReader<R>,

@@ -32,14 +32,16 @@ fn main(rt: HostRuntime) -> ExitCode {
     }
 }
 
-// Does what the program's arguments ask for, and gives the status that it ends with. The error says why it could not begin.
+// Does what the program's arguments ask for, and gives the status that it ends with. The error says why it could not
+// begin.
 fn begin(rt: &HostRuntime) -> io::Result<ExitCode> {
     let _streams = [stand_in(rt)?, stand_in(rt)?, stand_in(rt)?];
     let args: Vec<String> = env::args(rt)?.collect(rt.alloc())?;
     answer(rt, &args)
 }
 
-// The status of a program that could not begin, which is told to `err`: 2 where a word is no text, 1 for `Memory` and for any other fault.
+// The status of a program that could not begin, which is told to `err`: 2 where a word is no text, 1 for `Memory` and
+// for any other fault.
 fn start_status<E: Write>(error: &io::Error, err: &mut E) -> u8
     ensures { IsNotStarted (error_kind error.now) result (E.contents err.old) (E.contents err.new) }
 {
@@ -56,9 +58,10 @@ fn start_status<E: Write>(error: &io::Error, err: &mut E) -> u8
     }
 }
 
-// A file that can be neither read nor written. The system gives the lowest free number to each file that is opened, so of three that are opened before
-// all others one takes the place of each standard stream that the caller closed: without them it would be a device file, and replies would be written
-// over its sectors. A read of it is a fault of the reader, a write one of the writer.
+// A file that can be neither read nor written. The system gives the lowest free number to each file that is opened, so
+// of three that are opened before all others one takes the place of each standard stream that the caller closed:
+// without them it would be a device file, and replies would be written over its sectors. A read of it is a fault of the
+// reader, a write one of the writer.
 fn stand_in<R: Files>(rt: &R) -> io::Result<R::File> {
     OpenOptions::new().read(true).open(rt, "/")
 }
@@ -91,12 +94,13 @@ fn run_tool<W: Write + Drop>(
     Ok(status)
 }
 
-// The status that the program ends with, once the replies that were left have been sent, or not. Where they could not be, and nothing else was
-// refused, that is told.
+// The status that the program ends with, once the replies that were left have been sent, or not. Where they could not
+// be, and nothing else was refused, that is told.
 fn ended<E: Write>(status: u8, sent: io::Result<()>, err: &mut E) -> u8
     ensures same { status ≢ 0 → (result ≡ status) × (err.new ≡ err.old) }
     ensures sent { OnOk sent ((result ≡ status) × (err.new ≡ err.old)) }
-    ensures unsent { status ≡ 0 → OnErr sent ((result ≡ 1) × IsTold Refusal.WriteFault (E.contents err.old) (E.contents err.new)) }
+    ensures unsent { status ≡ 0 → OnErr sent
+        ((result ≡ 1) × IsTold Refusal.WriteFault (E.contents err.old) (E.contents err.new)) }
 {
     if status != 0 {
         return status;

@@ -32,12 +32,13 @@ use stripe_journal::Entry;
 
 /// Makes a set of this id and geometry on the device files of a folder, whatever they held, and writes `made`.
 ///
-/// First all files of the folder are opened, locked and synced, as `open_folder` says. `NoFile` names the first of the set's
-/// whose sync failed, `NotOpened` the first that is there and could not be opened, be it the set's or not, and `OtherSet` a
-/// slot after the set that has a superblock of this id; nothing is touched then. Each of the set's files that is absent is created, and each
-/// that is too short is lengthened by zero bytes; none is shortened, and no byte that is there is changed, before the
-/// making of the set begins. `NoFile` names the first file that this could not be done with, and `NotSynced` says that
-/// a folder could not be synced. The set itself is refused with `NotUsable`, `Worn` or `Memory`.
+/// First all files of the folder are opened, locked and synced, as `open_folder` says. `NoFile` names the first of the
+/// set's whose sync failed, `NotOpened` the first that is there and could not be opened, be it the set's or not, and
+/// `OtherSet` a slot after the set that has a superblock of this id; nothing is touched then. Each of the set's files
+/// that is absent is created, and each that is too short is lengthened by zero bytes; none is shortened, and no byte
+/// that is there is changed, before the making of the set begins. `NoFile` names the first file that this could not be
+/// done with, and `NotSynced` says that a folder could not be synced. The set itself is refused with `NotUsable`,
+/// `Worn` or `Memory`.
 ///
 /// Where it is not made, the files that it created are removed again, and those that it lengthened are cut to the bytes
 /// that they had. `WriteFault` says that the set was made and `out` failed.
@@ -53,7 +54,8 @@ where
     S: Files + Meter + AllocGlobal,
     S::File: FileExt + Lock,
     D: SlotFiles<File = Locked<S::File>> + FolderSync,
-    ensures opened { OnOk result (WereTaken ⟦<Locked<S::File> as Growing>⟧.is_safe (λ slot. D.opens disk.now (slot_path folder.now slot))
+    ensures opened { OnOk result (WereTaken ⟦<Locked<S::File> as Growing>⟧.is_safe
+        (λ slot. D.opens disk.now (slot_path folder.now slot))
         (λ slot. slot < geometry.members + 2) (λ _. ⊥)) }
     ensures synced { OnOk result (D.is_safe disk.now folder.now ⊎ D.is_never disk.now folder.now) }
     ensures made { OnOk result (IsMadeSet id geometry) }
@@ -70,8 +72,8 @@ where
     Ok(())
 }
 
-// Makes the set, or leaves the files that were there as long as they were, and no other. A fault of that has no place to be
-// told.
+// Makes the set, or leaves the files that were there as long as they were, and no other. A fault of that has no place
+// to be told.
 fn make_in<S, D>(
     rt: &S,
     disk: &D,
@@ -83,7 +85,8 @@ where
     S: Files + Meter + AllocGlobal,
     S::File: FileExt + Lock,
     D: SlotFiles<File = Locked<S::File>> + FolderSync,
-    ensures opened { OnOk result (WereTaken ⟦<Locked<S::File> as Growing>⟧.is_safe (λ slot. D.opens disk.now (slot_path folder.now slot))
+    ensures opened { OnOk result (WereTaken ⟦<Locked<S::File> as Growing>⟧.is_safe
+        (λ slot. D.opens disk.now (slot_path folder.now slot))
         (λ slot. slot < geometry.members + 2) (λ _. ⊥)) }
     ensures synced { OnOk result (D.is_safe disk.now folder.now ⊎ D.is_never disk.now folder.now) }
     ensures made { OnOk result (IsMadeSet id geometry) }

@@ -36,15 +36,16 @@ use volume_table::Event;
 
 /// Takes the device file of a missing slot into the set of this id on the device files of a folder, and writes `ok`.
 ///
-/// First all files of the folder are opened, locked and synced, as `open_folder` says. One of another slot that is there and
-/// can't be opened is passed over as `pass_over` says; of this slot it is `NotOpened`. Before the set is assembled, the slot's
-/// file is created if it is absent, and one that is too short is emptied and filled with zero bytes: not where there is
-/// no such set or it has no such slot, nor where its table calls another slot missing or rebuilding, or another slot's
-/// file is absent or too short. `NoFile` where this could not be done, or the sync of the slot's file failed, and `NotSynced`
-/// where the folder, which is synced at any rate, could not be. The command itself is refused as `apply_on` is, and with `Memory`.
+/// First all files of the folder are opened, locked and synced, as `open_folder` says. One of another slot that is
+/// there and can't be opened is passed over as `pass_over` says; of this slot it is `NotOpened`. Before the set is
+/// assembled, the slot's file is created if it is absent, and one that is too short is emptied and filled with zero
+/// bytes: not where there is no such set or it has no such slot, nor where its table calls another slot missing or
+/// rebuilding, or another slot's file is absent or too short. `NoFile` where this could not be done, or the sync of the
+/// slot's file failed, and `NotSynced` where the folder, which is synced at any rate, could not be. The command itself
+/// is refused as `apply_on` is, and with `Memory`.
 ///
-/// Where the slot is not given the device, a file that was created is removed again. `WriteFault` says that the slot has
-/// the device and `out` failed.
+/// Where the slot is not given the device, a file that was created is removed again. `WriteFault` says that the slot
+/// has the device and `out` failed.
 #[tactic(auto, using(crate::proofs::Taken::nothing_passed))]
 pub(crate) fn replace_in_folder<S, D, W: Write, E: Write>(
     rt: &S,
@@ -59,7 +60,8 @@ where
     S: Files + AllocGlobal,
     S::File: FileExt + Lock,
     D: SlotFiles<File = Locked<S::File>> + FolderSync,
-    ensures opened { OnOk result (WereTaken ⟦<Locked<S::File> as Growing>⟧.is_safe (λ other. D.opens disk.now (slot_path folder.now other))
+    ensures opened { OnOk result (WereTaken ⟦<Locked<S::File> as Growing>⟧.is_safe
+        (λ other. D.opens disk.now (slot_path folder.now other))
         (λ other. other ≡ slot) (λ other. (other ≢ slot) × IsMissingIn id other)) }
     ensures synced { OnOk result (D.is_safe disk.now folder.now ⊎ D.is_never disk.now folder.now) }
     ensures passed { HasPassed E.contents err.old err.new }
@@ -124,8 +126,8 @@ where
     Ok(())
 }
 
-// Makes the file of a slot anew where it has to be, and syncs it; and syncs the folder at any rate, since the entry of a file
-// that an earlier program made may not be safe.
+// Makes the file of a slot anew where it has to be, and syncs it; and syncs the folder at any rate, since the entry of
+// a file that an earlier program made may not be safe.
 fn prepare_file<F, D>(
     alloc: Global,
     disk: &D,
@@ -137,7 +139,8 @@ fn prepare_file<F, D>(
 where
     F: OpenFile + FileExt + Lock + Drop,
     D: SlotFiles<File = Locked<F>> + FolderSync,
-    ensures prepared { OnOk result ((IsNeedIn id slot None × (files.new ≡ files.old)) ⊎ IsSome (file_in files.new.files.items slot)) }
+    ensures prepared { OnOk result ((IsNeedIn id slot None × (files.new ≡ files.old))
+        ⊎ IsSome (file_in files.new.files.items slot)) }
     ensures synced { OnOk result (D.is_safe disk.now folder.now ⊎ D.is_never disk.now folder.now) }
     ensures others { AreOthersKept files.old.files.items files.new.files.items slot }
     ensures fault { IfErr result (IsSlotFault IsPreparingRefusal slot) }
@@ -199,8 +202,8 @@ fn need_on<B: Bank>(bank: &mut B, id: [u8; 16], slot: u8) -> Result<Option<u64>,
     }
 }
 
-// How many bytes the file of a slot gets by a table, if it is made anew: where it is absent or too short, and each other
-// slot of the set is in sync and its device is there.
+// How many bytes the file of a slot gets by a table, if it is made anew: where it is absent or too short, and each
+// other slot of the set is in sync and its device is there.
 fn need_of<B: Bank>(bank: &B, table: &Table, slot: u8) -> Option<u64>
     requires of_bank { slots_of table.now ≤ (B.panel bank.now).devices }
     ensures { IsNeed table.now (B.panel bank.now) slot result }

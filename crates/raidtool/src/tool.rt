@@ -1,5 +1,6 @@
 //! One line of the program.
-ghost use Rattle.std.specs.Prelude.{◌≡◌, ◌≢◌, ◌⊎◌, ◌≤◌, ◌↔◌, ℕ, List, [], Some, None, Err, IfErr, OnOk, is_ok, if◌then◌else◌, IsTrue};
+ghost use Rattle.std.specs.Prelude.{◌≡◌, ◌≢◌, ◌⊎◌, ◌≤◌, ◌↔◌, ℕ, List, [], Some, None, Err, IfErr, OnOk, is_ok};
+ghost use Rattle.std.specs.Prelude.{if◌then◌else◌, IsTrue};
 ghost use Rattle.clap.specs.Walk.{texts};
 ghost use Rattle.sector_model.specs.declared.refusal.Refusal.{Refusal};
 ghost use Rattle.recovery.specs.SeenBank.{bank_seen};
@@ -15,7 +16,10 @@ ghost use Rattle.device_files.specs.Faults.{IsToldLine};
 ghost use Rattle.raidtool.specs.Stops.{HasPassed, IsBlamed, IsInspectionBlamed, IsServeFault, IsTold, IsToldAfter};
 ghost use Rattle.set_commands.specs.Fresh.{RunsFresh};
 ghost use Rattle.set_commands.specs.Run.{streams};
-ghost use Rattle.raidtool.specs.Tool.{ComesFirst, IsAsked, IsBlamedIn, IsCutOff, IsDoneIn, IsEndOf, IsEndOfLine, IsFirst, IsMemoryFault, IsMisshapen, IsPartWritten, IsRun, PassesNone, IsServed, IsServing, IsStopOf, IsWritten, WasRefused, WasStopped, bad_id_line, checked_status, folder_text, id_text};
+ghost use Rattle.raidtool.specs.Tool.{ComesFirst, IsAsked, IsBlamedIn, IsCutOff, IsDoneIn, IsEndOf, IsEndOfLine};
+ghost use Rattle.raidtool.specs.Tool.{IsFirst, IsMemoryFault, IsMisshapen, IsPartWritten, IsRun, PassesNone, IsServed};
+ghost use Rattle.raidtool.specs.Tool.{IsServing, IsStopOf, IsWritten, WasRefused, WasStopped, bad_id_line};
+ghost use Rattle.raidtool.specs.Tool.{checked_status, folder_text, id_text};
 ghost use Rattle.raidtool.specs.Tool.{HasHealth, HealthOf, IsChecked, WasIncomplete, WasUnassembled};
 ghost use Rattle.set_commands.specs.Healths.{InspectsHealth};
 ghost use Rattle.raidtool.specs.Done.{OfFiles};
@@ -44,22 +48,23 @@ use std::rt::Files;
 use stripe_journal::Entry;
 use volume_table::Event;
 
-/// Does what the words after the program's name ask for, and gives the exit status: 0 where it was done,
-/// also where lines of a script were refused; 1 for a refusal, which is written to `err` as `refused 17 NoSet`,
-/// also for `Memory` while the words are read, and for a fault of a device file, which is written as
-/// `cannot make dev3.img`, `in use dev3.img`, `cannot open dev3.img: ` and why, `not a regular file: dev3.img`,
-/// `cannot sync dev3.img: ` and why, `another set with this id: dev5.img` or `cannot sync FOLDER`; 2 for a line that is none
-/// of the program's or asks for help or the version, which is answered on `err`. Without any words the script is served over
-/// a set in memory that is made for it. On `out` a set that was made is answered with `made`, a status is written as text or
-/// as JSON, a slot that was given up or got a device and a table of volumes that has version 2 are answered with `ok`, and a
-/// rebuild and a scrub with how far the one came and what the other found. Where a device file can't be opened that the set
+/// Does what the words after the program's name ask for, and gives the exit status: 0 where it was done, also where
+/// lines of a script were refused; 1 for a refusal, which is written to `err` as `refused 17 NoSet`, also for `Memory`
+/// while the words are read, and for a fault of a device file, which is written as `cannot make dev3.img`, `in use
+/// dev3.img`, `cannot open dev3.img: ` and why, `not a regular file: dev3.img`, `cannot sync dev3.img: ` and why,
+/// `another set with this id: dev5.img` or `cannot sync FOLDER`; 2 for a line that is none of the program's or asks for
+/// help or the version, which is answered on `err`. Without any words the script is served over a set in memory that is
+/// made for it. On `out` a set that was made is answered with `made`, a status is written as text or as JSON, a slot
+/// that was given up or got a device and a table of volumes that has version 2 are answered with `ok`, and a rebuild
+/// and a scrub with how far the one came and what the other found. Where a device file can't be opened that the set
 /// doesn't need, it is done without, which is written to `err` as `without dev1.img: read-only file system`.
 ///
-/// A status or an inspection that asks how well a set is (`--check`) ends with 3 where it is not complete, and with 4 where it would
-/// not be assembled, or was refused with `NoSet`, `BadTable`, `TwoLost` or `Worn`.
+/// A status or an inspection that asks how well a set is (`--check`) ends with 3 where it is not complete, and with 4
+/// where it would not be assembled, or was refused with `NoSet`, `BadTable`, `TwoLost` or `Worn`.
 ///
-/// Over a folder, each device file is opened once, and locked until the line is done; when all are locked, each is synced
-/// before any is read. For an inspection of its sets it is opened for reading alone, and neither locked nor synced.
+/// Over a folder, each device file is opened once, and locked until the line is done; when all are locked, each is
+/// synced before any is read. For an inspection of its sets it is opened for reading alone, and neither locked nor
+/// synced.
 pub(crate) fn tool<S, D, R: BufRead, W: Write, E: Write>(
     rt: &S,
     disk: &D,
@@ -77,43 +82,55 @@ where
     // 0: it was asked for and done, a script was read to its end, and what the line writes was written.
     ensures done { result ≡ 0 → IsAsked (texts words.now) }
     ensures does { (line : Invocation) → AsksFor (texts words.now) line → result ≡ 0 → IsDone line
-        (streams (R.remaining reader.old) (W.contents out.old)) (streams (R.remaining reader.new) (W.contents out.new)) }
-    ensures read { result ≡ 0 → IsServing (texts words.now) → R.remaining reader.old ≢ None → R.remaining reader.new ≡ Some [] }
+        (streams (R.remaining reader.old) (W.contents out.old))
+        (streams (R.remaining reader.new) (W.contents out.new)) }
+    ensures read { result ≡ 0 → IsServing (texts words.now) → R.remaining reader.old ≢ None
+        → R.remaining reader.new ≡ Some [] }
     ensures quiet { (result ≡ 0) ⊎ (result ≡ 3) → HasPassed E.contents err.old err.new }
-    ensures hushed { (line : Invocation) → AsksFor (texts words.now) line → PassesNone line → (result ≡ 0) ⊎ (result ≡ 3)
+    ensures hushed { (line : Invocation) → AsksFor (texts words.now) line → PassesNone line → (result ≡ 0)
+        ⊎ (result ≡ 3)
         → err.new ≡ err.old }
     ensures silent { result ≡ 0 → words.now ≡ [] → err.new ≡ err.old }
-    ensures written { (line : Invocation) → AsksFor (texts words.now) line → result ≡ 0 → IsWritten line (W.contents out.old) (W.contents out.new) }
+    ensures written { (line : Invocation) → AsksFor (texts words.now) line → result ≡ 0
+        → IsWritten line (W.contents out.old) (W.contents out.new) }
     ensures in_folder { (line : Invocation) → AsksFor (texts words.now) line → result ≡ 0 → IsDoneIn (D.opens disk.now)
-        ⟦<Locked<S::File> as Growing>⟧.is_safe (D.inspects disk.now) (λ folder. D.is_safe disk.now folder ⊎ D.is_never disk.now folder) line }
+        ⟦<Locked<S::File> as Growing>⟧.is_safe (D.inspects disk.now)
+        (λ folder. D.is_safe disk.now folder ⊎ D.is_never disk.now folder) line }
 
     // 1: it was asked for, or memory ran out, and the refusal was told, or the fault of a device file.
-    ensures refused { result ≡ 1 → WasRefused (IsEndOf (texts words.now)) (λ text. IsToldAfter E.contents text err.old err.new) ((reader.new ≡ reader.old) × (out.new ≡ out.old))
+    ensures refused { result ≡ 1 → WasRefused (IsEndOf (texts words.now))
+        (λ text. IsToldAfter E.contents text err.old err.new) ((reader.new ≡ reader.old) × (out.new ≡ out.old))
         ⊎ WasStopped (texts words.now) (IsBlamedIn (D.opens disk.now) (D.creates disk.now)
         ⟦<Locked<S::File> as Growing>⟧.has_failed (D.inspects disk.now))
         (λ text. IsToldAfter E.contents text err.old err.new) ((reader.new ≡ reader.old) × (out.new ≡ out.old)) }
-    ensures unwritten { (line : Invocation) → AsksFor (texts words.now) line → ¬ IsRun line → result ≡ 1 → (out.new ≡ out.old)
-        ⊎ IsCutOff line (W.contents out.old) (W.contents out.new) (λ text. IsToldAfter E.contents text err.old err.new) }
+    ensures unwritten { (line : Invocation) → AsksFor (texts words.now) line → ¬ IsRun line → result ≡ 1
+        → (out.new ≡ out.old)
+        ⊎ IsCutOff line (W.contents out.old) (W.contents out.new)
+        (λ text. IsToldAfter E.contents text err.old err.new) }
 
     // 2: it was not asked for, nothing was done, and a bad id was told.
     ensures wrong { result ≡ 2 → ¬ IsAsked (texts words.now) }
     ensures unread { result ≡ 2 → (reader.new ≡ reader.old) × (out.new ≡ out.old) }
-    ensures bad_id { result ≡ 2 → IsFaultOf (texts words.now) InvocationFault.BadId → IsToldLine bad_id_line (E.contents err.old) (E.contents err.new) }
+    ensures bad_id { result ≡ 2 → IsFaultOf (texts words.now) InvocationFault.BadId
+        → IsToldLine bad_id_line (E.contents err.old) (E.contents err.new) }
 
     // Without any words, where the script was run to its end.
     ensures memory { (script : List ℕ) → words.now ≡ [] → R.remaining reader.old ≡ Some script → result ≡ 0
         → ∥ RunsFresh script (W.contents out.old) (W.contents out.new) ∥₁ }
 
-    // 3, 4: it was asked how well a set is, and done, or there was none that could be assembled; where it was asked, 0 says that each is complete.
+    // 3, 4: it was asked how well a set is, and done, or there was none that could be assembled; where it was asked, 0
+    // says that each is complete.
     ensures checked { (line : Invocation) → AsksFor (texts words.now) line → 3 ≤ result → IsChecked line }
     ensures incomplete { (line : Invocation) → AsksFor (texts words.now) line → result ≡ 3
         → WasIncomplete line
-        (streams (R.remaining reader.old) (W.contents out.old)) (streams (R.remaining reader.new) (W.contents out.new)) }
+        (streams (R.remaining reader.old) (W.contents out.old))
+        (streams (R.remaining reader.new) (W.contents out.new)) }
     ensures unassembled { (line : Invocation) → AsksFor (texts words.now) line → result ≡ 4
         → WasUnassembled line
         (streams (R.remaining reader.old) (W.contents out.old)) (streams (R.remaining reader.new) (W.contents out.new))
         (HasPassed E.contents err.old err.new) (λ text. IsToldAfter E.contents text err.old err.new) }
-    ensures complete { (line : Invocation) → AsksFor (texts words.now) line → IsChecked line → result ≡ 0 → HasHealth line Health.Complete Health.Complete }
+    ensures complete { (line : Invocation) → AsksFor (texts words.now) line → IsChecked line → result ≡ 0
+        → HasHealth line Health.Complete Health.Complete }
 
     // But for a script, nothing is read.
     ensures beside { (line : Invocation) → AsksFor (texts words.now) line → ¬ IsRun line → reader.new ≡ reader.old }
@@ -154,20 +171,24 @@ where
     S: Files + Meter + AllocGlobal,
     S::File: FileExt + Lock,
     D: SlotFiles<File = Locked<S::File>> + InspectFiles + FolderSync,
-    ensures in_folder { OnOk result (IsDoneIn (D.opens disk.now) ⟦<Locked<S::File> as Growing>⟧.is_safe (D.inspects disk.now)
+    ensures in_folder { OnOk result (IsDoneIn (D.opens disk.now) ⟦<Locked<S::File> as Growing>⟧.is_safe
+        (D.inspects disk.now)
         (λ folder. D.is_safe disk.now folder ⊎ D.is_never disk.now folder) line.entry) }
     ensures does { OnOk result (IsDone line.entry
-        (streams (R.remaining reader.old) (W.contents out.old)) (streams (R.remaining reader.new) (W.contents out.new))) }
+        (streams (R.remaining reader.old) (W.contents out.old))
+        (streams (R.remaining reader.new) (W.contents out.new))) }
     ensures read { IsRun line.entry → R.remaining reader.old ≢ None → OnOk result (R.remaining reader.new ≡ Some []) }
     ensures stopped { IfErr result (IsStopOf line.entry) }
     ensures named { IfErr result (IsBlamedIn (D.opens disk.now) (D.creates disk.now)
         ⟦<Locked<S::File> as Growing>⟧.has_failed (D.inspects disk.now) line.entry) }
     ensures alone { IfErr result (λ fault. IsFirst fault → (reader.new ≡ reader.old) × (out.new ≡ out.old)) }
-    ensures unwritten { ¬ IsRun line.entry → IfErr result (λ fault. fault ≢ FolderFault.Refused Refusal.WriteFault → out.new ≡ out.old) }
+    ensures unwritten { ¬ IsRun line.entry
+        → IfErr result (λ fault. fault ≢ FolderFault.Refused Refusal.WriteFault → out.new ≡ out.old) }
     ensures cut { ¬ IsRun line.entry → IfErr result (λ fault. fault ≡ FolderFault.Refused Refusal.WriteFault
         → IsPartWritten line.entry (W.contents out.old) (W.contents out.new)) }
     ensures beside { ¬ IsRun line.entry → reader.new ≡ reader.old }
-    ensures misshapen { IsMisshapen line.entry → (result ≡ Err (FolderFault.Refused Refusal.BadGeometry)) × (err.new ≡ err.old) }
+    ensures misshapen { IsMisshapen line.entry → (result ≡ Err (FolderFault.Refused Refusal.BadGeometry))
+        × (err.new ≡ err.old) }
     ensures passed { HasPassed E.contents err.old err.new }
     ensures hushed { PassesNone line.entry → err.new ≡ err.old }
     ensures health { OnOk result (HasHealth line.entry health.old health.new) }
@@ -272,17 +293,20 @@ where
     D: SlotFiles<File = Locked<F>>,
     requires { IsServed line }
     ensures health { OnOk result (HasHealth line.entry health.old health.new) }
-    ensures opened { OnOk result (WereTaken ⟦<Locked<F> as Growing>⟧.is_safe (λ slot. D.opens disk.now (slot_path (folder_text line.entry) slot))
+    ensures opened { OnOk result (WereTaken ⟦<Locked<F> as Growing>⟧.is_safe
+        (λ slot. D.opens disk.now (slot_path (folder_text line.entry) slot))
         (λ _. ⊥) (IsMissingIn (id_text line.entry))) }
     ensures passed { HasPassed E.contents err.old err.new }
     ensures does { OnOk result (IsDone line.entry
-        (streams (R.remaining reader.old) (W.contents out.old)) (streams (R.remaining reader.new) (W.contents out.new))) }
+        (streams (R.remaining reader.old) (W.contents out.old))
+        (streams (R.remaining reader.new) (W.contents out.new))) }
     ensures read { IsRun line.entry → R.remaining reader.old ≢ None → OnOk result (R.remaining reader.new ≡ Some []) }
     ensures stopped { IfErr result (IsStopOf line.entry) }
     ensures named { IfErr result (IsBlamed (D.opens disk.now) (D.creates disk.now)
         ⟦<Locked<F> as Growing>⟧.has_failed (folder_text line.entry)) }
     ensures alone { IfErr result (λ fault. IsFirst fault → (reader.new ≡ reader.old) × (out.new ≡ out.old)) }
-    ensures unwritten { ¬ IsRun line.entry → IfErr result (λ fault. fault ≢ FolderFault.Refused Refusal.WriteFault → out.new ≡ out.old) }
+    ensures unwritten { ¬ IsRun line.entry
+        → IfErr result (λ fault. fault ≢ FolderFault.Refused Refusal.WriteFault → out.new ≡ out.old) }
     ensures cut { ¬ IsRun line.entry → IfErr result (λ fault. fault ≡ FolderFault.Refused Refusal.WriteFault
         → IsPartWritten line.entry (W.contents out.old) (W.contents out.new)) }
     ensures beside { ¬ IsRun line.entry → reader.new ≡ reader.old }
@@ -310,11 +334,13 @@ where
     requires { IsServed line }
     ensures health { OnOk result (HealthOf line.entry (B.honest bank) (bank_seen B.Bank bank) health.old health.new) }
     ensures does { OnOk result (DoesOn line.entry (B.honest bank) (bank_seen B.Bank bank)
-        (streams (R.remaining reader.old) (W.contents out.old)) (streams (R.remaining reader.new) (W.contents out.new))) }
+        (streams (R.remaining reader.old) (W.contents out.old))
+        (streams (R.remaining reader.new) (W.contents out.new))) }
     ensures read { IsRun line.entry → R.remaining reader.old ≢ None → OnOk result (R.remaining reader.new ≡ Some []) }
     ensures end { IfErr result (IsEndOfLine line.entry) }
     ensures alone { IfErr result (λ refusal. ComesFirst refusal → (reader.new ≡ reader.old) × (out.new ≡ out.old)) }
-    ensures unwritten { ¬ IsRun line.entry → IfErr result (λ refusal. refusal ≢ Refusal.WriteFault → out.new ≡ out.old) }
+    ensures unwritten { ¬ IsRun line.entry
+        → IfErr result (λ refusal. refusal ≢ Refusal.WriteFault → out.new ≡ out.old) }
     ensures cut { ¬ IsRun line.entry → IfErr result (λ refusal. refusal ≡ Refusal.WriteFault
         → IsPartWritten line.entry (W.contents out.old) (W.contents out.new)) }
     ensures beside { ¬ IsRun line.entry → reader.new ≡ reader.old }
@@ -349,8 +375,8 @@ where
     }
 }
 
-// The exit status of a line, which is this unless it asks how well a set is: then 3 where one is not complete, and 4 where one
-// would not be assembled, or was not.
+// The exit status of a line, which is this unless it asks how well a set is: then 3 where one is not complete, and 4
+// where one would not be assembled, or was not.
 fn checked(line: &Invocation<'_>, done: &Result<(), FolderFault>, status: u8, health: Health) -> u8
     ensures { result ≡ checked_status line.now done.now status health }
 {
@@ -432,8 +458,8 @@ fn tell_fault_of<E: Write>(alloc: Global, words: &[&str], err: &mut E) {
     }
 }
 
-// Tells a fault in the words, or the help, but no other command or option that may have been meant: one that is like the
-// word that was given may do something else altogether.
+// Tells a fault in the words, or the help, but no other command or option that may have been meant: one that is like
+// the word that was given may do something else altogether.
 fn tell_usage<E: Write>(alloc: Global, error: &clap::Error, err: &mut E) {
     let Ok(text) = format!(in alloc; "{error}") else {
         let _ = write!(err, "{error}");

@@ -10,7 +10,8 @@ use Rattle.superblock.specs.NextTables.{slots_of}
 use Rattle.superblock.specs.Tables.{state_at}
 use Rattle.array_io.specs.Believed.Views.{ArrayView, DeviceFailed}
 use Rattle.array_io.proofs.Instances.{goes_on_at_rest, keeps_at_rest}
-use Rattle.rebuild.specs.Rebuilding.{IsAfterStep, IsNoReplacing, IsNoStep, IsNotMissing, IsNothingToRebuild, IsRebuilding, OthersKeepTheirs, Position, Progress, Replaces, StepsRebuild, stepped}
+use Rattle.rebuild.specs.Rebuilding.{IsAfterStep, IsNoReplacing, IsNoStep, IsNotMissing, IsNothingToRebuild, IsRebuilding, OthersKeepTheirs, Position, Progress}
+use Rattle.rebuild.specs.Rebuilding.{Replaces, StepsRebuild, stepped}
 
 others_at_rest : (array : ArrayView) (slot : ℕ) → OthersKeepTheirs array array slot
 others_at_rest array slot other of_set apart = record { state = inl refl }
@@ -19,12 +20,14 @@ flags_differ : true ≡ false → ⊥
 flags_differ e = cc
 
 -- no device fails where nothing is done
-none_failed : {honest ended : Type 0} (array : ArrayView) → honest → ¬ ended → (slot : ℕ) → slot < slots_of array.table → DeviceFailed slot array.panel array.panel
+none_failed : {honest ended : Type 0} (array : ArrayView) → honest → ¬ ended → (slot : ℕ) → slot < slots_of array.table
+    → DeviceFailed slot array.panel array.panel
     → state_at array.table.states slot ≡ Missing
 none_failed array fair open_still slot of_set failed = absurd (flags_differ (sym failed.is_down ∙ failed.was_up))
 
 -- a slot that is not missing is not replaced
-pub not_missing_is_refused : (honest : Type 0) (slot : ℕ) (array : ArrayView) → IsNotMissing array.table slot → Replaces honest slot array array (Err NotMissing)
+pub not_missing_is_refused : (honest : Type 0) (slot : ℕ) (array : ArrayView) → IsNotMissing array.table slot
+    → Replaces honest slot array array (Err NotMissing)
 not_missing_is_refused honest slot array not_missing = record {
   goes_on = goes_on_at_rest array;
   number = refl;
@@ -39,7 +42,8 @@ not_missing_is_refused honest slot array not_missing = record {
 }
 
 -- with no member rebuilding there is no step
-pub no_step_is_refused : (honest : Type 0) (rows : ℕ) (array : ArrayView) → IsNothingToRebuild array → StepsRebuild honest rows array array (Err NothingToRebuild)
+pub no_step_is_refused : (honest : Type 0) (rows : ℕ) (array : ArrayView) → IsNothingToRebuild array
+    → StepsRebuild honest rows array array (Err NothingToRebuild)
 no_step_is_refused honest rows array nothing = record {
   goes_on = goes_on_at_rest array;
   number = refl;

@@ -1,5 +1,6 @@
 -- Publishing a table that differs in one slot, whose device comes last, keeps what `publish_last` promises, however it ends.
-use Rattle.std.proofs.Common.{◌≡◌, ◌≢◌, ◌⊎◌, inl, inr, ℕ, ◌+◌, ◌<◌, ◌≤◌, Bool, true, false, List, [], ◌∷◌, Option, Some, None, Result, Ok, Err, refl, sym, ◌∙◌, ap, subst, arith}
+use Rattle.std.proofs.Common.{◌≡◌, ◌≢◌, ◌⊎◌, inl, inr, ℕ, ◌+◌, ◌<◌, ◌≤◌, Bool, true, false, List, [], ◌∷◌, Option, Some, None, Result, Ok, Err, refl, sym, ◌∙◌}
+use Rattle.std.proofs.Common.{ap, subst, arith}
 use Rattle.std.specs.Prelude.{is_ok}
 use Rattle.std.proofs.lemmas.Bool.{cases_eq}
 use Rattle.std.proofs.lemmas.Result.{IfErr-at_err}
@@ -67,7 +68,8 @@ its_slots_next panel table next slot can = record {
 }
 
 -- no device fails while a slot is marked missing to the end
-pub marked_down : (honest : Type 0) (slot : ℕ) (old_panel new_panel : Panel) (table new_table : Table) (old new : History) (answer : Answer) → state_at table.states slot ≢ Missing
+pub marked_down : (honest : Type 0) (slot : ℕ) (old_panel new_panel : Panel) (table new_table : Table) (old new : History) (answer : Answer)
+    → state_at table.states slot ≢ Missing
     → MarksOn honest slot old_panel new_panel table new_table old new answer → honest → answer ≡ Ok tt → (device : ℕ) → is_down new device ≡ is_down old device
 marked_down honest slot old_panel new_panel table new_table old new answer there (inl left) fair ok device = by_why left.why
   where
@@ -76,7 +78,8 @@ marked_down honest slot old_panel new_panel table new_table old new answer there
     by_why (inr (inl (counted, beside, two))) = absurd (cc)
     by_why (inr (inr (counted, worn, others, is_worn))) = absurd (cc)
 marked_down honest slot old_panel new_panel table new_table old new answer there (inr marked) fair ok device =
-    made_down (subst (λ (b : Bool). Made (publish_calls new_table None marked.publishes.sectors) b old new) (all_ok marked.result marked.answered) (marked.publishes.made fair)) device
+    made_down (subst (λ (b : Bool). Made (publish_calls new_table None marked.publishes.sectors) b old new) (all_ok marked.result marked.answered)
+    (marked.publishes.made fair)) device
   where
     all_ok : (result : Result (Unit {0}) Stop) → answer ≡ answer_of result → is_ok result ≡ true
     all_ok (Ok done) same = refl
@@ -106,7 +109,8 @@ can_publish_last panel table next slot can = record {
       let fits = (its_slots_next panel table next slot can).fit other of_set there up in omega (arith, fits, least_two next.geometry other);
 }
 
-module _ (spellings : Spellings) (honest : Type 0) (number : ℕ) (table next : Table) (slot : ℕ) (old_panel new_panel : Panel) (old new : History) (result : Result (Unit {0}) Stop)
+module _ (spellings : Spellings) (honest : Type 0) (number : ℕ) (table next : Table) (slot : ℕ) (old_panel new_panel : Panel) (old new : History)
+    (result : Result (Unit {0}) Stop)
     (can : CanJoin old_panel table next slot) (published : Publishes honest next (Some slot) old_panel new_panel old new result)
     (true_old : honest → IsTrueTo old_panel old) (true_new : honest → IsTrueTo new_panel new) where
   abbrev Was : ArrayView
@@ -140,7 +144,8 @@ module _ (spellings : Spellings) (honest : Type 0) (number : ℕ) (table next : 
   }
 
   -- by whichever slot was lost
-  by_lost : (P : Option Lost → Type 0) (lost : Option Lost) (V : List Bytes) → RestsOn Was lost V → ((one : Lost) → one.slot ≡ slot → RestsOn Was (Some one) V → P (Some one)) → P lost
+  by_lost : (P : Option Lost → Type 0) (lost : Option Lost) (V : List Bytes) → RestsOn Was lost V
+      → ((one : Lost) → one.slot ≡ slot → RestsOn Was (Some one) V → P (Some one)) → P lost
   by_lost P lost V rests then_is =
       let at = lost_at old_panel.devices number table slot old lost V rests out in
       subst P (sym at.1) (then_is at.0 at.2 (subst (λ (l : Option Lost). RestsOn Was l V) at.1 rests))
@@ -201,7 +206,8 @@ module _ (spellings : Spellings) (honest : Type 0) (number : ℕ) (table next : 
   joined_worn is = refused Worn tt (inl (inl (published.cause stop.Worn is)))
 
   -- another device is down
-  pub joined_two : (device : ℕ) → result ≡ Err (stop.Down device) → device ≢ slot → PublishesLast honest next slot Was (view_of new_panel new table number) (Err TwoLost)
+  pub joined_two : (device : ℕ) → result ≡ Err (stop.Down device) → device ≢ slot
+      → PublishesLast honest next slot Was (view_of new_panel new table number) (Err TwoLost)
   joined_two device is apart = refused TwoLost tt record {
     first = device;
     second = slot;
@@ -252,8 +258,10 @@ module _ (spellings : Spellings) (honest : Type 0) (number : ℕ) (table next : 
     left_moments : honest → (lost : Option Lost) (V : List Bytes) → RestsOn Was lost V → MayJoin old_panel.devices table next slot old
         → HoldsThroughout table old_panel.devices lost (V ∷ []) old final
     left_moments fair lost V rests may = by_lost (λ l. HoldsThroughout table old_panel.devices l (V ∷ []) old final) lost V rests (λ one own settled.
-        left_throughout spellings honest old_panel.devices number table next missing slot one V old_panel new_panel final_panel old new final result answer published
-        (takes_from spellings old_panel.devices number table next slot one V published.sectors old (joins_from fair one V own settled may)) fair failed (is_down_new fair) marks)
+        left_throughout spellings honest old_panel.devices number table next missing slot one V old_panel new_panel final_panel old new final result answer
+        published
+        (takes_from spellings old_panel.devices number table next slot one V published.sectors old (joins_from fair one V own settled may)) fair failed
+        (is_down_new fair) marks)
 
     -- the slot is missing
     pub joined_and_failed : answer ≡ Ok tt → PublishesLast honest next slot Was Then (Ok false)
@@ -264,13 +272,16 @@ module _ (spellings : Spellings) (honest : Type 0) (number : ℕ) (table next : 
       failed = λ is. (marked_then (as_call.marked ok), down_final);
       table = table_then;
       others = λ fair open_still other apart. (true_final fair).down other ∙ still_down fair other
-          ∙ one_fails (publish_calls next (Some slot) published.sectors) (is_ok result) old new slot other (published.made fair).performed (sym ((true_old fair).down slot) ∙ can.up) (is_down_new fair) apart
+          ∙ one_fails (publish_calls next (Some slot) published.sectors) (is_ok result) old new slot other (published.made fair).performed
+          (sym ((true_old fair).down slot) ∙ can.up) (is_down_new fair) apart
           ∙ sym ((true_old fair).down other);
       moments = left_moments;
       rests = λ fair open_still lost V rests may. by_lost (λ l. RestsAfter l Then V) lost V rests (λ one own settled.
           rests_one final_panel old_panel.devices number table missing (Some one) V final (as_call.goes_on.later.devices ∙ published.later.devices)
-          (left_rests spellings honest old_panel.devices number table next missing slot one V old_panel new_panel final_panel old new final result answer published
-          (takes_from spellings old_panel.devices number table next slot one V published.sectors old (joins_from fair one V own settled may)) fair failed (is_down_new fair) marks ok
+          (left_rests spellings honest old_panel.devices number table next missing slot one V old_panel new_panel final_panel old new final result answer
+          published
+          (takes_from spellings old_panel.devices number table next slot one V published.sectors old (joins_from fair one V own settled may)) fair failed
+          (is_down_new fair) marks ok
           (sectors_of final_panel final (true_final fair))));
       cause = λ refusal is. absurd (cc);
     }
@@ -299,7 +310,8 @@ module _ (spellings : Spellings) (honest : Type 0) (number : ℕ) (table next : 
         of_two : refusal ≡ TwoLost → IsEndOf Was Then ⊥ refusal
         of_two same = subst (IsEndOf Was Then ⊥) (sym same) (as_call.cause (inr down) TwoLost (is ∙ ap (λ (r : Refusal). Err r) same))
 
-        of_worn : refusal ≡ Worn → (GREATEST_COUNT ≤ final_panel.calls) ⊎ ((GREATEST_COUNT ≤ table.generation + 1) × (GREATEST_COUNT ≤ missing.generation)) → IsEndOf Was Then ⊥ refusal
+        of_worn : refusal ≡ Worn → (GREATEST_COUNT ≤ final_panel.calls) ⊎ ((GREATEST_COUNT ≤ table.generation + 1) × (GREATEST_COUNT ≤ missing.generation))
+            → IsEndOf Was Then ⊥ refusal
         of_worn same worn = subst (IsEndOf Was Then ⊥) (sym same) (inl worn)
 
         by_why : IsWhyLeft next slot answer → missing ≡ next → IsEndOf Was Then ⊥ refusal
@@ -308,7 +320,8 @@ module _ (spellings : Spellings) (honest : Type 0) (number : ℕ) (table next : 
         by_why (inr (inr (there, worn, others, is_worn))) same =
             of_worn (cc) (inr (omega (arith, worn, can.step.generation), omega (arith, worn, ap (λ (t : Table). t.generation) same)))
 
-        by_result : (ended : Result (Unit {0}) Stop) → answer ≡ answer_of ended → ((s : Stop) → ended ≡ Err s → IsCauseOf final_panel s) → IsEndOf Was Then ⊥ refusal
+        by_result : (ended : Result (Unit {0}) Stop) → answer ≡ answer_of ended → ((s : Stop) → ended ≡ Err s → IsCauseOf final_panel s)
+            → IsEndOf Was Then ⊥ refusal
         by_result (Ok done) same cause = absurd (cc)
         by_result (Err (stop.Down other)) same cause = of_two (cc)
         by_result (Err stop.Worn) same cause = of_worn (cc) (inl (cause stop.Worn refl))

@@ -1,5 +1,6 @@
 -- A settled array whose next table speaks of what the lost slot's device holds: what publishing that table begins with.
-use Rattle.std.proofs.Common.{◌≡◌, ◌≢◌, ◌⊎◌, inl, inr, ℕ, ◌+◌, ◌<◌, ◌≤◌, true, false, List, [], ◌∷◌, length, Contains, Option, Some, None, refl, sym, ◌∙◌, ap, subst, arith}
+use Rattle.std.proofs.Common.{◌≡◌, ◌≢◌, ◌⊎◌, inl, inr, ℕ, ◌+◌, ◌<◌, ◌≤◌, true, false, List, [], ◌∷◌, length, Contains, Option, Some, None, refl, sym, ◌∙◌, ap}
+use Rattle.std.proofs.Common.{subst, arith}
 use Rattle.std.proofs.lemmas.List.Elements.{Contains-append_right, Contains-append_left, Contains-push}
 use Rattle.layout_map.specs.declared.geometry.Geometry.{Geometry}
 use Rattle.sector_model.specs.History.{Bytes, History, Slots, disk_of, is_down, sector_of, seen}
@@ -30,26 +31,32 @@ use Rattle.rebuild.specs.Joining.{MayJoin}
 use Rattle.rebuild.specs.Preparing.{HasTheEntry, IsPrepared}
 
 -- each of some devices is stale
-all_stale : (devices : ℕ) (table : Table) (slot : ℕ) (disks : List (List Bytes)) → ((disk : List Bytes) → Contains disks disk → IsStale devices table slot (Some disk))
+all_stale : (devices : ℕ) (table : Table) (slot : ℕ) (disks : List (List Bytes))
+    → ((disk : List Bytes) → Contains disks disk → IsStale devices table slot (Some disk))
     → AllStale devices table slot disks
 all_stale devices table slot [] each = tt
-all_stale devices table slot (disk ∷ disks) each =
-    (each disk (Contains-append_left (disk ∷ []) disks disk (Contains-push [] disk)), all_stale devices table slot disks (λ other has. each other (Contains-append_right (disk ∷ []) disks other has)))
+all_stale devices table slot (disk ∷ disks) each = (
+  each disk (Contains-append_left (disk ∷ []) disks disk (Contains-push [] disk)),
+  all_stale devices table slot disks (λ other has. each other (Contains-append_right (disk ∷ []) disks other has)),
+)
 
-stale_on : (devices : ℕ) (table next : Table) (slot : ℕ) → IsStepAt table next slot → (disks : List (List Bytes)) → AllStale devices table slot disks → AllStale devices next slot disks
+stale_on : (devices : ℕ) (table next : Table) (slot : ℕ) → IsStepAt table next slot → (disks : List (List Bytes)) → AllStale devices table slot disks
+    → AllStale devices next slot disks
 stale_on devices table next slot step [] stale = tt
 stale_on devices table next slot step (disk ∷ disks) stale =
     (stale_goes_on devices table next slot (Some disk) (step_not_older table next slot step) stale.0, stale_on devices table next slot step disks stale.1)
 
 -- What was known to a table is stale by the next one, in which its slot has a new device.
 pub known_is_stale : (devices : ℕ) (table next : Table) (slot : ℕ) (content : Content) → IsStepAt table next slot
-    → incarnation_at next.incarnations slot ≡ incarnation_at table.incarnations slot + 1 → IsKnown devices table slot content → IsStale devices next slot content
+    → incarnation_at next.incarnations slot ≡ incarnation_at table.incarnations slot + 1 → IsKnown devices table slot content
+    → IsStale devices next slot content
 known_is_stale devices table next slot content step joined known = record {
   older = λ place superblock counts. omega (arith, known.no_newer place superblock (of_table place superblock counts), step.generation);
   earlier = λ place superblock counts. omega (arith, known.no_higher place superblock (of_table place superblock counts), joined);
 }
   where
-    of_table : (place : ℕ) (superblock : Superblock) → Counts next.id devices slot content place superblock → Counts table.id devices slot content place superblock
+    of_table : (place : ℕ) (superblock : Superblock) → Counts next.id devices slot content place superblock
+        → Counts table.id devices slot content place superblock
     of_table place superblock = subst (λ (i : List ℕ). Counts i devices slot content place superblock) step.same_id
 
 -- a slot that is neither missing nor in sync is a rebuilding member
@@ -87,7 +94,8 @@ module _ (spellings : Spellings) (devices number : ℕ) (table next : Table) (sl
   -- what publishing begins with, where by the next table the device is live or not, none that is away comes back, and a journal has the last entry
   takes : ((image : Slots) → IsBefore next (Some slot) sectors slot (readable mid slot) (image slot) → IsChosen next.id devices image next
       → IsLive devices next slot (image slot) ⊎ ¬ IsLive devices next slot (image slot))
-      → AllStale devices next slot one.away → (table.geometry.members ≤ slot → HasTheEntry devices table slot mid) → TakesFrom devices number table next slot one V sectors mid
+      → AllStale devices next slot one.away → (table.geometry.members ≤ slot → HasTheEntry devices table slot mid)
+      → TakesFrom devices number table next slot one V sectors mid
   takes live away entry = record {
     settled = from.settled;
     leaves = from.leaves;
@@ -127,13 +135,15 @@ module _ (spellings : Spellings) (devices number : ℕ) (table next : Table) (sl
     same_live image (inl is) chosen = live_by image (inl is)
         (subst (λ (i : List ℕ). HasIncarnation i devices slot (image slot) (incarnation_at next.incarnations slot)) (sym step.same_id)
         (subst (λ (n : ℕ). HasIncarnation table.id devices slot (image slot) n) (sym same)
-        (subst (λ (c : Content). HasIncarnation table.id devices slot c (incarnation_at table.incarnations slot)) is (from.settled.there slot step.of_set there).incarnation)))
+        (subst (λ (c : Content). HasIncarnation table.id devices slot c (incarnation_at table.incarnations slot)) is
+        (from.settled.there slot step.of_set there).incarnation)))
     same_live image (inr replaced) chosen = live_replaced image (inr replaced) chosen replaced.stands
 
     pub same_takes : TakesFrom devices number table next slot one V sectors mid
     same_takes = takes (λ image is chosen. inl (same_live image is chosen))
         (stale_on devices table next slot step one.away
-        (subst (λ (k : ℕ). AllStale devices table k one.away) from.own (from.settled.none_back (subst (λ (k : ℕ). state_at table.states k ≢ Missing) (sym from.own) there))))
+        (subst (λ (k : ℕ). AllStale devices table k one.away) from.own
+        (from.settled.none_back (subst (λ (k : ℕ). state_at table.states k ≢ Missing) (sym from.own) there))))
         (λ beyond. absurd (omega (arith, beyond, rebuilding_then table slot there from.out)))
 
   -- where it is a new one, which was prepared
@@ -148,8 +158,10 @@ module _ (spellings : Spellings) (devices number : ℕ) (table next : Table) (sl
     away_known : (disk : List Bytes) → Contains one.away disk → IsKnown devices table slot (Some disk)
     away_known disk has =
         let case = from.settled.holds (readable mid) (readable_left mid) in
-        subst (λ (t : Table). IsKnown devices t slot (Some disk)) (sym (settled_table table devices table number mid (Some one) V (Some one) (V ∷ []) refl from.settled case))
-        (known_away table devices case.table (V ∷ []) (readable mid) (Some one) (held_by table devices (readable mid) (Some one) (V ∷ []) case) slot disk (sym from.own)
+        subst (λ (t : Table). IsKnown devices t slot (Some disk))
+        (sym (settled_table table devices table number mid (Some one) V (Some one) (V ∷ []) refl from.settled case))
+        (known_away table devices case.table (V ∷ []) (readable mid) (Some one) (held_by table devices (readable mid) (Some one) (V ∷ []) case) slot disk
+        (sym from.own)
         (inr (inr record { disk = disk; holds = refl; listed = has })))
 
     pub new_takes : TakesFrom devices number table next slot one V sectors mid

@@ -1,5 +1,6 @@
 -- Replacing a device: what its parts promise is what the whole does.
-use Rattle.std.proofs.Common.{◌≡◌, ◌≢◌, ◌⊎◌, inl, inr, ℕ, ◌+◌, ◌<◌, ◌≤◌, Bool, true, false, List, [], ◌∷◌, Option, Result, Ok, Err, refl, sym, ◌∙◌, ap, subst, arith}
+use Rattle.std.proofs.Common.{◌≡◌, ◌≢◌, ◌⊎◌, inl, inr, ℕ, ◌+◌, ◌<◌, ◌≤◌, Bool, true, false, List, [], ◌∷◌, Option, Result, Ok, Err, refl, sym, ◌∙◌, ap, subst}
+use Rattle.std.proofs.Common.{arith}
 use Rattle.std.specs.Prelude.{nat_lt, if◌then◌else◌}
 use Rattle.std.proofs.lemmas.Bool.{cases_eq}
 use Rattle.std.proofs.lemmas.Bool.Decides.{nat_tests}
@@ -65,11 +66,14 @@ refused_at_once honest slot array refusal why where_not_missing = record {
     same : {answer : Answer} (a b : Refusal) → answer ≡ Err a → answer ≡ Err b → a ≡ b
     same a b first second = cc
 
-pub replace_refused : (honest : Type 0) (slot : ℕ) (array : ArrayView) (refusal : Refusal) → IsWhyNot array.panel array.table slot refusal → Replaces honest slot array array (Err refusal)
+pub replace_refused : (honest : Type 0) (slot : ℕ) (array : ArrayView) (refusal : Refusal) → IsWhyNot array.panel array.table slot refusal
+    → Replaces honest slot array array (Err refusal)
 replace_refused honest slot array refusal (inl (is, not_missing)) =
-    subst (λ (r : Refusal). Replaces honest slot array array (Err r)) (sym is) (refused_at_once honest slot array NotMissing (not_missing, refl) (λ not_missing. refl))
+    subst (λ (r : Refusal). Replaces honest slot array array (Err r)) (sym is)
+    (refused_at_once honest slot array NotMissing (not_missing, refl) (λ not_missing. refl))
 replace_refused honest slot array refusal (inr (inl (is, without))) =
-    subst (λ (r : Refusal). Replaces honest slot array array (Err r)) (sym is) (refused_at_once honest slot array NotUsable (is_missing array.table slot without.of_set without.missing, without.unusable, without.missing)
+    subst (λ (r : Refusal). Replaces honest slot array array (Err r)) (sym is)
+    (refused_at_once honest slot array NotUsable (is_missing array.table slot without.of_set without.missing, without.unusable, without.missing)
     (λ not_missing. absurd (is_missing array.table slot without.of_set without.missing not_missing)))
 replace_refused honest slot array refusal (inr (inr (is, worn))) =
     subst (λ (r : Refusal). Replaces honest slot array array (Err r)) (sym is) (refused_at_once honest slot array Worn (elim worn.full [
@@ -92,16 +96,19 @@ pub joined_incarnation : (table next : Table) (slot : ℕ) → slot < slots_of t
     → incarnation_at next.incarnations slot ≡ incarnation_at table.incarnations slot + 1
 joined_incarnation table next slot of_set joined =
     ap (λ (l : List ℕ). incarnation_at l slot) joined.has_incarnations
-    ∙ get_or-set_same table.incarnations slot (incarnation_at table.incarnations slot + 1) 0 (omega (arith, slot_within table slot of_set, table.allowed.ten_incarnations))
+    ∙ get_or-set_same table.incarnations slot (incarnation_at table.incarnations slot + 1) 0
+    (omega (arith, slot_within table slot of_set, table.allowed.ten_incarnations))
 
-pub joined_step : (table next : Table) (slot : ℕ) → slot < slots_of table → state_at table.states slot ≡ Missing → IsJoined table slot next → IsStepAt table next slot
+pub joined_step : (table next : Table) (slot : ℕ) → slot < slots_of table → state_at table.states slot ≡ Missing → IsJoined table slot next
+    → IsStepAt table next slot
 joined_step table next slot of_set missing joined = record {
   of_set = of_set;
   same_id = joined.same_id;
   same_geometry = joined.same_geometry;
   generation = joined.generation;
   others_in_sync = λ other below apart. in_sync_apart table slot other (record { of_set = of_set; out = λ is. missing_in_sync (sym missing ∙ is) }) below apart;
-  states = λ other apart. ap (λ (l : List State). state_at l other) joined.has_states ∙ get_or-set_other table.states slot other (joining_state table slot) Missing apart;
+  states = λ other apart. ap (λ (l : List State). state_at l other) joined.has_states
+      ∙ get_or-set_other table.states slot other (joining_state table slot) Missing apart;
   incarnations = λ other apart. ap (λ (l : List ℕ). incarnation_at l other) joined.has_incarnations
       ∙ get_or-set_other table.incarnations slot other (incarnation_at table.incarnations slot + 1) 0 apart;
   incarnation = omega (arith, joined_incarnation table next slot of_set joined);
@@ -112,12 +119,14 @@ joining_there true is = cc
 joining_there false is = cc
 
 pub joined_there : (table next : Table) (slot : ℕ) → slot < slots_of table → IsJoined table slot next → state_at next.states slot ≢ Missing
-joined_there table next slot of_set joined missing = joining_there (nat_lt slot table.geometry.members) (sym (joined_state table next slot of_set joined) ∙ missing)
+joined_there table next slot of_set joined missing = joining_there (nat_lt slot table.geometry.members)
+    (sym (joined_state table next slot of_set joined) ∙ missing)
 
 -- it trusts no own sector of a member that has joined
 joined_trusts : (table next : Table) (slot row : ℕ) → slot < slots_of table → IsJoined table slot next → slot < table.geometry.members
     → trusts (state_at next.states slot) row next.position ≡ true → ⊥
-joined_trusts table next slot row of_set joined within counts = by_test (nat_lt slot table.geometry.members) refl (subst (λ (s : State). trusts s row 0 ≡ true) (joined_state table next slot of_set joined)
+joined_trusts table next slot row of_set joined within counts =
+    by_test (nat_lt slot table.geometry.members) refl (subst (λ (s : State). trusts s row 0 ≡ true) (joined_state table next slot of_set joined)
     (subst (λ (p : ℕ). trusts (state_at next.states slot) row p ≡ true) joined.has_position counts))
   where
     none_below : (r : ℕ) → nat_lt r 0 ≡ true → ⊥
@@ -131,7 +140,8 @@ joined_trusts table next slot row of_set joined within counts = by_test (nat_lt 
     by_test false is counts = not_member is
 
 -- a prepared device may join
-pub prepared_may_join : (devices : ℕ) (table next : Table) (slot : ℕ) (h : History) → slot < slots_of table → state_at table.states slot ≡ Missing → IsJoined table slot next
+pub prepared_may_join : (devices : ℕ) (table next : Table) (slot : ℕ) (h : History) → slot < slots_of table → state_at table.states slot ≡ Missing
+    → IsJoined table slot next
     → IsPrepared devices table slot h → MayJoin devices table next slot h
 prepared_may_join devices table next slot h of_set missing joined prepared = record {
   device = inr (joined_incarnation table next slot of_set joined, missing, prepared);
@@ -141,7 +151,8 @@ prepared_may_join devices table next slot h of_set missing joined prepared = rec
 
 -- the whole
 
-module _ (honest : Type 0) (slot number : ℕ) (table : Table) (old_panel mid_panel : Panel) (old mid : History) (result : Result (Unit {0}) Stop) (can : CanReplace old_panel table slot)
+module _ (honest : Type 0) (slot number : ℕ) (table : Table) (old_panel mid_panel : Panel) (old mid : History) (result : Result (Unit {0}) Stop)
+    (can : CanReplace old_panel table slot)
     (prepares : Prepares honest slot (view_of old_panel old table number) (view_of mid_panel mid table number) result) where
   abbrev Was : ArrayView
   Was = view_of old_panel old table number
@@ -156,7 +167,8 @@ module _ (honest : Type 0) (slot number : ℕ) (table : Table) (old_panel mid_pa
   not_not_missing = is_missing table slot can.of_set can.missing
 
   -- the device was not prepared
-  not_prepared : (refusal : Refusal) → IsNoReplacing Was Mid slot refusal → (¬ EndsIt refusal → ¬ EndsBeside slot result) → Replaces honest slot Was Mid (Err refusal)
+  not_prepared : (refusal : Refusal) → IsNoReplacing Was Mid slot refusal → (¬ EndsIt refusal → ¬ EndsBeside slot result)
+      → Replaces honest slot Was Mid (Err refusal)
   not_prepared refusal why ends = record {
     goes_on = goes;
     number = refl;
@@ -201,7 +213,8 @@ module _ (honest : Type 0) (slot number : ℕ) (table : Table) (old_panel mid_pa
   replace_worn is = not_prepared Worn (inl (inl (prepares.cause stop.Worn is))) (λ open_still. absurd (open_still tt))
 
   -- the device was prepared, and the next table published
-  module _ (done : result ≡ Ok tt) (next new_table : Table) (joined : IsJoined table slot next) (new_panel : Panel) (new : History) (answer : Result Bool Refusal)
+  module _ (done : result ≡ Ok tt) (next new_table : Table) (joined : IsJoined table slot next) (new_panel : Panel) (new : History)
+      (answer : Result Bool Refusal)
       (publishes : PublishesLast honest next slot (view_of mid_panel mid table number) (view_of new_panel new new_table number) answer) where
     abbrev Now : ArrayView
     Now = view_of new_panel new new_table number
@@ -222,7 +235,8 @@ module _ (honest : Type 0) (slot number : ℕ) (table : Table) (old_panel mid_pa
         subst (λ (l : Option Lost). RestsOn Mid l V) (lost_stays table lost after.lost rests.lost_slot after.is_lost) after.rests
 
     may_join : honest → (lost : Option Lost) (V : List Bytes) → RestsOn Was lost V → MayJoin mid_panel.devices table next slot mid
-    may_join fair lost V rests = prepared_may_join mid_panel.devices table next slot mid can.of_set can.missing joined (prepares.prepared fair done lost V rests)
+    may_join fair lost V rests = prepared_may_join mid_panel.devices table next slot mid can.of_set can.missing joined
+        (prepares.prepared fair done lost V rests)
 
     moments : honest → (lost : Option Lost) (V : List Bytes) → RestsOn Was lost V → HoldsThroughout table old_panel.devices lost (V ∷ []) old new
     moments fair lost V rests = throughout_on mid (prepares.keeps.moments fair lost V rests) new
@@ -284,7 +298,8 @@ module _ (honest : Type 0) (slot number : ℕ) (table : Table) (old_panel mid_pa
         by_slot fair other failed (inr apart) = differ (sym failed.is_down ∙ others_up fair not_ended other apart ∙ failed.was_up)
 
     -- what is the same at each refusal
-    joined_refused : (refusal : Refusal) → IsNoReplacing Was Now slot refusal → (¬ EndsIt refusal → (¬ HasEnded answer) × (state_at new_table.states slot ≡ Missing))
+    joined_refused : (refusal : Refusal) → IsNoReplacing Was Now slot refusal
+        → (¬ EndsIt refusal → (¬ HasEnded answer) × (state_at new_table.states slot ≡ Missing))
         → Replaces honest slot Was Now (Err refusal)
     joined_refused refusal why ends = record {
       goes_on = goes_then;

@@ -34,7 +34,8 @@ use Rattle.array_io.proofs.Commits.EntryCalls.{IsAllowed, calls_write}
 use Rattle.array_io.proofs.Commits.EntryCarried.{Nothing, reads_write}
 use Rattle.array_io.proofs.Reading.ReadValue.{marks_as}
 use Rattle.array_io.proofs.Writes.Writing.{writing_none, writing_on}
-use Rattle.rebuild.specs.RowSteps.{CanFill, DoneOrFailsSlot, EndsOrFails, FillsOrFailsSlot, FillsRows, IsFillMarked, IsFillWorn, IsFlushed, OwnRows, mark_answer}
+use Rattle.rebuild.specs.RowSteps.{CanFill, DoneOrFailsSlot, EndsOrFails, FillsOrFailsSlot, FillsRows, IsFillMarked, IsFillWorn, IsFlushed, OwnRows}
+use Rattle.rebuild.specs.RowSteps.{mark_answer}
 use Rattle.rebuild.proofs.RowsKept.{row_value_stays}
 
 none_differ : ¬ (Rebuilding ≡ Missing)

@@ -1,5 +1,6 @@
 -- A step of a rebuild: what its parts promise is what the whole does.
-use Rattle.std.proofs.Common.{◌≡◌, ◌≢◌, ◌⊎◌, inl, inr, ℕ, ◌+◌, ◌<◌, ◌≤◌, Bool, true, false, nat_lt, List, [], ◌∷◌, Option, Result, Ok, Err, refl, sym, ◌∙◌, ap, subst, arith}
+use Rattle.std.proofs.Common.{◌≡◌, ◌≢◌, ◌⊎◌, inl, inr, ℕ, ◌+◌, ◌<◌, ◌≤◌, Bool, true, false, nat_lt, List, [], ◌∷◌, Option, Result, Ok, Err, refl, sym, ◌∙◌, ap}
+use Rattle.std.proofs.Common.{subst, arith}
 use Rattle.std.proofs.lemmas.Bool.{cases_eq, cases_lt}
 use Rattle.std.proofs.lemmas.Bool.Decides.{nat_tests}
 use Rattle.std.proofs.lemmas.List.{get_or-set_same, get_or-set_other}
@@ -36,7 +37,8 @@ use Rattle.array_io.proofs.Marks.MarkingPublished.{others_in_sync}
 use Rattle.array_io.proofs.Rest.SettledAgain.{lost_stays}
 use Rattle.rebuild.proofs.JoinedLast.{others_stay}
 use Rattle.rebuild.specs.Joining.{IsTableAfter, MayJoin, PublishesLast}
-use Rattle.rebuild.specs.Rebuilding.{Complete, IsAfterStep, IsNoStep, IsRebuilding, IsSteppedOn, IsSteppedOrNot, OthersKeepTheirs, Position, Progress, StepsRebuild, stepped}
+use Rattle.rebuild.specs.Rebuilding.{Complete, IsAfterStep, IsNoStep, IsRebuilding, IsSteppedOn, IsSteppedOrNot, OthersKeepTheirs, Position, Progress}
+use Rattle.rebuild.specs.Rebuilding.{StepsRebuild, stepped}
 use Rattle.rebuild.specs.RowsWritten.{HasRowsOf, WritesRows}
 use Rattle.rebuild.specs.declared.progress.Progress as declared
 use Rattle.rebuild.specs.Stepping.{IsNextAt, IsProgressAt, progress_by}
@@ -105,10 +107,12 @@ next_step table next member end is (inr rebuilt) = rebuilt_step table next membe
 
 -- and still counts on it
 pub next_there : (table next : Table) (member end : ℕ) → IsRebuilding table member → IsNextAt table member end next → state_at next.states member ≢ Missing
-next_there table next member end is (inl moved) missing = rebuilding_missing (sym is.state ∙ sym (ap (λ (l : List State). state_at l member) moved.1.has_states) ∙ missing)
+next_there table next member end is (inl moved) missing =
+    rebuilding_missing (sym is.state ∙ sym (ap (λ (l : List State). state_at l member) moved.1.has_states) ∙ missing)
 next_there table next member end is (inr rebuilt) missing = in_sync_not_missing (sym (rebuilt_state table next member is rebuilt.1) ∙ missing)
 
-same_incarnation : (table next : Table) (member end : ℕ) → IsNextAt table member end next → incarnation_at next.incarnations member ≡ incarnation_at table.incarnations member
+same_incarnation : (table next : Table) (member end : ℕ) → IsNextAt table member end next
+    → incarnation_at next.incarnations member ≡ incarnation_at table.incarnations member
 same_incarnation table next member end (inl moved) = ap (λ (l : List ℕ). incarnation_at l member) moved.1.has_incarnations
 same_incarnation table next member end (inr rebuilt) = ap (λ (l : List ℕ). incarnation_at l member) rebuilt.1.has_incarnations
 
@@ -119,10 +123,12 @@ is_below : (a b : ℕ) → nat_lt a b ≡ true → a < b
 is_below a b is = grind (arith, nat_tests, is)
 
 -- which of the member's rows count
-counted_by : (table : Table) (member row : ℕ) → IsRebuilding table member → trusts (state_at table.states member) row table.position ≡ true → row < table.position
+counted_by : (table : Table) (member row : ℕ) → IsRebuilding table member → trusts (state_at table.states member) row table.position ≡ true
+    → row < table.position
 counted_by table member row is counts = is_below row table.position (subst (λ (s : State). trusts s row table.position ≡ true) is.state counts)
 
-counts_by : (table : Table) (member row : ℕ) → IsRebuilding table member → row < table.position → trusts (state_at table.states member) row table.position ≡ true
+counts_by : (table : Table) (member row : ℕ) → IsRebuilding table member → row < table.position
+    → trusts (state_at table.states member) row table.position ≡ true
 counts_by table member row is below = ap (λ (s : State). trusts s row table.position) is.state ∙ below_is row table.position below
 
 more_counts : (table next : Table) (member end row : ℕ) → IsRebuilding table member → table.position ≤ end → IsNextAt table member end next
@@ -130,16 +136,19 @@ more_counts : (table next : Table) (member end row : ℕ) → IsRebuilding table
 more_counts table next member end row is ordered (inl moved) counts =
     ap (λ (s : State). trusts s row next.position) (ap (λ (l : List State). state_at l member) moved.1.has_states ∙ is.state)
     ∙ below_is row next.position (omega (arith, counted_by table member row is counts, ordered, moved.1.has_position))
-more_counts table next member end row is ordered (inr rebuilt) counts = ap (λ (s : State). trusts s row next.position) (rebuilt_state table next member is rebuilt.1)
+more_counts table next member end row is ordered (inr rebuilt) counts =
+    ap (λ (s : State). trusts s row next.position) (rebuilt_state table next member is rebuilt.1)
 
 counted_next : (table next : Table) (member end row : ℕ) → IsRebuilding table member → row < row_count table → IsNextAt table member end next
     → trusts (state_at next.states member) row next.position ≡ true → row < end
 counted_next table next member end row is below (inl moved) counts = subst (λ (p : ℕ). row < p) moved.1.has_position
-    (is_below row next.position (subst (λ (s : State). trusts s row next.position ≡ true) (ap (λ (l : List State). state_at l member) moved.1.has_states ∙ is.state) counts))
+    (is_below row next.position (subst (λ (s : State). trusts s row next.position ≡ true)
+    (ap (λ (l : List State). state_at l member) moved.1.has_states ∙ is.state) counts))
 counted_next table next member end row is below (inr rebuilt) counts = omega (arith, below, rebuilt.0)
 
 -- a member with its rows written may go on
-pub written_may_join : (devices : ℕ) (table next : Table) (member end : ℕ) (h : History) → IsRebuilding table member → table.position ≤ end → IsNextAt table member end next
+pub written_may_join : (devices : ℕ) (table next : Table) (member end : ℕ) (h : History) → IsRebuilding table member → table.position ≤ end
+    → IsNextAt table member end next
     → is_down h member ≡ false → HasRowsOf table member table.position end h → MayJoin devices table next member h
 written_may_join devices table next member end h is ordered to up rows = record {
   device = inl (same_incarnation table next member end to, λ missing. rebuilding_missing (sym is.state ∙ missing));
@@ -172,12 +181,14 @@ record IsRefusedStep (honest : Type 0) (rows member : ℕ) (old new : ArrayView)
   number : new.number ≡ old.number
   others : OthersKeepTheirs old new member
   refused : IsSteppedOrNot old.table member rows new.table
-  failure : honest → ¬ EndsIt refusal → (slot : ℕ) → slot < slots_of old.table → DeviceFailed slot old.panel new.panel → state_at new.table.states slot ≡ Missing
+  failure : honest → ¬ EndsIt refusal → (slot : ℕ) → slot < slots_of old.table → DeviceFailed slot old.panel new.panel
+      → state_at new.table.states slot ≡ Missing
   own : (new.panel.down member ≡ true) ⊎ (state_at new.table.states member ≢ Missing)
   keeps : KeepsTheList honest old new (EndsIt refusal)
   cause : IsNoStep old new refusal
 
-refused_step : (honest : Type 0) (rows member : ℕ) (old new : ArrayView) (refusal : Refusal) → IsRebuilding old.table member → IsRefusedStep honest rows member old new refusal
+refused_step : (honest : Type 0) (rows member : ℕ) (old new : ArrayView) (refusal : Refusal) → IsRebuilding old.table member
+    → IsRefusedStep honest rows member old new refusal
     → StepsRebuild honest rows old new (Err refusal)
 refused_step honest rows member old new refusal is step = record {
   goes_on = step.goes_on;
@@ -185,16 +196,19 @@ refused_step honest rows member old new refusal is step = record {
   others = λ other is_too. subst (OthersKeepTheirs old new) (sym (one_rebuilding old.table member other is is_too)) step.others;
   stepped = λ progress answered. absurd (cc);
   has_member = λ progress answered. absurd (cc);
-  refused = λ other same m is_too. subst (λ (k : ℕ). IsSteppedOrNot old.table k rows new.table) (sym (one_rebuilding old.table member m is is_too)) step.refused;
+  refused = λ other same m is_too. subst (λ (k : ℕ). IsSteppedOrNot old.table k rows new.table) (sym (one_rebuilding old.table member m is is_too))
+      step.refused;
   failure = λ fair open_still slot below failed. step.failure fair open_still slot below failed;
-  own = λ other same m is_too. subst (λ (k : ℕ). (new.panel.down k ≡ true) ⊎ (state_at new.table.states k ≢ Missing)) (sym (one_rebuilding old.table member m is is_too)) step.own;
+  own = λ other same m is_too. subst (λ (k : ℕ). (new.panel.down k ≡ true) ⊎ (state_at new.table.states k ≢ Missing))
+      (sym (one_rebuilding old.table member m is is_too)) step.own;
   nothing = λ none. no_member old.table member is none;
   keeps = step.keeps;
   cause = λ other same. subst (IsNoStep old new) (same_answer refusal other refl same) step.cause;
 }
 
 -- a table in which the member is missing, all others being in sync, has none that is rebuilding
-none_after : (table missing : Table) (member : ℕ) → member < slots_of table → ((other : ℕ) → other < slots_of table → other ≢ member → state_at table.states other ≡ InSync)
+none_after : (table missing : Table) (member : ℕ) → member < slots_of table
+    → ((other : ℕ) → other < slots_of table → other ≢ member → state_at table.states other ≡ InSync)
     → IsMarked table member missing → (other : ℕ) → ¬ IsRebuilding missing other
 none_after table missing member below others marked other is = elim (cases_eq other member) [
   | inl same ↦ rebuilding_missing (sym is.state ∙ ap (λ (k : ℕ). state_at missing.states k) same ∙ missing_then table missing member marked below)
@@ -202,15 +216,21 @@ none_after table missing member below others marked other is = elim (cases_eq ot
       ∙ others other (omega (arith, is.of_set, ap (λ (g : Geometry). g.members) marked.same_geometry)) apart)
 ]
 
-module _ (honest : Type 0) (member end rows : ℕ) (old mid : ArrayView) (written : Result Bool Refusal) (is : IsRebuilding old.table member) (within : IsWithin old member end rows)
+module _ (honest : Type 0) (member end rows : ℕ) (old mid : ArrayView) (written : Result Bool Refusal) (is : IsRebuilding old.table member)
+    (within : IsWithin old member end rows)
     (writes : WritesRows honest member old.table.position end old mid written) where
   -- where a slot was marked it is the member
   its_table : (mid.table ≡ old.table) ⊎ (IsMarked old.table member mid.table × (mid.panel.down member ≡ true))
   its_table = elim writes.stays.table [
     | inl same ↦ inl same
     | inr lost ↦ elim (cases_eq member lost.slot) [
-      | inl same ↦ inr (subst (λ (k : ℕ). IsMarked old.table k mid.table) (sym same) lost.marked, subst (λ (k : ℕ). mid.panel.down k ≡ true) (sym same) lost.is_down)
-      | inr apart ↦ absurd (rebuilding_in_sync (sym is.state ∙ others_in_sync old.table mid.table lost.slot lost.marked lost.of_set member (of_set old.table member is) apart))
+      | inl same ↦ inr (
+        subst (λ (k : ℕ). IsMarked old.table k mid.table) (sym same) lost.marked,
+        subst (λ (k : ℕ). mid.panel.down k ≡ true) (sym same)
+            lost.is_down,
+      )
+      | inr apart ↦ absurd (rebuilding_in_sync (sym is.state
+          ∙ others_in_sync old.table mid.table lost.slot lost.marked lost.of_set member (of_set old.table member is) apart))
     ]
   ]
 
@@ -260,10 +280,15 @@ module _ (honest : Type 0) (member end rows : ℕ) (old mid : ArrayView) (writte
         refused = inr (inr (inl failed.0));
         failure = λ fair open_still slot below its. writes.stays.failure fair not_ended slot below its;
         own = inl failed.1;
-        keeps = record { moments = λ fair lost V rests. writes.keeps.moments fair lost V rests; rests = λ fair open_still lost V rests. writes.keeps.rests fair not_ended lost V rests };
+        keeps = record {
+          moments = λ fair lost V rests. writes.keeps.moments fair lost V rests;
+          rests =
+              λ fair open_still lost V rests. writes.keeps.rests fair not_ended lost V rests;
+        };
         cause = (
           none_after old.table mid.table member (of_set old.table member is) (λ other below apart. others_of old.table member other is below apart) failed.0,
-          λ other is_too. subst (λ (k : ℕ). (mid.panel.down k ≡ true) × (state_at mid.table.states k ≡ Missing)) (sym (one_rebuilding old.table member other is is_too)) (failed.1, gone),
+          λ other is_too. subst (λ (k : ℕ). (mid.panel.down k ≡ true) × (state_at mid.table.states k ≡ Missing))
+              (sym (one_rebuilding old.table member other is is_too)) (failed.1, gone),
         );
       }
     where
@@ -271,7 +296,8 @@ module _ (honest : Type 0) (member end rows : ℕ) (old mid : ArrayView) (writte
       not_ended = subst (λ (r : Result Bool Refusal). ¬ HasEnded r) (sym same) (λ never. never)
 
 -- the rows are safe, and the next table was published
-module _ (honest : Type 0) (member end rows number : ℕ) (table next new_table : Table) (old_panel mid_panel new_panel : Panel) (old mid new : History) (answer : Result Bool Refusal)
+module _ (honest : Type 0) (member end rows number : ℕ) (table next new_table : Table) (old_panel mid_panel new_panel : Panel) (old mid new : History)
+    (answer : Result Bool Refusal)
     (is : IsRebuilding table member) (within : IsWithin (view_of old_panel old table number) member end rows)
     (writes : WritesRows honest member table.position end (view_of old_panel old table number) (view_of mid_panel mid table number) (Ok true))
     (to : IsNextAt table member end next) (up : honest → is_down mid member ≡ false)
@@ -303,7 +329,8 @@ module _ (honest : Type 0) (member end rows number : ℕ) (table next new_table 
       subst (λ (l : Option Lost). RestsOn Mid l V) (lost_stays table lost after.lost rests.lost_slot after.is_lost) after.rests
 
   may_join : honest → (lost : Option Lost) (V : List Bytes) → RestsOn Was lost V → MayJoin mid_panel.devices table next member mid
-  may_join fair lost V rests = written_may_join mid_panel.devices table next member end mid is (omega (arith, within.0)) to (up fair) (writes.rows fair refl lost V rests)
+  may_join fair lost V rests = written_may_join mid_panel.devices table next member end mid is (omega (arith, within.0)) to (up fair)
+      (writes.rows fair refl lost V rests)
 
   moments : honest → (lost : Option Lost) (V : List Bytes) → RestsOn Was lost V → HoldsThroughout table old_panel.devices lost (V ∷ []) old new
   moments fair lost V rests = throughout_on mid (writes.keeps.moments fair lost V rests) new
@@ -337,7 +364,8 @@ module _ (honest : Type 0) (member end rows number : ℕ) (table next new_table 
       by_mid false there = differ (sym failed.is_down ∙ same ∙ there)
 
   -- the step is done
-  pub step_done : answer ≡ Ok true → (progress : Progress) → ((end < row_count table) × (progress ≡ Position end)) ⊎ ((end ≡ row_count table) × (progress ≡ Complete))
+  pub step_done : answer ≡ Ok true → (progress : Progress) → ((end < row_count table) × (progress ≡ Position end))
+      ⊎ ((end ≡ row_count table) × (progress ≡ Complete))
       → StepsRebuild honest rows Was Now (Ok progress)
   step_done done progress tells = record {
     goes_on = goes_then;
@@ -411,7 +439,8 @@ module _ (honest : Type 0) (member end rows number : ℕ) (table next new_table 
         cause = (
           none_after next new_table member of_next (λ other below apart. step.states other apart
               ∙ step.others_in_sync other (omega (arith, below, ap (λ (g : Geometry). g.members) step.same_geometry)) apart) its.0,
-          λ other is_too. subst (λ (k : ℕ). (new_panel.down k ≡ true) × (state_at new_table.states k ≡ Missing)) (sym (one_rebuilding table member other is is_too)) (its.1, gone),
+          λ other is_too. subst (λ (k : ℕ). (new_panel.down k ≡ true) × (state_at new_table.states k ≡ Missing))
+              (sym (one_rebuilding table member other is is_too)) (its.1, gone),
         );
       }
     where
@@ -448,37 +477,48 @@ module _ (honest : Type 0) (member end rows number : ℕ) (table next new_table 
 
 -- how a step goes on once its rows are safe
 pub record StepsBy (honest : Type 0) (rows end : ℕ) (old new : ArrayView) (answer : Result Bool Refusal) : Type 0 where
-  pub done : answer ≡ Ok true → (progress : declared.Progress) → IsProgressAt new.table.geometry end progress → StepsRebuild honest rows old new (Ok (progress_by progress))
+  pub done : answer ≡ Ok true → (progress : declared.Progress) → IsProgressAt new.table.geometry end progress
+      → StepsRebuild honest rows old new (Ok (progress_by progress))
   pub failed : answer ≡ Ok false → StepsRebuild honest rows old new (Err NothingToRebuild)
   pub ended : (refusal : Refusal) → answer ≡ Err refusal → StepsRebuild honest rows old new (Err refusal)
 
-pub steps_by : (honest : Type 0) (member end rows number : ℕ) (table mid_table next new_table : Table) (old_panel mid_panel new_panel : Panel) (old mid new : History) (written answer : Result Bool Refusal)
+pub steps_by : (honest : Type 0) (member end rows number : ℕ) (table mid_table next new_table : Table) (old_panel mid_panel new_panel : Panel)
+    (old mid new : History) (written answer : Result Bool Refusal)
     → IsRebuilding table member → IsWithin (view_of old_panel old table number) member end rows
     → WritesRows honest member table.position end (view_of old_panel old table number) (view_of mid_panel mid mid_table number) written → written ≡ Ok true
     → IsNextAt mid_table member end next → (honest → IsTrueTo mid_panel mid)
     → PublishesLast honest next member (view_of mid_panel mid mid_table number) (view_of new_panel new new_table number) answer
     → StepsBy honest rows end (view_of old_panel old table number) (view_of new_panel new new_table number) answer
-steps_by honest member end rows number table mid_table next new_table old_panel mid_panel new_panel old mid new written answer is within writes all to true_mid publishes =
+steps_by honest member end rows number table mid_table next new_table old_panel mid_panel new_panel old mid new written answer is within writes all to true_mid
+    publishes =
     by_table mid_table (sym (writes.written all).0)
-    (subst (λ (r : Result Bool Refusal). WritesRows honest member table.position end (view_of old_panel old table number) (view_of mid_panel mid mid_table number) r) all writes) to publishes
+    (subst (λ (r : Result Bool Refusal). WritesRows honest member table.position end (view_of old_panel old table number)
+    (view_of mid_panel mid mid_table number) r) all writes) to publishes
   where
     up : honest → is_down mid member ≡ false
     up fair = sym ((true_mid fair).down member) ∙ (writes.written all).1
 
-    at_same : WritesRows honest member table.position end (view_of old_panel old table number) (view_of mid_panel mid table number) (Ok true) → IsNextAt table member end next → PublishesLast honest next member (view_of mid_panel mid table number) (view_of new_panel new new_table number) answer
+    at_same : WritesRows honest member table.position end (view_of old_panel old table number) (view_of mid_panel mid table number) (Ok true)
+        → IsNextAt table member end next → PublishesLast honest next member (view_of mid_panel mid table number) (view_of new_panel new new_table number) answer
         → StepsBy honest rows end (view_of old_panel old table number) (view_of new_panel new new_table number) answer
     at_same w t p = record {
       done = λ is_done progress tells.
-          let geometry : new_table.geometry ≡ table.geometry = ap (λ (t : Table). t.geometry) (p.taken is_done).0 ∙ (next_step table next member end is t).same_geometry in
-          step_done honest member end rows number table next new_table old_panel mid_panel new_panel old mid new answer is within w t up p is_done (progress_by progress)
+          let geometry : new_table.geometry ≡ table.geometry = ap (λ (t : Table). t.geometry) (p.taken is_done).0
+          ∙ (next_step table next member end is t).same_geometry in
+          step_done honest member end rows number table next new_table old_panel mid_panel new_panel old mid new answer is within w t up p is_done
+          (progress_by progress)
           (subst (λ (g : Geometry). IsProgressAt g end progress) geometry tells);
       failed = step_last_failed honest member end rows number table next new_table old_panel mid_panel new_panel old mid new answer is within w t up p;
       ended = step_ended honest member end rows number table next new_table old_panel mid_panel new_panel old mid new answer is within w t up p;
     }
 
-    by_table : (t : Table) → table ≡ t → WritesRows honest member table.position end (view_of old_panel old table number) (view_of mid_panel mid t number) (Ok true) → IsNextAt t member end next → PublishesLast honest next member (view_of mid_panel mid t number) (view_of new_panel new new_table number) answer
+    by_table : (t : Table) → table ≡ t → WritesRows honest member table.position end (view_of old_panel old table number) (view_of mid_panel mid t number)
+        (Ok true) → IsNextAt t member end next → PublishesLast honest next member (view_of mid_panel mid t number) (view_of new_panel new new_table number)
+        answer
         → StepsBy honest rows end (view_of old_panel old table number) (view_of new_panel new new_table number) answer
-    by_table t same = subst (λ (x : Table). WritesRows honest member table.position end (view_of old_panel old table number) (view_of mid_panel mid x number) (Ok true) → IsNextAt x member end next → PublishesLast honest next member (view_of mid_panel mid x number) (view_of new_panel new new_table number) answer
+    by_table t same = subst (λ (x : Table). WritesRows honest member table.position end (view_of old_panel old table number) (view_of mid_panel mid x number)
+        (Ok true) → IsNextAt x member end next → PublishesLast honest next member (view_of mid_panel mid x number) (view_of new_panel new new_table number)
+        answer
         → StepsBy honest rows end (view_of old_panel old table number) (view_of new_panel new new_table number) answer) same at_same
 
 -- the table can have no further generation

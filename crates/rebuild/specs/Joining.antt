@@ -20,7 +20,8 @@ use Rattle.rebuild.specs.Preparing.{IsPrepared}
 -- each of a member's own sectors that the next table trusts is the member's value, those among them that the table trusts.
 pub record MayJoin (devices : ℕ) (table next : Table) (slot : ℕ) (h : History) : Type 0 where
   pub device : (incarnation_at next.incarnations slot ≡ incarnation_at table.incarnations slot × (state_at table.states slot ≢ Missing))
-      ⊎ ((incarnation_at next.incarnations slot ≡ incarnation_at table.incarnations slot + 1) × (state_at table.states slot ≡ Missing) × IsPrepared devices table slot h)
+      ⊎ ((incarnation_at next.incarnations slot ≡ incarnation_at table.incarnations slot + 1) × (state_at table.states slot ≡ Missing)
+      × IsPrepared devices table slot h)
   pub more : (row : ℕ) → trusts (state_at table.states slot) row table.position ≡ true → trusts (state_at next.states slot) row next.position ≡ true
   pub own : (row : ℕ) → slot < table.geometry.members → row < row_count table → trusts (state_at next.states slot) row next.position ≡ true
       → sector_of (seen h slot) (FIRST_ROW + row) ≡ value (rows_by table (readable h)) row slot

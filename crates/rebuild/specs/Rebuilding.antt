@@ -111,7 +111,8 @@ pub record StepsRebuild (honest : Type 0) (rows : ℕ) (old new : ArrayView) (an
   pub goes_on : GoesOn old new
   pub number : new.number ≡ old.number
   pub others : (member : ℕ) → IsRebuilding old.table member → OthersKeepTheirs old new member
-  pub stepped : (progress : Progress) → answer ≡ Ok progress → (member : ℕ) → IsRebuilding old.table member → IsAfterStep old.table member rows progress new.table
+  pub stepped : (progress : Progress) → answer ≡ Ok progress → (member : ℕ) → IsRebuilding old.table member
+      → IsAfterStep old.table member rows progress new.table
   pub has_member : (progress : Progress) → answer ≡ Ok progress → ¬ IsNothingToRebuild old
   pub refused : (refusal : Refusal) → answer ≡ Err refusal → (member : ℕ) → IsRebuilding old.table member → IsSteppedOrNot old.table member rows new.table
   pub failure : honest → ¬ HasEnded answer → IsFailedMissing old new

@@ -51,7 +51,8 @@ pub(crate) fn publish_last<B: Bank>(
     }
 }
 
-/// The next table, in which a slot has a new device: a member is rebuilding with no row that counts, a journal is in sync.
+/// The next table, in which a slot has a new device: a member is rebuilding with no row that counts, a journal is in
+/// sync.
 pub(crate) fn joined(table: &Table, slot: u8) -> Table
     requires of_set { slot < slots_of table.now }
     requires missing { state_at table.now.states slot ≡ Missing }

@@ -15,10 +15,10 @@ use superblock::{State, Table, least_of};
 /// member joins as rebuilding, with no row that counts. A journal gets both seals cleared and the last entry copied
 /// from the other journal, and joins in sync. Its incarnation goes up by one.
 ///
-/// Refused with `NotMissing` where the slot is none of the set or not missing, with nothing done; with `NotUsable` where
-/// its device is down, goes down in the call, or is too short: the slot then stands as missing; with `TwoLost` where
-/// another device goes down; and with `Worn` where the count of device calls, the table's generation or the slot's
-/// incarnation stands at 2^62.
+/// Refused with `NotMissing` where the slot is none of the set or not missing, with nothing done; with `NotUsable`
+/// where its device is down, goes down in the call, or is too short: the slot then stands as missing; with `TwoLost`
+/// where another device goes down; and with `Worn` where the count of device calls, the table's generation or the
+/// slot's incarnation stands at 2^62.
 pub fn replace<B: Bank>(array: &mut Array<B>, slot: u8) -> Result<(), Refusal>
     ensures honest { IsHonest array.old ↔ IsHonest array.new }
     ensures replaces { Replaces (IsHonest array.old) slot (array_view array.old) (array_view array.new) result }
@@ -38,8 +38,8 @@ pub fn replace<B: Bank>(array: &mut Array<B>, slot: u8) -> Result<(), Refusal>
     }
 }
 
-// Why a slot can't be given its device, if so: it is none of the set or not missing; its device is down or too short; or
-// a counter stands at 2^62.
+// Why a slot can't be given its device, if so: it is none of the set or not missing; its device is down or too short;
+// or a counter stands at 2^62.
 fn check_slot<B: Bank>(bank: &B, table: &Table, slot: u8) -> Result<(), Refusal>
     requires { HasItsSlots table.now (B.panel bank.now) }
     ensures may { OnOk result (CanReplace (B.panel bank.now) table.now slot) }

@@ -14,13 +14,14 @@ use layout_map::FIRST_ROW;
 use sector_model::{Bank, Refusal, Stop, flush_device, write_sector};
 use superblock::Table;
 
-/// Writes the rebuilding member's rows from one up to another, each from the other members' sectors, and flushes the member
-/// (`true`). `false` where the member's device goes down: its slot is then marked missing. Refused with `TwoLost` where
-/// another device goes down, and with `Worn` where the count of device calls, or in marking the table's generation, stands
-/// at 2^62.
+/// Writes the rebuilding member's rows from one up to another, each from the other members' sectors, and flushes the
+/// member (`true`). `false` where the member's device goes down: its slot is then marked missing. Refused with
+/// `TwoLost` where another device goes down, and with `Worn` where the count of device calls, or in marking the table's
+/// generation, stands at 2^62.
 ///
-/// The table calls the member rebuilding, the rows are rows of the set at or after its position, in order, and the set's
-/// slots are slots of the bank, each that the table does not call missing long enough where it is up (conditions).
+/// The table calls the member rebuilding, the rows are rows of the set at or after its position, in order, and the
+/// set's slots are slots of the bank, each that the table does not call missing long enough where it is up
+/// (conditions).
 pub(crate) fn write_rows<B: Bank>(
     bank: &mut B,
     table: &mut Table,
@@ -57,7 +58,8 @@ fn fill_rows<B: Bank>(
     requires can { CanFill table.old member from end (B.panel bank.old) }
     ensures honest { B.honest bank.old ↔ B.honest bank.new }
     ensures its_slots { HasItsSlots table.new (B.panel bank.new) }
-    ensures fills { FillsOrFailsSlot (B.honest bank.old) table.old table.new member from end (B.panel bank.old) (B.panel bank.new)
+    ensures fills { FillsOrFailsSlot (B.honest bank.old) table.old table.new member from end (B.panel bank.old)
+        (B.panel bank.new)
         (B.history bank.old) (B.history bank.new) result }
 {
     for row in from..end {
@@ -73,7 +75,8 @@ fn fill_row<B: Bank>(bank: &mut B, table: &mut Table, member: u8, row: u64) -> R
     requires can { CanFill table.old member row (row + 1) (B.panel bank.old) }
     ensures honest { B.honest bank.old ↔ B.honest bank.new }
     ensures its_slots { HasItsSlots table.new (B.panel bank.new) }
-    ensures fills { FillsOrFailsSlot (B.honest bank.old) table.old table.new member row (row + 1) (B.panel bank.old) (B.panel bank.new)
+    ensures fills { FillsOrFailsSlot (B.honest bank.old) table.old table.new member row (row + 1) (B.panel bank.old)
+        (B.panel bank.new)
         (B.history bank.old) (B.history bank.new) result }
 {
     let mut sector = [0; 512];

@@ -18,13 +18,13 @@ use superblock::{State, Table};
 /// The most rows of a step.
 pub const MOST_ROWS: u64 = 64;
 
-/// Rebuilds the next rows of the member that is rebuilding: so many, `MOST_ROWS` at most, and none past the last. They are written
-/// from the other members' sectors and flushed, and only then the new position is published, or, after the last row,
-/// that the member is in sync (`Complete`). A step of 0 rows changes nothing.
+/// Rebuilds the next rows of the member that is rebuilding: so many, `MOST_ROWS` at most, and none past the last. They
+/// are written from the other members' sectors and flushed, and only then the new position is published, or, after the
+/// last row, that the member is in sync (`Complete`). A step of 0 rows changes nothing.
 ///
 /// Refused with `NothingToRebuild` where no member is rebuilding, or the one that is goes down in the call and is then
-/// missing; with `TwoLost` where another device goes down; and with `Worn` where the count of device calls, or the table's
-/// generation, stands at 2^62.
+/// missing; with `TwoLost` where another device goes down; and with `Worn` where the count of device calls, or the
+/// table's generation, stands at 2^62.
 pub fn rebuild_step<B: Bank>(array: &mut Array<B>, rows: u64) -> Result<Progress, Refusal>
     ensures honest { IsHonest array.old ↔ IsHonest array.new }
     ensures steps { StepsRebuild (IsHonest array.old) rows (array_view array.old) (array_view array.new)
@@ -41,8 +41,8 @@ pub fn rebuild_step<B: Bank>(array: &mut Array<B>, rows: u64) -> Result<Progress
     step_to(array, member, end)
 }
 
-/// How many steps of `MOST_ROWS` rows a rebuild takes from this position on, of so many rows: the last counts where it is
-/// not full, and at the end, or past it, none is left.
+/// How many steps of `MOST_ROWS` rows a rebuild takes from this position on, of so many rows: the last counts where it
+/// is not full, and at the end, or past it, none is left.
 pub fn steps_left(position: u64, rows: u64) -> u64
     ensures { result ≡ left_of position rows }
 {

@@ -377,9 +377,9 @@ fn check_journal(rt: &(impl Abort + AllocGlobal), is_whole: bool, count: usize, 
     check_values(rt, end, &image);
 }
 
-// The two seals of the other journal are read; two superblock places and both seals are cleared and flushed; each sector
-// of the body is read and written, and they are flushed; then there are the seal, its flush, and the superblocks of all
-// six.
+// The two seals of the other journal are read; two superblock places and both seals are cleared and flushed; each
+// sector of the body is read and written, and they are flushed; then there are the seal, its flush, and the superblocks
+// of all six.
 #[test]
 fn journal_gets_what_the_last_entry_holds(rt: HostRuntime) {
     check_journal(&rt, false, 32, 2 + 5 + 2 * 32 + 3 + 12);

@@ -1,5 +1,5 @@
-//! A missing slot gets a device, and the rows of a member are rebuilt, over sets in memory whose logical sectors are known.
-//! The sets are small: all rows of one of three members are a step.
+//! A missing slot gets a device, and the rows of a member are rebuilt, over sets in memory whose logical sectors are
+//! known. The sets are small: all rows of one of three members are a step.
 ghost use Rattle.std.specs.Prelude.{◌↔◌, IsTrue};
 ghost use Rattle.array_io.specs.Believed.ArrayCalls.{MayCommit};
 ghost use Rattle.array_io.specs.Steps.FormingRows.{HasLogical};
@@ -176,8 +176,8 @@ fn check_may_commit(rt: &impl Abort, table: &Table, sectors: &[(u64, Sector)])
     }
 }
 
-/// What a commit of these logical sectors together answers, the first of them full of this byte, and each other of one more
-/// than the one before. The list has them then.
+/// What a commit of these logical sectors together answers, the first of them full of this byte, and each other of one
+/// more than the one before. The list has them then.
 pub(crate) fn answer_of_write(
     rt: &(impl Abort + AllocGlobal),
     known: &mut Known,
@@ -367,8 +367,8 @@ pub(crate) fn mark(rt: &impl Abort, array: &mut Array<MemBank>, slot: u8) {
     same(rt, array.mark_missing(slot), Ok(()));
 }
 
-/// A set of which a slot is missing and has a device of this kind, in a run that just began. Where it has entries, the last
-/// one is of two rows.
+/// A set of which a slot is missing and has a device of this kind, in a run that just began. Where it has entries, the
+/// last one is of two rows.
 pub(crate) fn without(rt: &(impl Abort + AllocGlobal), case: &Case) -> Known {
     let mut known = made(rt, ID, case.shape);
     if case.is_used {
@@ -550,8 +550,8 @@ pub(crate) fn check_published(
     }
 }
 
-/// Asks that a set is complete, and that the sectors of its members say the same without the journals: the sectors of each row
-/// XOR to zero, and these are the logical sectors.
+/// Asks that a set is complete, and that the sectors of its members say the same without the journals: the sectors of
+/// each row XOR to zero, and these are the logical sectors.
 pub(crate) fn check_whole(
     rt: &(impl Abort + AllocGlobal),
     number: (u64, u64),

@@ -30,7 +30,8 @@ OnReturned P (Returned bank refusal) = P bank refusal
 pub of_opened : (P : ArrayView → Type 0) (given array : ArrayView) → Opened given ≡ Opened array → P given → P array
 of_opened P given array is of_given = subst (OnOpened P) is of_given
 
-pub of_returned : (P : BankView → Refusal → Type 0) (given bank : BankView) (why refusal : Refusal) → Returned given why ≡ Returned bank refusal → P given why → P bank refusal
+pub of_returned : (P : BankView → Refusal → Type 0) (given bank : BankView) (why refusal : Refusal) → Returned given why ≡ Returned bank refusal → P given why
+    → P bank refusal
 of_returned P given bank why refusal is of_given = subst (OnReturned P) is of_given
 
 pub not_both : (array : ArrayView) (bank : BankView) (refusal : Refusal) → Opened array ≡ Returned bank refusal → ⊥
@@ -50,8 +51,10 @@ pub record IsOpening (Reaches : Reached) (honest : Type 0) (id : List ℕ) (old 
   pub its_slots : HasItsSlots array.table array.panel
   pub moments : honest → (base : Table) (lost : Option Lost) (X : List (List Bytes)) → base.id ≡ id → MayAssemble base lost X old
       → HoldsThroughout base old.panel.devices lost X old.history array.history
-  pub rests : honest → (base : Table) (lost : Option Lost) (X : List (List Bytes)) → base.id ≡ id → MayAssemble base lost X old → IsSingleFailure (slots_of base) lost array.history → Reaches base lost X array
-  pub states : honest → (base : Table) (lost : Option Lost) (X : List (List Bytes)) → base.id ≡ id → MayAssemble base lost X old → IsSingleFailure (slots_of base) lost array.history
+  pub rests : honest → (base : Table) (lost : Option Lost) (X : List (List Bytes)) → base.id ≡ id → MayAssemble base lost X old
+      → IsSingleFailure (slots_of base) lost array.history → Reaches base lost X array
+  pub states : honest → (base : Table) (lost : Option Lost) (X : List (List Bytes)) → base.id ≡ id → MayAssemble base lost X old
+      → IsSingleFailure (slots_of base) lost array.history
       → (table : Table) → IsChosen id old.panel.devices (readable old.history) table → HasStatesOf table old array
   pub one : honest → HasOne id old.panel.devices array.history
   pub unwritten : RefusesUnwritten honest id old (Opened array)
@@ -63,10 +66,12 @@ opening Reaches honest id old array is = record {
   of_id = λ other same. of_opened (λ a. a.table.id ≡ id) array other same is.of_id;
   its_slots = λ other same. of_opened (λ a. HasItsSlots a.table a.panel) array other same is.its_slots;
   moments = is.moments;
-  rests = λ is_honest base lost X same_id may other same. of_opened (λ a. IsSingleFailure (slots_of base) lost a.history → Reaches base lost X a) array other same
+  rests = λ is_honest base lost X same_id may other same. of_opened (λ a. IsSingleFailure (slots_of base) lost a.history → Reaches base lost X a) array other
+      same
       (is.rests is_honest base lost X same_id may);
   states = λ is_honest base lost X same_id may other same.
-      of_opened (λ a. IsSingleFailure (slots_of base) lost a.history → (table : Table) → IsChosen id old.panel.devices (readable old.history) table → HasStatesOf table old a) array other same
+      of_opened (λ a. IsSingleFailure (slots_of base) lost a.history → (table : Table) → IsChosen id old.panel.devices (readable old.history) table
+      → HasStatesOf table old a) array other same
       (is.states is_honest base lost X same_id may);
   refused = λ bank refusal same. absurd (not_both array bank refusal same);
   cause = λ is_honest bank refusal same. absurd (not_both array bank refusal same);
@@ -97,7 +102,8 @@ returning Reaches honest id old bank refusal is = record {
 }
 
 -- the superblocks were put in order
-pub put_in_order : (honest : Type 0) (id : List ℕ) (old : BankView) (array : ArrayView) → IsOpening IsInOrder honest id old array → (honest → IsSince id old array)
+pub put_in_order : (honest : Type 0) (id : List ℕ) (old : BankView) (array : ArrayView) → IsOpening IsInOrder honest id old array
+    → (honest → IsSince id old array)
     → PutsInOrder honest id old (Opened array)
 put_in_order honest id old array is since = record {
   assembles = opening IsInOrder honest id old array is;
@@ -106,7 +112,8 @@ put_in_order honest id old array is since = record {
 }
 
 -- they were not
-pub not_in_order : (honest : Type 0) (id : List ℕ) (old bank : BankView) (refusal : Refusal) → IsReturning honest id old bank refusal → PutsInOrder honest id old (Returned bank refusal)
+pub not_in_order : (honest : Type 0) (id : List ℕ) (old bank : BankView) (refusal : Refusal) → IsReturning honest id old bank refusal
+    → PutsInOrder honest id old (Returned bank refusal)
 not_in_order honest id old bank refusal is = record {
   assembles = returning IsInOrder honest id old bank refusal is;
   since = λ is_honest array same. absurd (not_opened array bank refusal same);

@@ -62,12 +62,14 @@ module _ (spellings : Spellings) (base table : Table) (devices : ℕ) (lost : Op
     brings_throughout = bringing_throughout spellings devices base table lost X sectors old new brings_from (brings.moments is_honest)
 
     -- each image that a crash may leave then is held by the table
-    pub brought_held : (after : Option Lost) → IsLostAt (slots_of base) lost new after → (image : Slots) → MayLeave new image → Held base devices table X image after
+    pub brought_held : (after : Option Lost) → IsLostAt (slots_of base) lost new after → (image : Slots) → MayLeave new image
+        → Held base devices table X image after
     brought_held after lost_at image may =
         held_of base devices table X image after (holds_at spellings devices base table lost X sectors old new brings_from at_end after image lost_at may)
 
     -- a slot whose device is down is the lost one
-    pub failed_is_lost : (after : Option Lost) → IsLostAt (slots_of base) lost new after → (slot : ℕ) → slot < slots_of table → is_down new slot ≡ true → IsLostThen lost new after slot
+    pub failed_is_lost : (after : Option Lost) → IsLostAt (slots_of base) lost new after → (slot : ℕ) → slot < slots_of table → is_down new slot ≡ true
+        → IsLostThen lost new after slot
     failed_is_lost after lost_at slot of_set down =
         out_is_lost spellings base table devices lost X new after (brought_held after lost_at (readable new) (readable_left new)) lost_at slot of_set
         (λ live. none_is_out spellings devices table slot (subst (IsLive devices table slot) (readable_down new slot down) live))
@@ -81,9 +83,11 @@ module _ (spellings : Spellings) (base table : Table) (devices : ℕ) (lost : Op
       brought : AreBrought devices table sectors (readable old) (readable new)
       brought = readable_brought spellings devices table sectors old new brings_from.ready at_end (brings.none_failed is_honest ok)
 
-      pub brought_stands : (slot : ℕ) → slot < slots_of table → state_at table.states slot ≢ Missing → StandsAt table slot (sector_of (disk_of (readable new slot)) (place_of table))
+      pub brought_stands : (slot : ℕ) → slot < slots_of table → state_at table.states slot ≢ Missing
+          → StandsAt table slot (sector_of (disk_of (readable new slot)) (place_of table))
       brought_stands slot of_set counted =
-          let safe = brings.safe is_honest (now_quiet spellings base table devices lost X start old from) ok slot (record { of_set = of_set; there = counted }) in
+          let safe = brings.safe is_honest (now_quiet spellings base table devices lost X start old from) ok slot
+          (record { of_set = of_set; there = counted }) in
           subst (StandsAt table slot)
           (sym (ap (λ (c : Content). sector_of (disk_of c) (place_of table)) (readable_up new slot safe.0)
           ∙ safe.1 (sector_of (seen new slot) (place_of table)) (up_seen new slot (place_of table) safe.0)))
@@ -94,8 +98,10 @@ module _ (spellings : Spellings) (base table : Table) (devices : ℕ) (lost : Op
         nothing_pending = brings.rests is_honest (now_quiet spellings base table devices lost X start old from) (ok_not_worn result ok);
         holds = throughout_last new brings_throughout;
         chosen = subst (λ (i : List ℕ). IsChosen i devices (readable new) table) from.same_id
-            ((bringing_chosen spellings devices base table lost X sectors old new brings_from at_end single_failure.0 single_failure.1).whole (readable new) (readable_left new));
+            ((bringing_chosen spellings devices base table lost X sectors old new brings_from at_end single_failure.0 single_failure.1).whole (readable new)
+            (readable_left new));
         there = λ slot of_set counted. live_brought spellings devices table sectors X (readable old) (readable new)
-            ((told spellings base table devices lost X start old from was_single_failure.0 was_single_failure.1).held (readable old) (readable_left old)).whole brought slot (there slot of_set counted);
+            ((told spellings base table devices lost X start old from was_single_failure.0 was_single_failure.1).held (readable old) (readable_left old)).whole
+            brought slot (there slot of_set counted);
         carried = λ complete slot of_set. brought_stands slot of_set (λ missing. in_sync_not_missing (sym (complete.in_sync slot of_set) ∙ missing));
       }

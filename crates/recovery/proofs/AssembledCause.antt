@@ -39,7 +39,8 @@ pub record AreOutSince (id : List ℕ) (devices : ℕ) (old mid new : History) (
   pub second_out : (is_down new second ≡ true) ⊎ ¬ IsInFull devices table second (readable mid second)
   pub unwritten : ¬ IsInFull devices table first (readable mid first) → ¬ IsInFull devices table second (readable mid second) → HasRead old new
 
-pub two_lost_then : (id : List ℕ) (devices : ℕ) (old mid new : History) (table : Table) (first second : ℕ) → AreOutSince id devices old mid new table first second → IsTwoLostThen id devices old new
+pub two_lost_then : (id : List ℕ) (devices : ℕ) (old mid new : History) (table : Table) (first second : ℕ)
+    → AreOutSince id devices old mid new table first second → IsTwoLostThen id devices old new
 two_lost_then id devices old mid new table first second out = record {
   t = calls_of mid;
   from = out.from;
@@ -53,11 +54,13 @@ two_lost_then id devices old mid new table first second out = record {
   second_of_set = out.second_of_set;
   first_out = subst (λ (h : History). (is_down new first ≡ true) ⊎ ¬ IsInFull devices table first (readable h first)) (sym out.cut) out.first_out;
   second_out = subst (λ (h : History). (is_down new second ≡ true) ⊎ ¬ IsInFull devices table second (readable h second)) (sym out.cut) out.second_out;
-  unwritten = subst (λ (h : History). ¬ IsInFull devices table first (readable h first) → ¬ IsInFull devices table second (readable h second) → HasRead old new) (sym out.cut) out.unwritten;
+  unwritten = subst (λ (h : History). ¬ IsInFull devices table first (readable h first) → ¬ IsInFull devices table second (readable h second) → HasRead old new)
+      (sym out.cut) out.unwritten;
 }
 
 -- a device on which a superblock counts is up
-pub counted_up : Spellings → (id : List ℕ) (devices slot place : ℕ) (superblock : Superblock) (h : History) → Counts id devices slot (readable h slot) place superblock
+pub counted_up : Spellings → (id : List ℕ) (devices slot place : ℕ) (superblock : Superblock) (h : History)
+    → Counts id devices slot (readable h slot) place superblock
     → is_down h slot ≡ false
 counted_up spellings id devices slot place superblock h counts = by_state (is_down h slot) refl
   where
@@ -79,7 +82,8 @@ carried_then spellings id devices old mid table is chosen = record {
 }
 
 -- so it is one of which none can come after
-pub worn_then : Spellings → (id : List ℕ) (devices : ℕ) (old mid : History) (table : Table) → IsRead old mid → IsChosen id devices (readable mid) table → GREATEST_COUNT ≤ table.generation
+pub worn_then : Spellings → (id : List ℕ) (devices : ℕ) (old mid : History) (table : Table) → IsRead old mid → IsChosen id devices (readable mid) table
+    → GREATEST_COUNT ≤ table.generation
     → IsWornThen id devices (readable old)
 worn_then spellings id devices old mid table is chosen worn = record {
   table = table;
@@ -95,7 +99,8 @@ pub record HasOne (id : List ℕ) (devices : ℕ) (h : History) : Type 0 where
   pub counts : Counts id devices slot (readable h slot) place superblock
 
 -- the table's own superblock, which reads of a device that is up give, counts
-pub own_counts : (id : List ℕ) (devices : ℕ) (table : Table) (slot : ℕ) (sector : Bytes) (h : History) → table.id ≡ id → slots_of table ≤ devices → (stands : StandsAt table slot sector)
+pub own_counts : (id : List ℕ) (devices : ℕ) (table : Table) (slot : ℕ) (sector : Bytes) (h : History) → table.id ≡ id → slots_of table ≤ devices
+    → (stands : StandsAt table slot sector)
     → is_down h slot ≡ false → sector_of (seen h slot) (place_of table) ≡ sector → HasOne id devices h
 own_counts id devices table slot sector h of_id room stands up is = record {
   slot = slot;
@@ -111,7 +116,8 @@ own_counts id devices table slot sector h of_id room stands up is = record {
 }
 
 -- while superblocks of the chosen table are brought up, and no device fails, one counts
-pub one_brought : Spellings → (id : List ℕ) (devices : ℕ) (table : Table) (sectors : ℕ → Bytes) (old h : History) → table.id ≡ id → slots_of table ≤ devices → IsChosen id devices (readable old) table
+pub one_brought : Spellings → (id : List ℕ) (devices : ℕ) (table : Table) (sectors : ℕ → Bytes) (old h : History) → table.id ≡ id → slots_of table ≤ devices
+    → IsChosen id devices (readable old) table
     → AreSpelled table sectors → IsBringing table sectors old h → ((device : ℕ) → is_down h device ≡ is_down old device) → HasOne id devices h
 one_brought spellings id devices table sectors old h of_id room chosen spelled is stay = elim (is.reads chosen.slot chosen.place) [
   | inl same ↦ record {

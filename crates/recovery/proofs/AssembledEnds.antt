@@ -1,5 +1,6 @@
 -- What assembling promises by which slots were out: one of them, or none, and then the superblocks are brought up.
-use Rattle.std.proofs.Common.{◌≡◌, ◌≢◌, inl, inr, ℕ, ◌+◌, ◌<◌, ◌≤◌, Bool, true, false, cond, nat_lt, List, Option, None, Result, Ok, Err, refl, sym, ◌∙◌, subst, arith}
+use Rattle.std.proofs.Common.{◌≡◌, ◌≢◌, inl, inr, ℕ, ◌+◌, ◌<◌, ◌≤◌, Bool, true, false, cond, nat_lt, List, Option, None, Result, Ok, Err, refl, sym, ◌∙◌, subst}
+use Rattle.std.proofs.Common.{arith}
 use Rattle.sector_model.specs.declared.refusal.Refusal.TheVariants.{Worn}
 use Rattle.sector_model.specs.declared.sector.Stop.{Stop}
 use Rattle.sector_model.specs.declared.sector.Stop.TheVariants as stop
@@ -52,7 +53,8 @@ differ is = cc
 
 -- one slot is out
 
-pub marks_one : Spellings → (honest asked : Type 0) → (honest → asked) → (id : List ℕ) (old mid : BankView) (table : Table) (slot : ℕ) → HasSurveyed honest id old mid table
+pub marks_one : Spellings → (honest asked : Type 0) → (honest → asked) → (id : List ℕ) (old mid : BankView) (table : Table) (slot : ℕ)
+    → HasSurveyed honest id old mid table
     → IsOutOf asked mid table (out.One slot) → MarksLater honest id old mid mid table slot
 marks_one spellings honest asked still id old mid table slot has (is_gone, others) = record {
   surveyed = has;
@@ -63,7 +65,8 @@ marks_one spellings honest asked still id old mid table slot has (is_gone, other
     of_bank = omega (arith, has.has_slots, has.later.devices);
     fit = λ other of_set apart there up. (others other of_set apart).1.long_enough;
   };
-  live = λ is_honest other of_set apart there. subst (λ (n : ℕ). IsLive n table other (readable mid.history other)) has.later.devices ((others other of_set apart).1.live (still is_honest));
+  live = λ is_honest other of_set apart there. subst (λ (n : ℕ). IsLive n table other (readable mid.history other)) has.later.devices
+      ((others other of_set apart).1.live (still is_honest));
   leads = λ is_honest. leads_nowhere table slot mid.history;
   run = λ is_honest. here (λ device down. down);
   moments = λ is_honest base lost X from. here (now_holds spellings base table old.panel.devices lost X old.history mid.history from);
@@ -71,7 +74,8 @@ marks_one spellings honest asked still id old mid table slot has (is_gone, other
       let known = told spellings base table old.panel.devices lost X old.history mid.history from after lost_at in
       record {
         held = known.held;
-        its = out_is_lost spellings base table old.panel.devices lost X mid.history after (known.held (readable mid.history) (readable_left mid.history)) lost_at slot is_gone.of_set (dead is_honest);
+        its = out_is_lost spellings base table old.panel.devices lost X mid.history after (known.held (readable mid.history) (readable_left mid.history))
+            lost_at slot is_gone.of_set (dead is_honest);
       };
   gone = λ is_honest up live. dead is_honest (still_live old.panel.devices table old.history mid.history (read_last (has.reads is_honest)) slot up live);
   slot_out = λ is_honest. inr (λ full. dead is_honest full.live);
@@ -103,7 +107,8 @@ least_two geometry slot = by_case (nat_lt slot geometry.members)
     by_case false = omega arith
 
 -- so superblocks of the table may be written
-pub can_bring : (honest : Type 0) (mid : BankView) (table : Table) → slots_of table ≤ mid.panel.devices → IsOutOf honest mid table out.Nobody → CanPublish mid.panel table None
+pub can_bring : (honest : Type 0) (mid : BankView) (table : Table) → slots_of table ≤ mid.panel.devices → IsOutOf honest mid table out.Nobody
+    → CanPublish mid.panel table None
 can_bring honest mid table room there = record {
   of_bank = room;
   last_in_set = λ last is. absurd (cc);
@@ -111,7 +116,8 @@ can_bring honest mid table room there = record {
   has_places = λ slot of_set counted up. let long = (there slot of_set counted).long_enough in omega (arith, long, least_two table.geometry slot);
 }
 
-module _ (spellings : Spellings) (honest asked : Type 0) (still : honest → asked) (id : List ℕ) (old mid : BankView) (table : Table) (has : HasSurveyed honest id old mid table)
+module _ (spellings : Spellings) (honest asked : Type 0) (still : honest → asked) (id : List ℕ) (old mid : BankView) (table : Table)
+    (has : HasSurveyed honest id old mid table)
     (are_there : IsOutOf asked mid table out.Nobody) (panel : Panel) (new : History) (result : Result (Unit {0}) Stop)
     (brings : BringsUp asked table mid.panel panel mid.history new result) (true_new : honest → IsTrueTo panel new) where
   abbrev devices : ℕ
@@ -124,19 +130,22 @@ module _ (spellings : Spellings) (honest asked : Type 0) (still : honest → ask
   all_there is_honest slot of_set counted =
       subst (λ (n : ℕ). IsLive n table slot (readable mid.history slot)) has.later.devices ((are_there slot of_set counted).live (still is_honest))
 
-  from : honest → (base : Table) (lost : Option Lost) (X : List (List Bytes)) → base.id ≡ id → MayAssemble base lost X old → IsSurveyed base table devices lost X old.history mid.history
+  from : honest → (base : Table) (lost : Option Lost) (X : List (List Bytes)) → base.id ≡ id → MayAssemble base lost X old
+      → IsSurveyed base table devices lost X old.history mid.history
   from is_honest base lost X same_id may = surveyed_from honest id old mid table base lost X has is_honest same_id may
 
   moments_from : honest → (base : Table) (lost : Option Lost) (X : List (List Bytes)) → IsSurveyed base table devices lost X old.history mid.history
       → HoldsThroughout base devices lost X mid.history new
   moments_from is_honest base lost X is_from =
-      brings_throughout spellings base table devices lost X old.history mid.history brings.sectors is_from (all_there is_honest) brings.spelled asked mid.panel panel new result brings.brings (still is_honest)
+      brings_throughout spellings base table devices lost X old.history mid.history brings.sectors is_from (all_there is_honest) brings.spelled asked mid.panel
+      panel new result brings.brings (still is_honest)
 
   moments : honest → (base : Table) (lost : Option Lost) (X : List (List Bytes)) → base.id ≡ id → MayAssemble base lost X old
       → HoldsThroughout base devices lost X old.history new
   moments is_honest base lost X same_id may =
       let is_from = from is_honest base lost X same_id may in
-      throughout_on mid.history (surveyed_holds spellings base table devices lost X old.history mid.history is_from) new (moments_from is_honest base lost X is_from)
+      throughout_on mid.history (surveyed_holds spellings base table devices lost X old.history mid.history is_from) new
+      (moments_from is_honest base lost X is_from)
 
   later : IsLater old.panel panel
   later = later_both old.panel mid.panel panel has.later brings.brings.later
@@ -145,7 +154,8 @@ module _ (spellings : Spellings) (honest asked : Type 0) (still : honest → ask
   stays is_honest = (throughout_last new (brings.brings.moments (still is_honest))).stays_down
 
   one_out : (outcome : Outcome) → (honest → StaysDown mid.history (bank_after outcome).history) → RefusesUnwritten honest id old outcome
-  one_out outcome = one_is_out spellings honest id old mid.history table outcome has.reads has.chosen (λ is_honest. one_out_there devices table mid.history (all_there is_honest))
+  one_out outcome = one_is_out spellings honest id old mid.history table outcome has.reads has.chosen
+      (λ is_honest. one_out_there devices table mid.history (all_there is_honest))
 
   -- all superblocks are up to date
   pub assembled_whole : result ≡ Ok tt → PutsInOrder honest id old (opened panel new table 0)
@@ -157,16 +167,19 @@ module _ (spellings : Spellings) (honest asked : Type 0) (still : honest → ask
     rests = λ is_honest base lost X same_id may single_failure.
         let is_from = from is_honest base lost X same_id may in
         in_order base table devices lost X panel new later.devices
-        (brought_in_order spellings base table devices lost X old.history mid.history brings.sectors is_from (all_there is_honest) brings.spelled asked mid.panel panel new result brings.brings
+        (brought_in_order spellings base table devices lost X old.history mid.history brings.sectors is_from (all_there is_honest) brings.spelled asked
+        mid.panel panel new result brings.brings
         (still is_honest) ok single_failure);
     states = λ is_honest base lost X same_id may single_failure one chosen.
         let is_from = from is_honest base lost X same_id may in
-        let mid_loss = was_single_failure spellings base table devices lost X old.history mid.history brings.sectors is_from (all_there is_honest) brings.spelled asked mid.panel panel new result brings.brings
+        let mid_loss = was_single_failure spellings base table devices lost X old.history mid.history brings.sectors is_from (all_there is_honest)
+        brings.spelled asked mid.panel panel new result brings.brings
         (still is_honest) ok single_failure in
         let known = told spellings base table devices lost X old.history mid.history is_from mid_loss.0 mid_loss.1 in
         let same : one ≡ table = known.was_chosen one (subst (λ (i : List ℕ). IsChosen i devices (readable old.history) one) (sym same_id) chosen) in
         subst (λ (t : Table). HasStatesOf t old (view_of panel new table 0)) (sym same)
-        (states_whole spellings table old mid.history new panel (read_last (has.reads is_honest)) (all_there is_honest) (brings.brings.none_failed (still is_honest) ok));
+        (states_whole spellings table old mid.history new panel (read_last (has.reads is_honest)) (all_there is_honest)
+        (brings.brings.none_failed (still is_honest) ok));
     one = λ is_honest.
         one_brought spellings id devices table brings.sectors mid.history new has.of_id has.has_slots (has.chosen is_honest) brings.spelled
         (throughout_last new (brings.brings.moments (still is_honest))) (brings.brings.none_failed (still is_honest) ok);
@@ -201,13 +214,16 @@ module _ (spellings : Spellings) (honest asked : Type 0) (still : honest → ask
     later = brings.brings.later;
     others = record { of_bank = its.of_bank; fit = λ other of_set apart there up. its.fit other of_set there up };
     live = λ is_honest other of_set apart there. all_there is_honest other of_set there;
-    leads = λ is_honest. leads_bringing table slot brings.sectors mid.history new (throughout_last new (brings.brings.moments (still is_honest))) (down is_honest);
+    leads = λ is_honest. leads_bringing table slot brings.sectors mid.history new (throughout_last new (brings.brings.moments (still is_honest)))
+        (down is_honest);
     run = λ is_honest. throughout_more (λ h bringing. bringing.stays_down) new (brings.brings.moments (still is_honest));
     moments = moments_from;
     lost = λ is_honest base lost X is_from after lost_at. record {
-      held = brought_held spellings base table devices lost X old.history mid.history brings.sectors is_from (all_there is_honest) brings.spelled asked mid.panel panel new result brings.brings
+      held = brought_held spellings base table devices lost X old.history mid.history brings.sectors is_from (all_there is_honest) brings.spelled asked
+          mid.panel panel new result brings.brings
           (still is_honest) after lost_at;
-      its = failed_is_lost spellings base table devices lost X old.history mid.history brings.sectors is_from (all_there is_honest) brings.spelled asked mid.panel panel new result brings.brings
+      its = failed_is_lost spellings base table devices lost X old.history mid.history brings.sectors is_from (all_there is_honest) brings.spelled asked
+          mid.panel panel new result brings.brings
           (still is_honest) after lost_at slot counted.of_set (down is_honest);
     };
     gone = λ is_honest up. absurd (differ (sym (down is_honest) ∙ up));

@@ -35,7 +35,8 @@ pub record HasSurveyed (honest : Type 0) (id : List ℕ) (old mid : BankView) (t
   pub reads : honest → HasRead old.history mid.history
   pub chosen : honest → IsChosen id old.panel.devices (readable mid.history) table
 
-pub has_surveyed : (honest : Type 0) (id : List ℕ) (old mid : BankView) (answer : Result (Option Survey) Refusal) (survey : Survey) → Surveys honest id old mid answer → answer ≡ Ok (Some survey)
+pub has_surveyed : (honest : Type 0) (id : List ℕ) (old mid : BankView) (answer : Result (Option Survey) Refusal) (survey : Survey)
+    → Surveys honest id old mid answer → answer ≡ Ok (Some survey)
     → HasSurveyed honest id old mid survey.table
 has_surveyed honest id old mid answer survey surveys is = record {
   later = surveys.later;
@@ -46,7 +47,8 @@ has_surveyed honest id old mid answer survey surveys is = record {
 }
 
 -- while devices are read all cases hold
-pub reads_hold : Spellings → (base : Table) (devices : ℕ) (lost : Option Lost) (X : List (List Bytes)) (old h : History) → HasRead old h → NothingPending old → HoldsNow base devices lost X old
+pub reads_hold : Spellings → (base : Table) (devices : ℕ) (lost : Option Lost) (X : List (List Bytes)) (old h : History) → HasRead old h → NothingPending old
+    → HoldsNow base devices lost X old
     → HoldsThroughout base devices lost X old h
 reads_hold spellings base devices lost X old h read nothing holds =
     throughout_more (λ g is. read_holds spellings devices base lost X old g nothing is holds) h (read_throughout read)
@@ -55,7 +57,8 @@ pub calls_read : (old h : History) → HasRead old h → calls_of old ≤ calls_
 calls_read old h read = calls_grow h (read_throughout read)
 
 -- from the survey on
-pub surveyed_from : (honest : Type 0) (id : List ℕ) (old mid : BankView) (table base : Table) (lost : Option Lost) (X : List (List Bytes)) → HasSurveyed honest id old mid table → honest → base.id ≡ id
+pub surveyed_from : (honest : Type 0) (id : List ℕ) (old mid : BankView) (table base : Table) (lost : Option Lost) (X : List (List Bytes))
+    → HasSurveyed honest id old mid table → honest → base.id ≡ id
     → MayAssemble base lost X old → IsSurveyed base table old.panel.devices lost X old.history mid.history
 surveyed_from honest id old mid table base lost X has is_honest same_id may = record {
   nothing_pending = may.nothing_pending;
@@ -65,17 +68,20 @@ surveyed_from honest id old mid table base lost X has is_honest same_id may = re
   chosen = subst (λ (i : List ℕ). IsChosen i old.panel.devices (readable mid.history) table) (sym same_id) (has.chosen is_honest);
 }
 
-pub surveyed_holds : Spellings → (base table : Table) (devices : ℕ) (lost : Option Lost) (X : List (List Bytes)) (old h : History) → IsSurveyed base table devices lost X old h
+pub surveyed_holds : Spellings → (base table : Table) (devices : ℕ) (lost : Option Lost) (X : List (List Bytes)) (old h : History)
+    → IsSurveyed base table devices lost X old h
     → HoldsThroughout base devices lost X old h
 surveyed_holds spellings base table devices lost X old h from = reads_hold spellings base devices lost X old h from.read from.nothing_pending from.holds
 
 -- in order over as many devices
-pub in_order : (base table : Table) (devices : ℕ) (lost : Option Lost) (X : List (List Bytes)) (panel : Panel) (h : History) → panel.devices ≡ devices → IsInOrderBy base table devices lost X h
+pub in_order : (base table : Table) (devices : ℕ) (lost : Option Lost) (X : List (List Bytes)) (panel : Panel) (h : History) → panel.devices ≡ devices
+    → IsInOrderBy base table devices lost X h
     → IsInOrder base lost X (view_of panel h table 0)
 in_order base table devices lost X panel h same is = subst (λ (n : ℕ). IsInOrderBy base table n lost X h) (sym same) is
 
 -- no further call could be counted while the superblocks were read
-pub assembled_worn : Spellings → (honest : Type 0) (id : List ℕ) (old mid : BankView) (answer : Result (Option Survey) Refusal) (refusal : Refusal) → Surveys honest id old mid answer
+pub assembled_worn : Spellings → (honest : Type 0) (id : List ℕ) (old mid : BankView) (answer : Result (Option Survey) Refusal) (refusal : Refusal)
+    → Surveys honest id old mid answer
     → answer ≡ Err refusal → PutsInOrder honest id old (Returned mid refusal)
 assembled_worn spellings honest id old mid answer refusal surveys is =
     let why = surveys.cause refusal is in
@@ -90,7 +96,8 @@ assembled_worn spellings honest id old mid answer refusal surveys is =
     })
 
 -- no superblock counts
-pub assembled_none : Spellings → (honest : Type 0) (id : List ℕ) (old mid : BankView) (answer : Result (Option Survey) Refusal) → Surveys honest id old mid answer
+pub assembled_none : Spellings → (honest : Type 0) (id : List ℕ) (old mid : BankView) (answer : Result (Option Survey) Refusal)
+    → Surveys honest id old mid answer
     → answer ≡ Ok None → PutsInOrder honest id old (Returned mid NoSet)
 assembled_none spellings honest id old mid answer surveys is =
     not_in_order honest id old mid NoSet record {
@@ -104,7 +111,8 @@ assembled_none spellings honest id old mid answer surveys is =
     }
 
 -- two slots are not in full
-pub assembled_two : Spellings → (honest told : Type 0) → (honest → told) → (id : List ℕ) (old mid : BankView) (table : Table) (first second : ℕ) → HasSurveyed honest id old mid table
+pub assembled_two : Spellings → (honest told : Type 0) → (honest → told) → (id : List ℕ) (old mid : BankView) (table : Table) (first second : ℕ)
+    → HasSurveyed honest id old mid table
     → IsOutOf told mid table (out.Two first second) → PutsInOrder honest id old (Returned mid TwoLost)
 assembled_two spellings honest told still id old mid table first second has (apart, first_out, second_out) =
     not_in_order honest id old mid TwoLost record {

@@ -52,9 +52,10 @@ use Rattle.recovery.proofs.AssembledUnwritten.{one_is_out}
 use Rattle.recovery.proofs.AssembledWithout.{LeadsTo, marked_one}
 
 -- a case by case: each image that a crash may leave is held by the table, and the slot is the lost one
-pub record IsHeldThen (base table : Table) (devices : ℕ) (lost : Option Lost) (X : List (List Bytes)) (h : History) (after : Option Lost) (slot : ℕ) : Type 0 where
-  pub held : (image : Slots) → MayLeave h image → Held base devices table X image after
-  pub its : IsLostThen lost h after slot
+pub record IsHeldThen (base table : Table) (devices : ℕ) (lost : Option Lost) (X : List (List Bytes)) (h : History) (after : Option Lost) (slot : ℕ) : Type 0
+  where
+    pub held : (image : Slots) → MayLeave h image → Held base devices table X image after
+    pub its : IsLostThen lost h after slot
 
 -- After the survey a slot is to be marked missing, on the bank as it stands some time later: either right away, where it is not live; or where its device
 -- failed while superblocks were brought up.
@@ -64,7 +65,8 @@ pub record MarksLater (honest : Type 0) (id : List ℕ) (old mid before : BankVi
   pub counted : state_at table.states slot ≢ Missing
   pub later : IsLater mid.panel before.panel
   pub others : HasOtherSlots slot table before.panel
-  pub live : honest → (other : ℕ) → other < slots_of table → other ≢ slot → state_at table.states other ≢ Missing → IsLive old.panel.devices table other (readable mid.history other)
+  pub live : honest → (other : ℕ) → other < slots_of table → other ≢ slot → state_at table.states other ≢ Missing
+      → IsLive old.panel.devices table other (readable mid.history other)
   pub leads : honest → LeadsTo table slot mid.history before.history
   pub run : honest → Throughout (StaysDown mid.history) mid.history before.history
   pub moments : honest → (base : Table) (lost : Option Lost) (X : List (List Bytes)) → IsSurveyed base table old.panel.devices lost X old.history mid.history
@@ -90,14 +92,16 @@ module _ (spellings : Spellings) (honest marking : Type 0) (still : honest → m
   abbrev devices : ℕ
   devices = old.panel.devices
 
-  from : honest → (base : Table) (lost : Option Lost) (X : List (List Bytes)) → base.id ≡ id → MayAssemble base lost X old → IsSurveyed base table devices lost X old.history mid.history
+  from : honest → (base : Table) (lost : Option Lost) (X : List (List Bytes)) → base.id ≡ id → MayAssemble base lost X old
+      → IsSurveyed base table devices lost X old.history mid.history
   from is_honest base lost X same_id may = surveyed_from honest id old mid table base lost X m.surveyed is_honest same_id may
 
   moments_before : honest → (base : Table) (lost : Option Lost) (X : List (List Bytes)) → base.id ≡ id → MayAssemble base lost X old
       → HoldsThroughout base devices lost X old.history before.history
   moments_before is_honest base lost X same_id may =
       let is_from = from is_honest base lost X same_id may in
-      throughout_on mid.history (surveyed_holds spellings base table devices lost X old.history mid.history is_from) before.history (m.moments is_honest base lost X is_from)
+      throughout_on mid.history (surveyed_holds spellings base table devices lost X old.history mid.history is_from) before.history
+      (m.moments is_honest base lost X is_from)
 
   later_before : IsLater old.panel before.panel
   later_before = later_both old.panel mid.panel before.panel m.surveyed.later m.later
@@ -115,10 +119,12 @@ module _ (spellings : Spellings) (honest marking : Type 0) (still : honest → m
     ]
   ]
     where
-      not_full_at : (other : ℕ) → other ≡ slot → ¬ IsInFull devices table other (readable mid.history other) → ¬ IsInFull devices table slot (readable mid.history slot)
+      not_full_at : (other : ℕ) → other ≡ slot → ¬ IsInFull devices table other (readable mid.history other)
+          → ¬ IsInFull devices table slot (readable mid.history slot)
       not_full_at other is = subst (λ (k : ℕ). ¬ IsInFull devices table k (readable mid.history k)) is
 
-      not_in_sync : (other : ℕ) → other < slots_of table → ¬ IsInFull devices table other (readable mid.history other) → other ≢ slot → state_at table.states other ≢ InSync
+      not_in_sync : (other : ℕ) → other < slots_of table → ¬ IsInFull devices table other (readable mid.history other) → other ≢ slot
+          → state_at table.states other ≢ InSync
       not_in_sync other of_set out apart in_sync =
           out record { live = m.live is_honest other of_set apart (λ missing. in_sync_not_missing (sym in_sync ∙ missing)); in_sync = in_sync }
 
@@ -147,7 +153,8 @@ module _ (spellings : Spellings) (honest marking : Type 0) (still : honest → m
     unwritten = λ out out'. absurd (m.beside is_honest beside out);
   }
 
-  left_by : (answer : Answer) (refusal : Refusal) → answer ≡ Err refusal → IsWhyLeft table slot answer → PutsInOrder honest id old (given_back before.panel before.history refusal)
+  left_by : (answer : Answer) (refusal : Refusal) → answer ≡ Err refusal → IsWhyLeft table slot answer
+      → PutsInOrder honest id old (given_back before.panel before.history refusal)
   left_by answer refusal is (inl (missing, ok)) = absurd (m.counted missing)
   left_by answer refusal is (inr (inl (counted, beside, two))) =
       let same : TwoLost ≡ refusal = cc in
@@ -173,7 +180,8 @@ module _ (spellings : Spellings) (honest marking : Type 0) (still : honest → m
 
   -- the slot was marked
 
-  module _ (new_panel : Panel) (new_table : Table) (new : History) (answer : Answer) (is : IsMarkedOn marking slot before.panel new_panel table new_table before.history new answer)
+  module _ (new_panel : Panel) (new_table : Table) (new : History) (answer : Answer)
+      (is : IsMarkedOn marking slot before.panel new_panel table new_table before.history new answer)
       (true_new : honest → IsTrueTo new_panel new) where
     later_new : IsLater old.panel new_panel
     later_new = later_both old.panel before.panel new_panel later_before is.publishes.later
@@ -188,10 +196,12 @@ module _ (spellings : Spellings) (honest marking : Type 0) (still : honest → m
     stays_new is_honest device down = stays_end is_honest device ((m.leads is_honest).stays_down device down)
 
     live_others : honest → (other : ℕ) → other < slots_of table → other ≢ slot → IsLive devices table other (readable mid.history other)
-    live_others is_honest other of_set apart = m.live is_honest other of_set apart (λ missing. in_sync_not_missing (sym (is.others other of_set apart) ∙ missing))
+    live_others is_honest other of_set apart = m.live is_honest other of_set apart
+        (λ missing. in_sync_not_missing (sym (is.others other of_set apart) ∙ missing))
 
     marks_from : (is_honest : honest) (base : Table) (lost : Option Lost) (X : List (List Bytes)) → IsSurveyed base table devices lost X old.history mid.history
-        → (after : Option Lost) (lost_at : IsLostAt (slots_of base) lost before.history after) → (then : IsHeldThen base table devices lost X before.history after slot)
+        → (after : Option Lost) (lost_at : IsLostAt (slots_of base) lost before.history after)
+        → (then : IsHeldThen base table devices lost X before.history after slot)
         → MarksFrom base table new_table devices slot lost X then.its.one before.history
     marks_from is_honest base lost X is_from after lost_at then = record {
       not_older = (then.held (readable before.history) (readable_left before.history)).not_older;
@@ -210,11 +220,13 @@ module _ (spellings : Spellings) (honest marking : Type 0) (still : honest → m
         throughout_on before.history (moments_before is_honest base lost X same_id may) new
         (throughout_if_lost base devices lost X before.history new (stays is_honest) (λ after lost_at.
         let then = m.lost is_honest base lost X is_from after lost_at in
-        marks_throughout spellings marking devices base table new_table slot lost X then.its.one before.panel new_panel before.history new is.result is.publishes
+        marks_throughout spellings marking devices base table new_table slot lost X then.its.one before.panel new_panel before.history new is.result
+        is.publishes
         (marks_from is_honest base lost X is_from after lost_at then) (still is_honest)))
 
     run_new : honest → Throughout (λ h. Unit {0}) mid.history new
-    run_new is_honest = throughout_on before.history (throughout_more (λ h s. tt) before.history (m.run is_honest)) new (throughout_more (λ h s. tt) new (stays is_honest))
+    run_new is_honest = throughout_on before.history (throughout_more (λ h s. tt) before.history (m.run is_honest)) new
+        (throughout_more (λ h s. tt) new (stays is_honest))
 
     missing : state_at new_table.states slot ≡ Missing
     missing = missing_then table new_table slot is.marked m.of_set
@@ -280,22 +292,26 @@ module _ (spellings : Spellings) (honest marking : Type 0) (still : honest → m
           let was = was_lost (slots_of base) lost mid.history before.history before_loss.0 (m.leads is_honest).stays_down before_loss.1 in
           (was.before, was.was)
 
-      rests : honest → (base : Table) (lost : Option Lost) (X : List (List Bytes)) → base.id ≡ id → MayAssemble base lost X old → IsSingleFailure (slots_of base) lost new
+      rests : honest → (base : Table) (lost : Option Lost) (X : List (List Bytes)) → base.id ≡ id → MayAssemble base lost X old
+          → IsSingleFailure (slots_of base) lost new
           → IsInOrder base lost X (view_of new_panel new new_table 0)
       rests is_honest base lost X same_id may single_failure =
           let is_from = from is_honest base lost X same_id may in
           let before_loss = lost_mid is_honest base lost single_failure in
           let then = m.lost is_honest base lost X is_from before_loss.0 before_loss.1 in
-          let chosen = marks_chosen spellings marking devices base table new_table slot lost X then.its.one before.panel new_panel before.history new is.result is.publishes
+          let chosen = marks_chosen spellings marking devices base table new_table slot lost X then.its.one before.panel new_panel before.history new is.result
+          is.publishes
           (marks_from is_honest base lost X is_from before_loss.0 before_loss.1 then) (still is_honest)
           (result_ok marking table new_table slot before.panel new_panel before.history new answer is m.of_set (still is_honest) ok) in
-          let one = marked_one marking table new_table slot before.panel new_panel before.history new answer is m.of_set (still is_honest) ok devices mid.history (m.leads is_honest)
+          let one = marked_one marking table new_table slot before.panel new_panel before.history new answer is m.of_set (still is_honest) ok devices
+          mid.history (m.leads is_honest)
           (live_others is_honest) (now_quiet spellings base table devices lost X old.history mid.history is_from) chosen in
           in_order base new_table devices lost X new_panel new later_new.devices
           (marked_in_order devices table new_table slot is.publishes.sectors mid.history new one base lost X is_from.same_id
           (throughout_last new (moments_marked is_honest base lost X same_id may)))
 
-      states : honest → (base : Table) (lost : Option Lost) (X : List (List Bytes)) → base.id ≡ id → MayAssemble base lost X old → IsSingleFailure (slots_of base) lost new
+      states : honest → (base : Table) (lost : Option Lost) (X : List (List Bytes)) → base.id ≡ id → MayAssemble base lost X old
+          → IsSingleFailure (slots_of base) lost new
           → (one : Table) → IsChosen id devices (readable old.history) one → HasStatesOf one old (view_of new_panel new new_table 0)
       states is_honest base lost X same_id may single_failure one chosen =
           let is_from = from is_honest base lost X same_id may in
@@ -308,7 +324,8 @@ module _ (spellings : Spellings) (honest marking : Type 0) (still : honest → m
             of_set = m.of_set;
             live = live_others is_honest;
             gone = λ up. m.gone is_honest (up_before (is_down before.history slot) (λ down. flags_differ (sym (stays_end is_honest slot down) ∙ up)));
-            up = λ other of_set apart. up_then marking table new_table slot before.panel new_panel before.history new answer is m.of_set (still is_honest) ok other
+            up = λ other of_set apart. up_then marking table new_table slot before.panel new_panel before.history new answer is m.of_set (still is_honest) ok
+                other
                 (gets_others marking table new_table slot before.panel new_panel before.history new answer is m.of_set (still is_honest) other of_set apart);
           })
 
@@ -325,7 +342,8 @@ module _ (spellings : Spellings) (honest marking : Type 0) (still : honest → m
           | inl same ↦ subst (λ (k : ℕ). (is_down new k ≡ true) ⊎ ¬ IsInFull devices table k (readable mid.history k)) (sym same) (slot_out_now is_honest)
           | inr apart ↦ absurd (not_in_sync (state_stays table new_table slot is.marked other apart ∙ is.others other of_set apart))
         ];
-        one = one_out_but devices table mid.history slot (λ other of_set apart. record { live = live_others is_honest other of_set apart; in_sync = is.others other of_set apart });
+        one = one_out_but devices table mid.history slot
+            (λ other of_set apart. record { live = live_others is_honest other of_set apart; in_sync = is.others other of_set apart });
       }
 
       -- the new table counts on the lowest other slot
@@ -333,13 +351,15 @@ module _ (spellings : Spellings) (honest marking : Type 0) (still : honest → m
       one_counts is_honest =
           let other = lowest_but slot in
           let of_set : other < slots_of table = lowest_of_set slot table.geometry.members in
-          let gets = gets_others marking table new_table slot before.panel new_panel before.history new answer is m.of_set (still is_honest) other of_set (lowest_apart slot) in
+          let gets = gets_others marking table new_table slot before.panel new_panel before.history new answer is m.of_set (still is_honest) other of_set
+          (lowest_apart slot) in
           let up = up_then marking table new_table slot before.panel new_panel before.history new answer is m.of_set (still is_honest) ok other gets in
           let got = gets_is new_table other gets in
           own_counts id devices new_table other (is.publishes.sectors other) new (is.marked.same_id ∙ m.surveyed.of_id)
           (subst (λ (g : Geometry). g.members + 2 ≤ devices) (sym is.marked.same_geometry) m.surveyed.has_slots)
           (is.publishes.spelled other got.0 (λ none. in_sync_not_missing (sym got.1 ∙ none))) up
-          (is.publishes.safe (still is_honest) (result_ok marking table new_table slot before.panel new_panel before.history new answer is m.of_set (still is_honest) ok) other gets _ (up_seen new other (place_of new_table) up))
+          (is.publishes.safe (still is_honest) (result_ok marking table new_table slot before.panel new_panel before.history new answer is m.of_set
+          (still is_honest) ok) other gets _ (up_seen new other (place_of new_table) up))
 
       opened_by : PutsInOrder honest id old (opened new_panel new new_table 0)
       opened_by = put_in_order honest id old (view_of new_panel new new_table 0) record {
@@ -354,7 +374,8 @@ module _ (spellings : Spellings) (honest marking : Type 0) (still : honest → m
       } (λ is_honest. since id devices old mid.history new table new_table new_panel later_new.devices (seen is_honest))
 
   -- what the marking answered
-  pub assembled_without : (new_panel : Panel) (new_table : Table) (new : History) (answer : Answer) → MarksOn marking slot before.panel new_panel table new_table before.history new answer
+  pub assembled_without : (new_panel : Panel) (new_table : Table) (new : History) (answer : Answer)
+      → MarksOn marking slot before.panel new_panel table new_table before.history new answer
       → (honest → IsTrueTo new_panel new) → answer ≡ Ok tt → PutsInOrder honest id old (opened new_panel new new_table 0)
   assembled_without new_panel new_table new answer (inr is) true_new ok = opened_by new_panel new_table new answer is true_new ok
   assembled_without new_panel new_table new answer (inl left) true_new ok = absurd (not_ok left.why)
@@ -364,9 +385,11 @@ module _ (spellings : Spellings) (honest marking : Type 0) (still : honest → m
       not_ok (inr (inl (counted, beside, two))) = cc
       not_ok (inr (inr (counted, worn, others, worn_is))) = cc
 
-  pub not_assembled : (new_panel : Panel) (new_table : Table) (new : History) (answer : Answer) (refusal : Refusal) → MarksOn marking slot before.panel new_panel table new_table before.history new answer
+  pub not_assembled : (new_panel : Panel) (new_table : Table) (new : History) (answer : Answer) (refusal : Refusal)
+      → MarksOn marking slot before.panel new_panel table new_table before.history new answer
       → (honest → IsTrueTo new_panel new) → answer ≡ Err refusal → PutsInOrder honest id old (given_back new_panel new refusal)
-  not_assembled new_panel new_table new answer refusal (inr is) true_new refused = refused_by new_panel new_table new answer is true_new is.result refl refusal (sym is.answered ∙ refused)
+  not_assembled new_panel new_table new answer refusal (inr is) true_new refused =
+      refused_by new_panel new_table new answer is true_new is.result refl refusal (sym is.answered ∙ refused)
   not_assembled new_panel new_table new answer refusal (inl left) true_new refused =
       subst₂ (λ (p : Panel) (h : History). PutsInOrder honest id old (given_back p h refusal)) (sym left.same_panel) (sym left.same_history)
       (left_by answer refusal refused left.why)

@@ -30,7 +30,8 @@ pub record HasMarkedOne (devices : ℕ) (table new_table : Table) (slot : ℕ) (
   pub others : (other : ℕ) → other < slots_of table → other ≢ slot → state_at table.states other ≡ InSync
   pub live : (other : ℕ) → other < slots_of table → other ≢ slot → IsLive devices table other (readable old other)
   pub nothing_pending : NothingPending old
-  pub elsewhere : (device at : ℕ) (value : Bytes) → ¬ GetsIt new_table None device → is_down new device ≡ false → MayHold new device at value → MayHold old device at value
+  pub elsewhere : (device at : ℕ) (value : Bytes) → ¬ GetsIt new_table None device → is_down new device ≡ false → MayHold new device at value
+      → MayHold old device at value
   pub start : (device : ℕ) → start_of new device ≡ start_of old device
   pub stays_down : StaysDown old new
   pub flushed : (device : ℕ) → GetsIt new_table None device → IsFlushed new device
@@ -42,7 +43,8 @@ pub record HasMarkedOne (devices : ℕ) (table new_table : Table) (slot : ℕ) (
 none_differ : Missing ≡ InSync → ⊥
 none_differ is = cc
 
-module _ (devices : ℕ) (table new_table : Table) (slot : ℕ) (sectors : ℕ → Bytes) (old new : History) (has : HasMarkedOne devices table new_table slot sectors old new) where
+module _ (devices : ℕ) (table new_table : Table) (slot : ℕ) (sectors : ℕ → Bytes) (old new : History)
+    (has : HasMarkedOne devices table new_table slot sectors old new) where
   set_is : slots_of new_table ≡ slots_of table
   set_is = ap (λ (g : Geometry). g.members + 2) has.marked.same_geometry
 
@@ -65,7 +67,8 @@ module _ (devices : ℕ) (table new_table : Table) (slot : ℕ) (sectors : ℕ �
   nothing_now : NothingPending new
   nothing_now device at first second up may may' = elim (gets_or_not new_table device) [
     | inl got ↦ has.flushed device got at first may ∙ sym (has.flushed device got at second may')
-    | inr not_got ↦ has.nothing_pending device at first second (was_up device up) (has.elsewhere device at first not_got up may) (has.elsewhere device at second not_got up may')
+    | inr not_got ↦ has.nothing_pending device at first second (was_up device up) (has.elsewhere device at first not_got up may)
+        (has.elsewhere device at second not_got up may')
   ]
 
   size_stays : (other : ℕ) → is_down new other ≡ false → length (disk_of (readable new other)) ≡ length (disk_of (readable old other))
@@ -105,12 +108,14 @@ module _ (devices : ℕ) (table new_table : Table) (slot : ℕ) (sectors : ℕ �
               has.chosen.counted.has_slots,
             );
           };
-          greatest = λ at superblock counts. subst (λ (t : Table). superblock.table.generation ≤ t.generation) (sym stands.carries) (has.chosen.greatest other at superblock counts);
+          greatest = λ at superblock counts. subst (λ (t : Table). superblock.table.generation ≤ t.generation) (sym stands.carries)
+              (has.chosen.greatest other at superblock counts);
           own = ap (λ (t : Table). incarnation_at t.incarnations other) stands.carries;
         };
       }
 
-  pub marked_in_order : (base : Table) (lost : Option Lost) (X : List (List Bytes)) → table.id ≡ base.id → HoldsNow base devices lost X new → IsInOrderBy base new_table devices lost X new
+  pub marked_in_order : (base : Table) (lost : Option Lost) (X : List (List Bytes)) → table.id ≡ base.id → HoldsNow base devices lost X new
+      → IsInOrderBy base new_table devices lost X new
   marked_in_order base lost X same_id holds = record {
     nothing_pending = nothing_now;
     holds = holds;

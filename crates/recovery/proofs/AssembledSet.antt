@@ -1,5 +1,6 @@
 -- What assembling promises: its superblocks are put in order, and then its last entry is replayed.
-use Rattle.std.proofs.Common.{◌≡◌, ◌≢◌, ◌⊎◌, inl, inr, ℕ, suc, ◌+◌, ◌<◌, ◌≤◌, Bool, true, false, cond, List, [], ◌∷◌, Option, Ok, Err, Result, refl, sym, ◌∙◌, ap, subst, arith}
+use Rattle.std.proofs.Common.{◌≡◌, ◌≢◌, ◌⊎◌, inl, inr, ℕ, suc, ◌+◌, ◌<◌, ◌≤◌, Bool, true, false, cond, List, [], ◌∷◌, Option, Ok, Err, Result, refl, sym, ◌∙◌}
+use Rattle.std.proofs.Common.{ap, subst, arith}
 use Rattle.std.proofs.lemmas.Bool.{cases_eq}
 use Rattle.sector_model.specs.declared.refusal.Refusal.{Refusal}
 use Rattle.sector_model.specs.Bank.{IsTrueTo, Panel}
@@ -61,7 +62,8 @@ cut_same t mid new until (then_also e h so_far is) =
     cut_before t e h (omega (arith, until, grown)) ∙ cut_same t mid h until so_far
 
 -- what stands when the superblocks are in order may be replayed from
-pub may_replay : Spellings → (base : Table) (lost : Option Lost) (X : List (List Bytes)) (array : ArrayView) → IsInOrder base lost X array → array.table.id ≡ base.id
+pub may_replay : Spellings → (base : Table) (lost : Option Lost) (X : List (List Bytes)) (array : ArrayView) → IsInOrder base lost X array
+    → array.table.id ≡ base.id
     → MayReplay (record { devices = array.panel.devices; base = base; lost = lost; lists = X }) array.table array.history
 may_replay spellings base lost X array is same_id = record {
   writes = record {
@@ -110,12 +112,15 @@ position_again mid new slot position marked of_set =
     none : (other : ℕ) → state_at new.states other ≢ Rebuilding
     none other is =
         let member = new.allowed.rebuilds_member other is in
-        let same : other ≡ slot = new.allowed.one_out other slot (omega (arith, member)) (subst (λ (g : Geometry). slot < g.members + 2) (sym marked.same_geometry) of_set)
+        let same : other ≡ slot = new.allowed.one_out other slot (omega (arith, member))
+        (subst (λ (g : Geometry). slot < g.members + 2) (sym marked.same_geometry) of_set)
         (λ in_sync. rebuilding_differs (sym is ∙ in_sync)) (not_in_sync (state_at new.states slot) missing) in
         missing_rebuilds (sym missing ∙ ap (state_at new.states) (sym same) ∙ is)
 
-module _ (spellings : Spellings) (honest still : Type 0) (more : honest → still) (id : List ℕ) (old : BankView) (panel1 panel2 : Panel) (h1 h2 : History) (table1 table2 : Table)
-    (true_mid : honest → IsTrueTo panel1 h1) (true_new : honest → IsTrueTo panel2 h2) (first : PutsInOrder honest id old (opened panel1 h1 table1 0)) (result : Result ℕ Refusal)
+module _ (spellings : Spellings) (honest still : Type 0) (more : honest → still) (id : List ℕ) (old : BankView) (panel1 panel2 : Panel) (h1 h2 : History)
+    (table1 table2 : Table)
+    (true_mid : honest → IsTrueTo panel1 h1) (true_new : honest → IsTrueTo panel2 h2) (first : PutsInOrder honest id old (opened panel1 h1 table1 0))
+    (result : Result ℕ Refusal)
     (settles : SettlesEntry still (view_of panel1 h1 table1 0) (view_of panel2 h2 table2 0) result) where
   abbrev Mid : ArrayView
   Mid = view_of panel1 h1 table1 0
@@ -146,13 +151,15 @@ module _ (spellings : Spellings) (honest still : Type 0) (more : honest → stil
       let was = was_lost (slots_of base) lost h1 h2 after (stays_down fair) at in
       (was.before, was.was)
 
-  may : honest → (base : Table) (lost : Option Lost) (X : List (List Bytes)) → base.id ≡ id → MayAssemble base lost X old → IsSingleFailure (slots_of base) lost h1
+  may : honest → (base : Table) (lost : Option Lost) (X : List (List Bytes)) → base.id ≡ id → MayAssemble base lost X old
+      → IsSingleFailure (slots_of base) lost h1
       → MayReplay (From base lost X) table1 h1
   may fair base lost X same_id may_assemble one =
       subst (λ (n : ℕ). MayReplay (record { devices = n; base = base; lost = lost; lists = X }) table1 h1) same_devices
       (may_replay spellings base lost X Mid (first.assembles.rests fair base lost X same_id may_assemble Mid refl one) (its_id ∙ sym same_id))
 
-  moments : honest → (base : Table) (lost : Option Lost) (X : List (List Bytes)) → base.id ≡ id → MayAssemble base lost X old → HoldsThroughout base Devices lost X old.history h2
+  moments : honest → (base : Table) (lost : Option Lost) (X : List (List Bytes)) → base.id ≡ id → MayAssemble base lost X old
+      → HoldsThroughout base Devices lost X old.history h2
   moments fair base lost X same_id may_assemble =
       throughout_on h1 (first.assembles.moments fair base lost X same_id may_assemble) h2
       (throughout_if_lost base Devices lost X h1 h2 (settles.runs (more fair))
@@ -162,7 +169,8 @@ module _ (spellings : Spellings) (honest still : Type 0) (more : honest → stil
   not_older = settles.goes_on.not_older.same_geometry
 
   -- a slot keeps its state, or it is missing and its device is down
-  state_of : honest → (slot : ℕ) → (state_at table2.states slot ≡ state_at table1.states slot) ⊎ ((is_down h2 slot ≡ true) × (state_at table2.states slot ≡ Missing))
+  state_of : honest → (slot : ℕ) → (state_at table2.states slot ≡ state_at table1.states slot)
+      ⊎ ((is_down h2 slot ≡ true) × (state_at table2.states slot ≡ Missing))
   state_of fair slot = elim settles.stays.table [
     | inl same ↦ inl (ap (λ (t : Table). state_at t.states slot) same)
     | inr lost ↦ elim (cases_eq slot lost.slot) [
@@ -185,10 +193,13 @@ module _ (spellings : Spellings) (honest still : Type 0) (more : honest → stil
     abbrev Now : ArrayView
     Now = view_of panel2 h2 table2 number
 
-    rests : honest → (base : Table) (lost : Option Lost) (X : List (List Bytes)) → base.id ≡ id → MayAssemble base lost X old → IsSingleFailure (slots_of base) lost h2 → OpensOnOne base lost X Now
+    rests : honest → (base : Table) (lost : Option Lost) (X : List (List Bytes)) → base.id ≡ id → MayAssemble base lost X old
+        → IsSingleFailure (slots_of base) lost h2 → OpensOnOne base lost X Now
     rests fair base lost X same_id may_assemble one =
-        let reached = settles.reached (more fair) number ok (From base lost X) (may fair base lost X same_id may_assemble (one_before fair base lost one)) one in
-        let rest : Rests base table2 Devices number lost X h2 = settled_again_carried spellings Devices base table2 lost X h2 reached.0.writes number reached.1.entry one
+        let reached = settles.reached (more fair) number ok (From base lost X) (may fair base lost X same_id may_assemble (one_before fair base lost one))
+        one in
+        let rest : Rests base table2 Devices number lost X h2 =
+        settled_again_carried spellings Devices base table2 lost X h2 reached.0.writes number reached.1.entry one
         (sectors_of panel2 h2 (true_new fair)) reached.0.carried in
         record {
           logical = rest.logical;
@@ -214,13 +225,18 @@ module _ (spellings : Spellings) (honest still : Type 0) (more : honest → stil
     ]
 
     -- what is down then is missing, if what was down before was
-    failure : honest → (slot : ℕ) → is_down h2 slot ≡ true → (is_down h1 slot ≡ true → state_at table1.states slot ≡ Missing) → state_at table2.states slot ≡ Missing
+    failure : honest → (slot : ℕ) → is_down h2 slot ≡ true → (is_down h1 slot ≡ true → state_at table1.states slot ≡ Missing)
+        → state_at table2.states slot ≡ Missing
     failure fair slot down before = by_state (is_down h1 slot) refl
       where
         by_state : (b : Bool) → is_down h1 slot ≡ b → state_at table2.states slot ≡ Missing
         by_state true is = missing_stays fair slot (before is)
         by_state false is = elim (le_or_lt (slots_of table1) slot) [
-          | inr of_set ↦ settles.stays.failure (more fair) not_ended slot of_set record { was_up = (true_mid fair).down slot ∙ is; is_down = (true_new fair).down slot ∙ down }
+          | inr of_set ↦ settles.stays.failure (more fair) not_ended slot of_set record {
+            was_up = (true_mid fair).down slot ∙ is;
+            is_down =
+                (true_new fair).down slot ∙ down;
+          }
           | inl beyond ↦ missing_stays fair slot (table1.allowed.missing_beyond slot beyond)
         ]
 
@@ -230,10 +246,12 @@ module _ (spellings : Spellings) (honest still : Type 0) (more : honest → stil
       | inr lost ↦ position_again table1 table2 lost.slot table.position lost.marked lost.of_set
     ]
 
-    states : honest → (base : Table) (lost : Option Lost) (X : List (List Bytes)) → base.id ≡ id → MayAssemble base lost X old → IsSingleFailure (slots_of base) lost h2
+    states : honest → (base : Table) (lost : Option Lost) (X : List (List Bytes)) → base.id ≡ id → MayAssemble base lost X old
+        → IsSingleFailure (slots_of base) lost h2
         → (table : Table) → IsChosen id Devices (readable old.history) table → HasStatesOf table old Now
     states fair base lost X same_id may_assemble one table chosen =
-        let was : HasStatesOf table old Mid = first.assembles.states fair base lost X same_id may_assemble Mid refl (one_before fair base lost one) table chosen in
+        let was : HasStatesOf table old Mid = first.assembles.states fair base lost X same_id may_assemble Mid refl (one_before fair base lost one) table
+        chosen in
         record {
           incarnations = incarnations_stay ∙ was.incarnations;
           live_stays = λ slot of_set live up. elim (state_of fair slot) [
@@ -259,10 +277,12 @@ module _ (spellings : Spellings) (honest still : Type 0) (more : honest → stil
       of_id = λ array same. of_opened (λ a. a.table.id ≡ id) Now array same (settles.goes_on.not_older.same_id ∙ its_id);
       its_slots = λ array same. of_opened (λ a. HasItsSlots a.table a.panel) Now array same (settles.goes_on.its_slots (first.assembles.its_slots Mid refl));
       moments = λ fair base lost X same_id may_assemble. moments fair base lost X same_id may_assemble;
-      rests = λ fair base lost X same_id may_assemble array same. of_opened (λ a. IsSingleFailure (slots_of base) lost a.history → OpensOnOne base lost X a) Now array same
+      rests = λ fair base lost X same_id may_assemble array same. of_opened (λ a. IsSingleFailure (slots_of base) lost a.history → OpensOnOne base lost X a) Now
+          array same
           (rests fair base lost X same_id may_assemble);
       states = λ fair base lost X same_id may_assemble array same.
-          of_opened (λ a. IsSingleFailure (slots_of base) lost a.history → (table : Table) → IsChosen id Devices (readable old.history) table → HasStatesOf table old a) Now array same
+          of_opened (λ a. IsSingleFailure (slots_of base) lost a.history → (table : Table) → IsChosen id Devices (readable old.history) table
+          → HasStatesOf table old a) Now array same
           (states fair base lost X same_id may_assemble);
       refused = λ bank refusal same. absurd (not_both Now bank refusal same);
       cause = λ fair bank refusal same. absurd (not_both Now bank refusal same);
@@ -285,14 +305,16 @@ module _ (spellings : Spellings) (honest still : Type 0) (more : honest → stil
     cut = cut_same since.t h1 h2 since.until (settles.runs (more fair))
 
     -- a slot that is out is down, or was not in full then
-    out_then : (slot : ℕ) → slot < slots_of table2 → IsSlotOut (view_of panel2 h2 table2 0) slot → (is_down h2 slot ≡ true) ⊎ ¬ IsInFull panel1.devices since.table slot (readable (cut_at since.t h2) slot)
+    out_then : (slot : ℕ) → slot < slots_of table2 → IsSlotOut (view_of panel2 h2 table2 0) slot → (is_down h2 slot ≡ true)
+        ⊎ ¬ IsInFull panel1.devices since.table slot (readable (cut_at since.t h2) slot)
     out_then slot of_set (inl down) = inl (sym ((true_new fair).down slot) ∙ down)
     out_then slot of_set (inr out) = elim (state_of fair slot) [
       | inr gone ↦ inl gone.0
-      | inl kept ↦ elim (since.out slot (subst (λ (n : ℕ). slot < n) (ap (λ (g : Geometry). g.members + 2) not_older ∙ same_since) of_set) (λ in_sync. out (kept ∙ in_sync))) [
-        | inl down ↦ inl (stays_down fair slot down)
-        | inr not_full ↦ inr (subst (λ (h : History). ¬ IsInFull panel1.devices since.table slot (readable h slot)) (sym cut) not_full)
-      ]
+      | inl kept ↦ elim (since.out slot (subst (λ (n : ℕ). slot < n) (ap (λ (g : Geometry). g.members + 2) not_older ∙ same_since) of_set)
+          (λ in_sync. out (kept ∙ in_sync))) [
+            | inl down ↦ inl (stays_down fair slot down)
+            | inr not_full ↦ inr (subst (λ (h : History). ¬ IsInFull panel1.devices since.table slot (readable h slot)) (sym cut) not_full)
+          ]
     ]
 
     two_lost : IsTwoLost (view_of panel2 h2 table2 0) → IsTwoLostThen id panel1.devices old.history h2
@@ -311,7 +333,8 @@ module _ (spellings : Spellings) (honest still : Type 0) (more : honest → stil
           second_of_set = subst (λ (n : ℕ). two.second < n) same two.second_of_set;
           first_out = out_then two.first two.first_of_set two.first_out;
           second_out = out_then two.second two.second_of_set two.second_out;
-          unwritten = λ out out'. absurd (two.apart (since.one two.first two.second (subst (λ (n : ℕ). two.first < n) same two.first_of_set) (subst (λ (n : ℕ). two.second < n) same two.second_of_set)
+          unwritten = λ out out'. absurd (two.apart (since.one two.first two.second (subst (λ (n : ℕ). two.first < n) same two.first_of_set)
+              (subst (λ (n : ℕ). two.second < n) same two.second_of_set)
               (subst (λ (h : History). ¬ IsInFull panel1.devices since.table two.first (readable h two.first)) cut out)
               (subst (λ (h : History). ¬ IsInFull panel1.devices since.table two.second (readable h two.second)) cut out')));
         }
@@ -326,7 +349,8 @@ module _ (spellings : Spellings) (honest still : Type 0) (more : honest → stil
   same_new : panel2.devices ≡ panel1.devices
   same_new = settles.goes_on.later.devices
 
-  cause_of : (refusal : Refusal) → result ≡ Err refusal → honest → IsStepEnd (view_of panel1 h1 table1 0) (view_of panel2 h2 table2 0) refusal → IsNoAssembly id old (bank_view panel2 h2) refusal
+  cause_of : (refusal : Refusal) → result ≡ Err refusal → honest → IsStepEnd (view_of panel1 h1 table1 0) (view_of panel2 h2 table2 0) refusal
+      → IsNoAssembly id old (bank_view panel2 h2) refusal
   cause_of refusal is fair (inl (two, both)) =
       subst (IsNoAssembly id old (bank_view panel2 h2)) (sym two)
       (subst (λ (n : ℕ). IsTwoLostThen id n old.history h2) (sym same_new) (two_lost refusal is fair both))
@@ -353,12 +377,14 @@ module _ (spellings : Spellings) (honest still : Type 0) (more : honest → stil
     rests = λ fair base lost X same_id may_assemble array same. absurd (not_opened array (bank_view panel2 h2) refusal same);
     states = λ fair base lost X same_id may_assemble array same. absurd (not_opened array (bank_view panel2 h2) refusal same);
     refused = λ bank why same. of_returned (λ b r. IsOfAssembly r) (bank_view panel2 h2) bank refusal why same (told refusal (settles.cause refusal is));
-    cause = λ fair bank why same. of_returned (λ b r. IsNoAssembly id old b r) (bank_view panel2 h2) bank refusal why same (cause_of refusal is fair (settles.cause refusal is));
+    cause = λ fair bank why same. of_returned (λ b r. IsNoAssembly id old b r) (bank_view panel2 h2) bank refusal why same
+        (cause_of refusal is fair (settles.cause refusal is));
     no_set = λ fair none array same. absurd (not_opened array (bank_view panel2 h2) refusal same);
   }
 
 -- where its superblocks could not be put in order, so it is
-pub unordered_set : (honest : Type 0) (id : List ℕ) (old : BankView) (panel : Panel) (h : History) (refusal : Refusal) → PutsInOrder honest id old (given_back panel h refusal)
+pub unordered_set : (honest : Type 0) (id : List ℕ) (old : BankView) (panel : Panel) (h : History) (refusal : Refusal)
+    → PutsInOrder honest id old (given_back panel h refusal)
     → Assembles honest id old (given_back panel h refusal)
 unordered_set honest id old panel h refusal first = record {
   later = first.assembles.later;

@@ -37,7 +37,8 @@ pub record IsSeen (id : List ℕ) (devices : ℕ) (old mid new : History) (table
   pub one : IsOneOut devices table mid
 
 -- of the array's devices
-is_since : (id : List ℕ) (old : BankView) (mid new : History) (table new_table : Table) (panel : Panel) → IsSeen id panel.devices old.history mid new table new_table
+is_since : (id : List ℕ) (old : BankView) (mid new : History) (table new_table : Table) (panel : Panel)
+    → IsSeen id panel.devices old.history mid new table new_table
     → IsSince id old (view_of panel new new_table 0)
 is_since id old mid new table new_table panel is = record {
   t = calls_of mid;
@@ -53,10 +54,12 @@ is_since id old mid new table new_table panel is = record {
 
 pub since : (id : List ℕ) (devices : ℕ) (old : BankView) (mid new : History) (table new_table : Table) (panel : Panel) → panel.devices ≡ devices
     → IsSeen id devices old.history mid new table new_table → IsSince id old (view_of panel new new_table 0)
-since id devices old mid new table new_table panel same is = is_since id old mid new table new_table panel (subst (λ (n : ℕ). IsSeen id n old.history mid new table new_table) (sym same) is)
+since id devices old mid new table new_table panel same is =
+    is_since id old mid new table new_table panel (subst (λ (n : ℕ). IsSeen id n old.history mid new table new_table) (sym same) is)
 
 -- where all is there, a slot that is not live and in sync is not in sync
-not_in_sync : (devices : ℕ) (table : Table) (h : History) (slot : ℕ) → IsAllThere devices table h → slot < slots_of table → ¬ IsInFull devices table slot (readable h slot)
+not_in_sync : (devices : ℕ) (table : Table) (h : History) (slot : ℕ) → IsAllThere devices table h → slot < slots_of table
+    → ¬ IsInFull devices table slot (readable h slot)
     → state_at table.states slot ≢ InSync
 not_in_sync devices table h slot there of_set not_full in_sync =
     not_full record { live = there slot of_set (λ missing. in_sync_not_missing (sym in_sync ∙ missing)); in_sync = in_sync }
@@ -64,7 +67,8 @@ not_in_sync devices table h slot there of_set not_full in_sync =
 -- so one is at most
 pub one_out_there : (devices : ℕ) (table : Table) (h : History) → IsAllThere devices table h → IsOneOut devices table h
 one_out_there devices table h there first second of_set of_set' not_full not_full' =
-    table.allowed.one_out first second of_set of_set' (not_in_sync devices table h first there of_set not_full) (not_in_sync devices table h second there of_set' not_full')
+    table.allowed.one_out first second of_set of_set' (not_in_sync devices table h first there of_set not_full)
+    (not_in_sync devices table h second there of_set' not_full')
 
 -- and one where all others are live and in sync
 pub one_out_but : (devices : ℕ) (table : Table) (h : History) (slot : ℕ)

@@ -47,17 +47,20 @@ missing_or InSync = inr (λ is. cc)
 missing_or Rebuilding = inr (λ is. cc)
 
 -- what is live after reads was so before
-pub was_live : Spellings → (devices : ℕ) (table : Table) (old mid : History) → IsRead old mid → (slot : ℕ) → IsLive devices table slot (readable mid slot) → IsLive devices table slot (readable old slot)
+pub was_live : Spellings → (devices : ℕ) (table : Table) (old mid : History) → IsRead old mid → (slot : ℕ) → IsLive devices table slot (readable mid slot)
+    → IsLive devices table slot (readable old slot)
 was_live spellings devices table old mid is slot live =
     subst (IsLive devices table slot) (readable_read old mid is slot (live_is_up spellings devices table mid slot live)) live
 
 -- and still is, if its device is up
-pub still_live : (devices : ℕ) (table : Table) (old mid : History) → IsRead old mid → (slot : ℕ) → is_down mid slot ≡ false → IsLive devices table slot (readable old slot)
+pub still_live : (devices : ℕ) (table : Table) (old mid : History) → IsRead old mid → (slot : ℕ) → is_down mid slot ≡ false
+    → IsLive devices table slot (readable old slot)
     → IsLive devices table slot (readable mid slot)
 still_live devices table old mid is slot up live = subst (IsLive devices table slot) (sym (readable_read old mid is slot up)) live
 
 -- the table of a set that is all there
-pub states_whole : Spellings → (table : Table) (old : BankView) (mid new : History) (panel : Panel) → IsRead old.history mid → IsAllThere old.panel.devices table mid
+pub states_whole : Spellings → (table : Table) (old : BankView) (mid new : History) (panel : Panel) → IsRead old.history mid
+    → IsAllThere old.panel.devices table mid
     → ((device : ℕ) → is_down new device ≡ is_down mid device) → HasStatesOf table old (view_of panel new table 0)
 states_whole spellings table old mid new panel is there stay = record {
   incarnations = refl;
@@ -86,7 +89,8 @@ pub states_without : Spellings → (table new_table : Table) (slot : ℕ) (old :
 states_without spellings table new_table slot old mid new panel is has = record {
   incarnations = has.marked.has_incarnations;
   live_stays = λ other of_set live up. elim (cases_eq other slot) [
-    | inl same ↦ absurd (has.gone (subst (λ (k : ℕ). is_down new k ≡ false) same up) (subst (λ (k : ℕ). IsLive old.panel.devices table k (readable old.history k)) same live))
+    | inl same ↦ absurd (has.gone (subst (λ (k : ℕ). is_down new k ≡ false) same up)
+        (subst (λ (k : ℕ). IsLive old.panel.devices table k (readable old.history k)) same live))
     | inr apart ↦ state_stays table new_table slot has.marked other apart
   ];
   not_live = λ other of_set out. elim (cases_eq other slot) [

@@ -57,7 +57,8 @@ module _ (spellings : Spellings) (base table : Table) (devices : ℕ) (lost : Op
     before = (w spellings devices base lost X old h from.nothing_pending is after (readable h) lost_at (readable_left h)).before
 
     then_held : Holds base devices record { image = before_of old (readable h); lost = before } X
-    then_held = from.holds before (before_of old (readable h)) (w spellings devices base lost X old h from.nothing_pending is after (readable h) lost_at (readable_left h)).was
+    then_held = from.holds before (before_of old (readable h))
+        (w spellings devices base lost X old h from.nothing_pending is after (readable h) lost_at (readable_left h)).was
         (left_before spellings devices base lost X old h from.nothing_pending is (readable h) (readable_left h))
 
     now_held : Held base devices then_held.table X (readable h) after

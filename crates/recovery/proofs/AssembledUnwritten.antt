@@ -28,7 +28,8 @@ between : (a b : ℕ) → a ≤ b → b ≤ a → a ≡ b
 between a b most least = omega (arith, most, least)
 
 -- an image chooses one table at most
-pub chosen_once : Spellings → (id : List ℕ) (devices : ℕ) (image : Slots) (one other : Table) → IsChosen id devices image one → IsChosen id devices image other → one ≡ other
+pub chosen_once : Spellings → (id : List ℕ) (devices : ℕ) (image : Slots) (one other : Table) → IsChosen id devices image one → IsChosen id devices image other
+    → one ≡ other
 chosen_once spellings id devices image one other a b = sym a.carried ∙ ap (λ (s : Superblock). s.table) same ∙ b.carried
   where
     as_new : a.best.table.generation ≡ b.best.table.generation
@@ -67,7 +68,8 @@ not_none spellings id devices old mid table read chosen none =
     none it.slot it.place it.superblock it.counted
 
 -- nothing was written, and no further call can be counted
-pub worn_unwritten : (reason : Refusal) (old bank : BankView) → GREATEST_COUNT ≤ bank.panel.calls → HasRead old.history bank.history → IsRefusedFor reason old (Returned bank Worn)
+pub worn_unwritten : (reason : Refusal) (old bank : BankView) → GREATEST_COUNT ≤ bank.panel.calls → HasRead old.history bank.history
+    → IsRefusedFor reason old (Returned bank Worn)
 worn_unwritten reason old bank calls read = record { bank = bank; refusal = Worn; is = refl; why = inr (refl, calls); reads = read }
 
 -- nothing was written, and this is the reason
@@ -102,7 +104,8 @@ worn_first honest id old bank calls read = record {
 }
 
 -- By the survey one slot is out at most, and what was down stays so: neither of the two reasons was there.
-pub one_is_out : Spellings → (honest : Type 0) (id : List ℕ) (old : BankView) (mid : History) (table : Table) (outcome : Outcome) → (honest → HasRead old.history mid)
+pub one_is_out : Spellings → (honest : Type 0) (id : List ℕ) (old : BankView) (mid : History) (table : Table) (outcome : Outcome)
+    → (honest → HasRead old.history mid)
     → (honest → IsChosen id old.panel.devices (readable mid) table) → (honest → IsOneOut old.panel.devices table mid)
     → (honest → StaysDown mid (bank_after outcome).history) → RefusesUnwritten honest id old outcome
 one_is_out spellings honest id old mid table outcome read chosen one stays = record {
@@ -112,7 +115,8 @@ one_is_out spellings honest id old mid table outcome read chosen one stays = rec
   where
     not_two : honest → HasTwoLost honest id old → NoDeviceFailedIn old.history mid → ⊥
     not_two fair two stay =
-        two.lost.0 (one fair two.first two.second (within two.first two.lost.1.of_set) (within two.second two.lost.2.of_set) (out two.first (two.lost.1.out fair))
+        two.lost.0 (one fair two.first two.second (within two.first two.lost.1.of_set) (within two.second two.lost.2.of_set)
+        (out two.first (two.lost.1.out fair))
         (out two.second (two.lost.2.out fair)))
       where
         stood : readable mid ≡ readable old.history
@@ -133,6 +137,7 @@ one_is_out spellings honest id old mid table outcome read chosen one stays = rec
 pub unwritten_later : (honest : Type 0) (id : List ℕ) (old : BankView) (mid : ArrayView) (outcome : Outcome) → RefusesUnwritten honest id old (Opened mid)
     → (honest → StaysDown mid.history (bank_after outcome).history) → RefusesUnwritten honest id old outcome
 unwritten_later honest id old mid outcome is stays = record {
-  two_lost = λ fair two stay. let refused = is.two_lost fair two (λ device down. stay device (stays fair device down)) in absurd (not_both mid refused.bank refused.refusal refused.is);
+  two_lost = λ fair two stay. let refused = is.two_lost fair two (λ device down. stay device (stays fair device down)) in absurd
+      (not_both mid refused.bank refused.refusal refused.is);
   none = λ fair none. let refused = is.none fair none in absurd (not_both mid refused.bank refused.refusal refused.is);
 }

@@ -55,7 +55,8 @@ module _ (honest : Type 0) (table new_table : Table) (slot : ℕ) (old_panel new
     others_get : (other : ℕ) → other < slots_of table → other ≢ slot → GetsIt new_table None other
     others_get = gets_others honest table new_table slot old_panel new_panel before new answer is of_set is_honest
 
-    pub marked_one : (devices : ℕ) (mid : History) → LeadsTo table slot mid before → ((other : ℕ) → other < slots_of table → other ≢ slot → IsLive devices table other (readable mid other))
+    pub marked_one : (devices : ℕ) (mid : History) → LeadsTo table slot mid before
+        → ((other : ℕ) → other < slots_of table → other ≢ slot → IsLive devices table other (readable mid other))
         → NothingPending mid → IsChosen new_table.id devices (readable new) new_table
         → HasMarkedOne devices table new_table slot is.publishes.sectors mid new
     marked_one devices mid leads live nothing chosen = record {
@@ -76,7 +77,8 @@ module _ (honest : Type 0) (table new_table : Table) (slot : ℕ) (old_panel new
       ];
       start = λ device. last.start device ∙ leads.start device;
       stays_down = λ device down. last.stays_down device (leads.stays_down device down);
-      flushed = published_flushed new_table is.publishes.sectors before new (made honest table new_table slot old_panel new_panel before new answer is of_set is_honest ok);
+      flushed = published_flushed new_table is.publishes.sectors before new
+          (made honest table new_table slot old_panel new_panel before new answer is of_set is_honest ok);
       up = up_then honest table new_table slot old_panel new_panel before new answer is of_set is_honest ok;
       spelled = λ device gets.
           let got = gets_is new_table device gets in

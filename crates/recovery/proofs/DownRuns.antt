@@ -28,6 +28,7 @@ pub cut_down : (t : ℕ) (h : History) (d : ℕ) → is_down (cut_at t h) d ≡ 
 cut_down t (Began start) d down = down
 cut_down t (After e h) d down = by_case (nat_lt t (calls_of h + 1)) down (cut_down t h d)
   where
-    by_case : (b : Bool) → is_down (cond b (cut_at t h) (After e h)) d ≡ true → (is_down (cut_at t h) d ≡ true → is_down h d ≡ true) → is_down (After e h) d ≡ true
+    by_case : (b : Bool) → is_down (cond b (cut_at t h) (After e h)) d ≡ true → (is_down (cut_at t h) d ≡ true → is_down h d ≡ true)
+        → is_down (After e h) d ≡ true
     by_case true is before = down_after e h d (before is)
     by_case false is before = is

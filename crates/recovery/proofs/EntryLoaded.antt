@@ -28,8 +28,10 @@ use Rattle.recovery.proofs.JournalReads.{beside_left, gone_then, latest_still, r
 use Rattle.recovery.proofs.LatestEntry.{body_loaded, comes, none_to_put}
 use Rattle.recovery.proofs.LatestFound.{beside_on}
 
-module _ (spellings : Spellings) (honest : Type 0) (latest : Latest) (number : ℕ) (table : Table) (body : List Bytes) (of_set : IsLatestOf table latest) (old_panel mid_panel : Panel) (old mid : History)
-    (later : IsLater old_panel mid_panel) (read : honest → HasRead old mid) (others : (other : ℕ) → honest → other ≢ latest.source → is_down mid other ≡ is_down old other)
+module _ (spellings : Spellings) (honest : Type 0) (latest : Latest) (number : ℕ) (table : Table) (body : List Bytes) (of_set : IsLatestOf table latest)
+    (old_panel mid_panel : Panel) (old mid : History)
+    (later : IsLater old_panel mid_panel) (read : honest → HasRead old mid)
+    (others : (other : ℕ) → honest → other ≢ latest.source → is_down mid other ≡ is_down old other)
     (true_old : honest → IsTrueTo old_panel old) (true_mid : honest → IsTrueTo mid_panel mid) where
   abbrev Was : ArrayView
   Was = view_of old_panel old table number
@@ -42,28 +44,34 @@ module _ (spellings : Spellings) (honest : Type 0) (latest : Latest) (number : �
       (numbers : OnOk result (numbers_of entry ≡ latest.seal.rows.items))
       (held : (i member : ℕ) → i < length latest.seal.rows.items → member < table.geometry.members
       → OnOk result (holds table.geometry.members (form_of entry) i member ≡ holds table.geometry.members latest.seal.form i member))
-      (loaded : (i member : ℕ) → honest → i < length latest.seal.rows.items → member < table.geometry.members → holds table.geometry.members latest.seal.form i member ≡ true
-      → OnOk result (sector_at entry i member ≡ sector_of (seen old latest.source) (body_start latest.seal.number + rank table.geometry.members latest.seal.form i member)))
+      (loaded : (i member : ℕ) → honest → i < length latest.seal.rows.items → member < table.geometry.members
+      → holds table.geometry.members latest.seal.form i member ≡ true
+      → OnOk result (sector_at entry i member ≡ sector_of (seen old latest.source)
+      (body_start latest.seal.number + rank table.geometry.members latest.seal.form i member)))
       (stay : (device : ℕ) → honest → OnOk result (is_down mid device ≡ is_down old device)) where
     on_ok : (fact : Type 0) → OnOk result fact → fact
     on_ok fact = subst (λ (r : Result (Unit {0}) Stop). OnOk r fact → fact) (sym ok) (λ is. is)
 
     pub load_done : Loads (view_of mid_panel mid table number) (Ok true)
-    load_done = read_done spellings honest (IsLatestOn latest) (IsComing Copied latest.seal body (progress_of latest)) (λ from t h is. is.writes) latest.source number table old_panel mid_panel old mid
+    load_done = read_done spellings honest (IsLatestOn latest) (IsComing Copied latest.seal body (progress_of latest)) (λ from t h is. is.writes) latest.source
+        number table old_panel mid_panel old mid
         of_set.source.counted later read others true_old true_mid (λ fair device. on_ok _ (stay device fair))
         (λ fair from loss is still. subst (λ (b : List Bytes). IsComing Copied latest.seal b (progress_of latest) from table mid)
         (sym (body_is ∙ body_loaded table.geometry.members entry (seen mid latest.source) latest.seal table.geometry.limits.members_most
         (record { rows = on_ok _ numbers; held = λ i member inside within. on_ok _ (held i member inside within) })
         (λ i member inside within is. on_ok _ (loaded i member fair inside within is)
-        ∙ ap (λ (disk : List Bytes). sector_of disk (body_start latest.seal.number + rank table.geometry.members latest.seal.form i member)) (sym (seen_read (read fair) latest.source)))))
+        ∙ ap (λ (disk : List Bytes). sector_of disk (body_start latest.seal.number + rank table.geometry.members latest.seal.form i member))
+        (sym (seen_read (read fair) latest.source)))))
         (comes spellings from table mid loss latest of_set (latest_still latest from table old mid still.1 of_set.source is still.0)))
 
   -- its journal failed, and that was taken over
-  module _ (why : Stop) (ends : IsCauseOf mid_panel why × ((why ≡ stop.Worn) ⊎ (why ≡ stop.Down latest.source))) (new_panel : Panel) (new_table : Table) (new : History)
+  module _ (why : Stop) (ends : IsCauseOf mid_panel why × ((why ≡ stop.Worn) ⊎ (why ≡ stop.Down latest.source))) (new_panel : Panel) (new_table : Table)
+      (new : History)
       (still : Type 0) (more : honest → still) (true_new : honest → IsTrueTo new_panel new) (its_slots : HasItsSlots table old_panel) (answer : Answer)
       (taken : EndsOrFailsSlot still latest.source mid_panel new_panel table new_table mid new (Err why) answer) where
     failed : Brings honest (IsLatestOn latest) (AllHaveLast latest.beside) Was (view_of new_panel new new_table number) answer
-    failed = read_failed spellings honest (IsLatestOn latest) (AllHaveLast latest.beside) (λ from t h is. is.writes) latest.source number table old_panel mid_panel old mid of_set.source.counted later
+    failed = read_failed spellings honest (IsLatestOn latest) (AllHaveLast latest.beside) (λ from t h is. is.writes) latest.source number table old_panel
+        mid_panel old mid of_set.source.counted later
         read others true_old true_mid why ends new_panel new_table new answer still more true_new its_slots taken
         (λ ok from is over. beside_left latest from table new_table old new over.1
         (gone_then still latest.source mid_panel new_panel table new_table mid new why of_set.source.counted
@@ -73,7 +81,8 @@ module _ (spellings : Spellings) (honest : Type 0) (latest : Latest) (number : �
     load_failed ok = subst (Brings honest (IsLatestOn latest) (AllHaveLast latest.beside) Was (view_of new_panel new new_table number)) ok failed
 
     pub load_refused : (refusal : Refusal) → answer ≡ Err refusal → Loads (view_of new_panel new new_table number) (Err refusal)
-    load_refused refusal is = steps_refused honest HoldsAll (IfSingleFailure (IsLatestOn latest)) (IfSingleFailure (AllHaveLast latest.beside)) _ Was (view_of new_panel new new_table number) refusal
+    load_refused refusal is = steps_refused honest HoldsAll (IfSingleFailure (IsLatestOn latest)) (IfSingleFailure (AllHaveLast latest.beside)) _ Was
+        (view_of new_panel new new_table number) refusal
         (subst (Brings honest (IsLatestOn latest) (AllHaveLast latest.beside) Was (view_of new_panel new new_table number)) is failed)
 
 -- Its journal failed and is marked missing: the entry of the other journal is the last.
@@ -85,9 +94,12 @@ module _ (honest : Type 0) (latest : Latest) (old mid : ArrayView) (of_set : IsL
       (λ from all. none_to_put spellings from mid.table mid.history (subst (λ (l : Option Seal). AllHaveLast l from mid.table mid.history) none all)) first
 
   -- it is loaded from there
-  pub load_beside : (still : Type 0) → (honest → still) → (new : ArrayView) (other : Latest) (entry : Entry) (result : Result (Option Latest) Refusal) → IsLatestBeside mid.table latest (Some other)
+  pub load_beside : (still : Type 0) → (honest → still) → (new : ArrayView) (other : Latest) (entry : Entry) (result : Result (Option Latest) Refusal)
+      → IsLatestBeside mid.table latest (Some other)
       → BringsTo still (IsLatestOn other) (IsFound (body_of mid.table.geometry.members entry)) mid new result
       → BringsTo honest (IsLatestOn latest) (IsFound (body_of old.table.geometry.members entry)) old new result
-  load_beside still more new other entry result is loads = brings_then honest still more (IsLatestOn latest) (IsLatestOn other) (IsFound (body_of old.table.geometry.members entry)) old mid new result
-      (brings_on honest (IsLatestOn latest) (AllHaveLast latest.beside) (IsLatestOn other) old mid (λ from all. beside_on old.table mid.table latest other of_set marked is from mid.history all) first)
+  load_beside still more new other entry result is loads =
+      brings_then honest still more (IsLatestOn latest) (IsLatestOn other) (IsFound (body_of old.table.geometry.members entry)) old mid new result
+      (brings_on honest (IsLatestOn latest) (AllHaveLast latest.beside) (IsLatestOn other) old mid
+      (λ from all. beside_on old.table mid.table latest other of_set marked is from mid.history all) first)
       (subst (λ (g : Geometry). BringsTo still (IsLatestOn other) (IsFound (body_of g.members entry)) mid new result) marked.same_geometry loads)

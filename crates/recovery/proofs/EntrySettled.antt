@@ -51,7 +51,8 @@ place_stays old new device at down same = by_state (is_down old device) refl
 abbrev KeepsPlaces : History → History → Type 0
 KeepsPlaces old new = (device at : ℕ) → at < SUPERBLOCK_PLACES → sector_of (disk_of (readable new device)) at ≡ sector_of (disk_of (readable old device)) at
 
-keeps_none : (id : List ℕ) (devices slot : ℕ) (old new : History) → KeepsPlaces old new → HasNone id devices slot (readable new slot) → HasNone id devices slot (readable old slot)
+keeps_none : (id : List ℕ) (devices slot : ℕ) (old new : History) → KeepsPlaces old new → HasNone id devices slot (readable new slot)
+    → HasNone id devices slot (readable old slot)
 keeps_none id devices slot old new keeps none place superblock counts = none place superblock record {
   stands = keeps slot place below ∙ counts.stands;
   of_set = counts.of_set;
@@ -77,26 +78,31 @@ keeps_table table old new keeps carries = record {
 -- the entry on the stale journal
 
 -- it is copied there
-pub copies : (honest : Type 0) (latest : Latest) (body : List Bytes) (journal : ℕ) (old new : ArrayView) (answer : Answer) → IsLatestOf old.table latest → IsStaleJournal old.table latest (Some journal)
+pub copies : (honest : Type 0) (latest : Latest) (body : List Bytes) (journal : ℕ) (old new : ArrayView) (answer : Answer) → IsLatestOf old.table latest
+    → IsStaleJournal old.table latest (Some journal)
     → new.table.geometry ≡ old.table.geometry → StepsJournal honest latest.seal body journal old new answer
     → Brings honest (IsComing Copied latest.seal body (progress_of latest)) (IsPutBefore 0 latest.seal body) old new answer
 copies honest latest body journal old new answer of_set is_stale same_geometry steps =
-    steps_more honest HoldsAll (IfSingleFailure (IsComing Copied latest.seal body (progress_of latest))) (IfSingleFailure (IsComing Copied latest.seal body (progress_of latest))) _
+    steps_more honest HoldsAll (IfSingleFailure (IsComing Copied latest.seal body (progress_of latest)))
+    (IfSingleFailure (IsComing Copied latest.seal body (progress_of latest))) _
     (IfSingleFailure (IsPutBefore 0 latest.seal body)) old new answer (λ from at. at)
-    (λ fair ok from at is loss. safe_on_all latest.seal body _ from new.table new.history (is loss) (then_sealed old.table latest journal of_set is_stale new.table same_geometry))
+    (λ fair ok from at is loss. safe_on_all latest.seal body _ from new.table new.history (is loss)
+    (then_sealed old.table latest journal of_set is_stale new.table same_geometry))
     (steps Copied (progress_of latest) (stale_journal_awaits old.table latest journal of_set is_stale))
 
 -- or it stands on both
 pub copied_already : (honest : Type 0) (latest : Latest) (body : List Bytes) (old : ArrayView) → IsStaleJournal old.table latest None
     → Brings honest (IsComing Copied latest.seal body (progress_of latest)) (IsPutBefore 0 latest.seal body) old old (Ok tt)
-copied_already honest latest body old none = brings_same honest (IsComing Copied latest.seal body (progress_of latest)) (IsPutBefore 0 latest.seal body) old.number old.table old.panel old.history
+copied_already honest latest body old none = brings_same honest (IsComing Copied latest.seal body (progress_of latest)) (IsPutBefore 0 latest.seal body)
+    old.number old.table old.panel old.history
     (λ from loss is. (is.writes, safe_on_all latest.seal body (progress_of latest) from old.table old.history is (no_journal_is_stale old.table latest none)))
 
 -- the whole
 
 -- one superblock of the set counts, where one was published
 has_one : (old new : ArrayView) → IsPublishedAnew old new → HasOne old.table.id old.panel.devices new.history
-has_one old new anew = own_counts old.table.id old.panel.devices new.table anew.published.slot anew.published.sector new.history anew.published.same_id anew.published.room anew.published.stands
+has_one old new anew = own_counts old.table.id old.panel.devices new.table anew.published.slot anew.published.sector new.history anew.published.same_id
+    anew.published.room anew.published.stands
     anew.published.up anew.published.is_there
 
 -- the places of superblocks give what they gave, where no slot was marked
@@ -105,7 +111,8 @@ places_stay old new same device at below = place_stays old.history new.history d
 
 -- Steps that lead to the last entry at rest settle it.
 module _ (honest : Type 0) (old new : ArrayView) where
-  carries : IsCarriedOn old new ⊎ IsPublishedAnew old new → (IsComplete old.table → CarriesAll old.table (readable old.history)) → IsComplete new.table → CarriesAll new.table (readable new.history)
+  carries : IsCarriedOn old new ⊎ IsPublishedAnew old new → (IsComplete old.table → CarriesAll old.table (readable old.history)) → IsComplete new.table
+      → CarriesAll new.table (readable new.history)
   carries (inl same) carried complete = subst (λ (t : Table). CarriesAll t (readable new.history)) (sym same.table)
       (keeps_table old.table old.history new.history (places_stay old new same) (carried (subst IsComplete same.table complete)))
   carries (inr anew) carried complete = absurd (states_differ (sym anew.missing ∙ complete.in_sync anew.slot anew.of_set))
@@ -115,7 +122,8 @@ module _ (honest : Type 0) (old new : ArrayView) where
   none_before (inl same) none slot = keeps_none old.table.id old.panel.devices slot old.history new.history (places_stay old new same) (none slot)
   none_before (inr anew) none slot = let one = has_one old new anew in absurd (none one.slot one.place one.superblock one.counts)
 
-  ended_so : (result : Result ℕ Refusal) → StaysButForFailures honest old new (HasEnded (answer_to result)) → StaysButForFailures honest old new (HasEnded result)
+  ended_so : (result : Result ℕ Refusal) → StaysButForFailures honest old new (HasEnded (answer_to result))
+      → StaysButForFailures honest old new (HasEnded result)
   ended_so (Ok number) stays = stays
   ended_so (Err refusal) stays = stays
 
@@ -137,20 +145,26 @@ module _ (honest : Type 0) (old new : ArrayView) where
 module _ (honest : Type 0) (entry : Entry) (old mid : ArrayView) (result : Result (Option Latest) Refusal)
     (finds : BringsTo honest MayWrite (IsFound (body_of old.table.geometry.members entry)) old mid result) where
   pub settles_refused : (refusal : Refusal) → result ≡ Err refusal → SettlesEntry honest old mid (Err refusal)
-  settles_refused refusal is = settles_by honest old mid (Err refusal) (brings_refused honest MayWrite (IsFound (body_of old.table.geometry.members entry)) old mid result finds {B = ℕ} IsPut refusal is)
+  settles_refused refusal is = settles_by honest old mid (Err refusal)
+      (brings_refused honest MayWrite (IsFound (body_of old.table.geometry.members entry)) old mid result finds {B = ℕ} IsPut refusal is)
 
   pub settles_none : result ≡ Ok None → SettlesEntry honest old mid (Ok 0)
-  settles_none is = settles_by honest old mid (Ok 0) (brings_value honest MayWrite (IsFound (body_of old.table.geometry.members entry)) old mid result finds None is)
+  settles_none is = settles_by honest old mid (Ok 0) (brings_value honest MayWrite (IsFound (body_of old.table.geometry.members entry)) old mid result finds
+      None is)
 
   -- it is copied
-  module _ (latest : Latest) (is : result ≡ Ok (Some latest)) (same_geometry : mid.table.geometry ≡ old.table.geometry) (still : Type 0) (more : honest → still) (later : ArrayView) (answer : Answer)
-      (copies_it : Brings still (IsComing Copied latest.seal (body_of mid.table.geometry.members entry) (progress_of latest)) (IsPutBefore 0 latest.seal (body_of mid.table.geometry.members entry)) mid later answer) where
+  module _ (latest : Latest) (is : result ≡ Ok (Some latest)) (same_geometry : mid.table.geometry ≡ old.table.geometry) (still : Type 0) (more : honest → still)
+      (later : ArrayView) (answer : Answer)
+      (copies_it : Brings still (IsComing Copied latest.seal (body_of mid.table.geometry.members entry) (progress_of latest))
+      (IsPutBefore 0 latest.seal (body_of mid.table.geometry.members entry)) mid later answer) where
     found : Brings honest MayWrite (IsComing Copied latest.seal (body_of mid.table.geometry.members entry) (progress_of latest)) old mid (Ok tt)
-    found = subst (λ (g : Geometry). Brings honest MayWrite (IsComing Copied latest.seal (body_of g.members entry) (progress_of latest)) old mid (Ok tt)) (sym same_geometry)
+    found = subst (λ (g : Geometry). Brings honest MayWrite (IsComing Copied latest.seal (body_of g.members entry) (progress_of latest)) old mid (Ok tt))
+        (sym same_geometry)
         (brings_value honest MayWrite (IsFound (body_of old.table.geometry.members entry)) old mid result finds (Some latest) is)
 
     copied : Brings honest MayWrite (IsPutBefore 0 latest.seal (body_of mid.table.geometry.members entry)) old later answer
-    copied = steps_both honest still more HoldsAll (IfSingleFailure MayWrite) (IfSingleFailure (IsComing Copied latest.seal (body_of mid.table.geometry.members entry) (progress_of latest)))
+    copied = steps_both honest still more HoldsAll (IfSingleFailure MayWrite)
+        (IfSingleFailure (IsComing Copied latest.seal (body_of mid.table.geometry.members entry) (progress_of latest)))
         (IfSingleFailure (IsPutBefore 0 latest.seal (body_of mid.table.geometry.members entry))) old mid later answer found copies_it
 
     pub settles_uncopied : (refusal : Refusal) → answer ≡ Err refusal → SettlesEntry honest old later (Err refusal)
@@ -158,10 +172,13 @@ module _ (honest : Type 0) (entry : Entry) (old mid : ArrayView) (result : Resul
         (subst (Brings honest MayWrite (IsPutBefore 0 latest.seal (body_of mid.table.geometry.members entry)) old later) ended copied))
 
     -- its rows are put on the members
-    module _ (ok : answer ≡ Ok tt) (same_geometry' : later.table.geometry ≡ mid.table.geometry) (held : Type 0) (holds : honest → held) (new : ArrayView) (last : Answer)
+    module _ (ok : answer ≡ Ok tt) (same_geometry' : later.table.geometry ≡ mid.table.geometry) (held : Type 0) (holds : honest → held) (new : ArrayView)
+        (last : Answer)
         (puts : StepsMembers held latest.seal (body_of later.table.geometry.members entry) later new last) where
       put : Brings honest MayWrite (IsPut latest.seal.number) old new last
-      put = steps_both honest held holds HoldsAll (IfSingleFailure MayWrite) (IfSingleFailure (IsPutBefore 0 latest.seal (body_of mid.table.geometry.members entry))) (IfSingleFailure (IsPut latest.seal.number)) old later new last
+      put = steps_both honest held holds HoldsAll (IfSingleFailure MayWrite)
+          (IfSingleFailure (IsPutBefore 0 latest.seal (body_of mid.table.geometry.members entry))) (IfSingleFailure (IsPut latest.seal.number)) old later new
+          last
           (subst (Brings honest MayWrite (IsPutBefore 0 latest.seal (body_of mid.table.geometry.members entry)) old later) ok copied)
           (subst (λ (g : Geometry). StepsMembers held latest.seal (body_of g.members entry) later new last) same_geometry' puts)
 

@@ -61,7 +61,10 @@ module _ (honest still : Type 0) (goes_on : honest → still) (bank : BankView) 
 
   out_by : (what : Out) → IsOutOf still bank table what → IsOutOf honest bank table what
   out_by out.Nobody is = λ slot within counted. there_by slot (is slot within counted)
-  out_by (out.One slot) (gone, others) = (gone_by slot gone, λ other within apart. ((others other within apart).0, there_by other (others other within apart).1))
+  out_by (out.One slot) (gone, others) = (
+    gone_by slot gone,
+    λ other within apart. ((others other within apart).0, there_by other (others other within apart).1),
+  )
   out_by (out.Two first second) (apart, one, two) = (apart, not_full_by first one, not_full_by second two)
 
   pub outlook_still : (what : Outlook) → IsOutlook still bank table what → IsOutlook honest bank table what
@@ -123,11 +126,16 @@ last_absent honest bank table journal absent =
 
 -- the last seal was read
 pub last_read : (honest : Type 0) (old new : BankView) (table : Table) (journal : ℕ) (last : Option Seal) (number : ℕ) → IsLater old.panel new.panel
-    → (honest → HasRead old.history new.history) → (honest → IsLastSealed table.id table.geometry (Some (seen old.history journal)) last) → number ≡ number_of last
+    → (honest → HasRead old.history new.history) → (honest → IsLastSealed table.id table.geometry (Some (seen old.history journal)) last)
+    → number ≡ number_of last
     → ReadsLast honest old new (Ok (Some number)) (IsLastNumber honest new table journal)
 last_read honest old new table journal last number later reads is same =
     reads_found honest old new (Some number) (IsLastNumber honest new table journal) later reads
-    (λ fair. (last, subst (λ (disk : List Bytes). IsLastSealed table.id table.geometry (Some disk) last) (sym (seen_read (reads fair) journal)) (is fair), same))
+    (λ fair. (
+      last,
+      subst (λ (disk : List Bytes). IsLastSealed table.id table.geometry (Some disk) last) (sym (seen_read (reads fair) journal)) (is fair),
+      same,
+    ))
 
 -- the journal went down
 pub last_failed : (honest : Type 0) (old new : BankView) (table : Table) (journal : ℕ) → IsLater old.panel new.panel
@@ -148,7 +156,8 @@ pub lasts_refused : (honest : Type 0) (old new : BankView) (table : Table) (jour
 lasts_refused honest old new table journal refusal is =
     reads_refused honest old new refusal (AreLastNumbers honest new table) is.later is.reads (is.cause refusal refl)
 
-pub lasts_refused_then : (honest still : Type 0) (old mid new : BankView) (table : Table) (journal other : ℕ) (lower : Option ℕ) (refusal : Refusal) → (honest → still)
+pub lasts_refused_then : (honest still : Type 0) (old mid new : BankView) (table : Table) (journal other : ℕ) (lower : Option ℕ) (refusal : Refusal)
+    → (honest → still)
     → ReadsLast honest old mid (Ok lower) (IsLastNumber honest mid table journal) → ReadsLast still mid new (Err refusal) (IsLastNumber still new table other)
     → ReadsLast honest old new (Err refusal) (AreLastNumbers honest new table)
 lasts_refused_then honest still old mid new table journal other lower refusal goes_on one two =
@@ -234,8 +243,10 @@ examined_some honest still id old mid new survey examined goes_on is same slots 
       of_id = ap (λ (t : Table). t.id) same ∙ is.of_id survey refl;
       has_slots = subst (λ (t : Table). slots_of t ≤ mid.panel.devices) (sym same) (is.has_slots survey refl);
       chosen = λ fair. subst (λ (t : Table). IsChosen id mid.panel.devices (readable mid.history) t) (sym same) (is.told fair survey refl).chosen;
-      slots = subst (λ (t : Table). AreExaminedSlots honest mid t examined.slots) (sym same) (slots_by honest still goes_on mid survey.table examined.slots slots);
-      outlook = subst (λ (t : Table). IsOutlook honest mid t examined.outlook) (sym same) (outlook_still honest still goes_on mid survey.table examined.outlook expected);
+      slots = subst (λ (t : Table). AreExaminedSlots honest mid t examined.slots) (sym same)
+          (slots_by honest still goes_on mid survey.table examined.slots slots);
+      outlook = subst (λ (t : Table). IsOutlook honest mid t examined.outlook) (sym same)
+          (outlook_still honest still goes_on mid survey.table examined.outlook expected);
       last = subst (λ (t : Table). AreLastNumbers honest new t examined.last) (sym same)
           (lasts_by honest still goes_on new survey.table examined.last (last.found examined.last refl));
     }

@@ -19,7 +19,8 @@ use Rattle.recovery.proofs.Finding.{Honest}
 use Rattle.recovery.proofs.SurveyedOut.{is_there_up}
 
 -- Of a slot of the set, by a survey of an honest bank.
-module _ (bank : BankView) (survey : Survey) (slot : ℕ) (told : Tells survey.table.id bank.panel.devices (readable bank.history) survey) (within : slot < bank.panel.devices) where
+module _ (bank : BankView) (survey : Survey) (slot : ℕ) (told : Tells survey.table.id bank.panel.devices (readable bank.history) survey)
+    (within : slot < bank.panel.devices) where
   abbrev content : Content
   content = readable bank.history slot
 
@@ -72,7 +73,8 @@ module _ (bank : BankView) (survey : Survey) (slot : ℕ) (told : Tells survey.t
 -- why a slot is not live that is there
 pub reason_stands : (honest : Type 0) (bank : BankView) (survey : Survey) (slot : ℕ) (why : Standing) → (honest → Honest bank) → IsSurveyOf honest bank survey
     → IsGone honest bank survey.table slot → IsPresence bank survey.table slot presence.There
-    → IsReason (slice_index_or survey.generations slot 0) survey.table.generation (slice_index_or survey.own slot 0) (incarnation_at survey.table.incarnations slot) why
+    → IsReason (slice_index_or survey.generations slot 0) survey.table.generation (slice_index_or survey.own slot 0)
+    (incarnation_at survey.table.incarnations slot) why
     → IsStanding honest bank survey.table slot why
 reason_stands honest bank survey slot why is_honest surveyed gone there = by_why why
   where
@@ -83,7 +85,8 @@ reason_stands honest bank survey slot why is_honest surveyed gone there = by_why
     apart fair same = gone.dead fair ((is_there_up honest bank survey slot is_honest gone.of_set surveyed there.0 there.1 same gone.counted).live fair)
 
     by_why : (why : Standing)
-        → IsReason (slice_index_or survey.generations slot 0) survey.table.generation (slice_index_or survey.own slot 0) (incarnation_at survey.table.incarnations slot) why
+        → IsReason (slice_index_or survey.generations slot 0) survey.table.generation (slice_index_or survey.own slot 0)
+        (incarnation_at survey.table.incarnations slot) why
         → IsStanding honest bank survey.table slot why
     by_why standing.Live is = absurd is
     by_why (standing.Rebuilding position) is = absurd is

@@ -1,5 +1,6 @@
 -- What reads find of the superblocks on a bank's devices.
-use Rattle.std.proofs.Common.{◌≡◌, ◌⊎◌, inl, inr, ℕ, ◌+◌, ◌-◌, ◌^◌, ◌<◌, ◌≤◌, min, Bool, true, false, List, length, Option, Some, None, refl, sym, ◌∙◌, ap, subst, arith, cond}
+use Rattle.std.proofs.Common.{◌≡◌, ◌⊎◌, inl, inr, ℕ, ◌+◌, ◌-◌, ◌^◌, ◌<◌, ◌≤◌, min, Bool, true, false, List, length, Option, Some, None, refl, sym, ◌∙◌, ap}
+use Rattle.std.proofs.Common.{subst, arith, cond}
 use Rattle.std.specs.Prelude.{IfSome, IsNone, Result, Ok, Err, nat_lt}
 use Rattle.std.proofs.Math.Path.{fun_ext}
 use Rattle.std.proofs.lemmas.Bool.{cases_lt}
@@ -147,7 +148,8 @@ finds_err honest id devices IsSought old new refusal later reads worn calls = re
 
 -- nothing is found
 finds_none : (honest : Type 0) (id : List ℕ) (devices : ℕ) (IsSought : Slots → Option Superblock → Type 0) (old new : BankView)
-    → IsLater old.panel new.panel → (honest → HasRead old.history new.history) → (honest → NoDeviceFailed old.panel new.panel → IsSought (readable old.history) None)
+    → IsLater old.panel new.panel → (honest → HasRead old.history new.history)
+    → (honest → NoDeviceFailed old.panel new.panel → IsSought (readable old.history) None)
     → Finds honest id devices IsSought old new (Ok None)
 finds_none honest id devices IsSought old new later reads sought =
     finds honest id devices IsSought old new None later reads (λ superblock is. absurd (cc)) sought
@@ -177,7 +179,8 @@ pub place_down : (honest : Type 0) (slot place : ℕ) (bank : BankView) → (hon
     → ReadsPlace honest slot place bank bank (Ok None)
 place_down honest slot place bank is_honest down =
     place_none honest slot place bank bank (later_same bank.panel) (λ fair. read_none bank.history)
-    (λ fair none. subst (λ (c : Content). length (disk_of c) ≤ place) (sym (readable_down bank.history slot (sym ((is_honest fair).down slot) ∙ down))) (omega arith))
+    (λ fair none. subst (λ (c : Content). length (disk_of c) ≤ place) (sym (readable_down bank.history slot (sym ((is_honest fair).down slot) ∙ down)))
+    (omega arith))
 
 -- nor of one that is too short
 pub place_short : (honest : Type 0) (slot place : ℕ) (bank : BankView) → (honest → Honest bank)
@@ -210,7 +213,8 @@ pub place_read : (honest : Type 0) (slot place : ℕ) (old new : BankView) (sect
     → ReadsPlace honest slot place old new (Ok (Some sector))
 place_read honest slot place old new sector later reads up is =
     place_found honest slot place old new (Some sector) later reads
-    (λ other same. subst (λ (o : Option Bytes). IfSome o (λ s. (old.panel.down slot ≡ false) × (honest → s ≡ sector_of (seen old.history slot) place))) same (up, is))
+    (λ other same. subst (λ (o : Option Bytes). IfSome o (λ s. (old.panel.down slot ≡ false) × (honest → s ≡ sector_of (seen old.history slot) place))) same
+    (up, is))
     (λ fair none same. absurd (cc))
 
 -- no further call could be counted

@@ -39,7 +39,8 @@ use Rattle.recovery.proofs.DownRuns.{cut_down, stays_in}
 use Rattle.recovery.proofs.Finding.{none_down}
 
 -- by which slot it is
-by_slot : (slot one : ℕ) (state special : State) → (slot ≡ one → state ≡ special) → (slot ≢ one → state ≡ InSync) → state ≡ (if slot == one then special else InSync)
+by_slot : (slot one : ℕ) (state special : State) → (slot ≡ one → state ≡ special) → (slot ≢ one → state ≡ InSync)
+    → state ≡ (if slot == one then special else InSync)
 by_slot slot one state special here there = by_test (slot == one) refl
   where
     by_test : (b : Bool) → (slot == one) ≡ b → state ≡ (if b then special else InSync)
@@ -70,7 +71,8 @@ others_in_sync table out slot of_set is_out within apart = elim (state_in_sync (
 ]
 
 -- where all is there that the table counts on, one slot is out at most
-all_are_there : (honest : Type 0) (fair : honest) (old : BankView) (table : Table) → IsOutOf honest old table out.Nobody → IsOneOut old.panel.devices table old.history
+all_are_there : (honest : Type 0) (fair : honest) (old : BankView) (table : Table) → IsOutOf honest old table out.Nobody
+    → IsOneOut old.panel.devices table old.history
 all_are_there honest fair old table out = one_out_there old.panel.devices table old.history (λ slot within counted. (out slot within counted).live fair)
 
 -- What an array has whose states are those of a table that was chosen, where no device failed.
@@ -80,7 +82,8 @@ module _ (honest : Type 0) (fair : honest) (old : BankView) (table : Table) (arr
   up_of slot live = by_case (is_down old.history slot) refl
     where
       by_case : (b : Bool) → is_down old.history slot ≡ b → is_down array.history slot ≡ false
-      by_case true down = absurd (none_down table.id old.panel.devices slot live.incarnation.place old.history down live.incarnation.newest live.incarnation.counted)
+      by_case true down = absurd (none_down table.id old.panel.devices slot live.incarnation.place old.history down live.incarnation.newest
+          live.incarnation.counted)
       by_case false up = by_now (is_down array.history slot) refl
         where
           by_now : (b : Bool) → is_down array.history slot ≡ b → b ≡ false
@@ -137,7 +140,8 @@ module _ (honest : Type 0) (fair : honest) (old : BankView) (table : Table) (arr
   }
 
 -- By an outlook that is not of two lost slots one slot is out at most.
-one_out_by : (honest : Type 0) (fair : honest) (old : BankView) (table : Table) (expected : Outlook) → IsOutlook honest old table expected → expected ≢ outlook.TwoLost
+one_out_by : (honest : Type 0) (fair : honest) (old : BankView) (table : Table) (expected : Outlook) → IsOutlook honest old table expected
+    → expected ≢ outlook.TwoLost
     → IsOneOut old.panel.devices table old.history
 one_out_by honest fair old table outlook.TwoLost is not_two = absurd (not_two refl)
 one_out_by honest fair old table (outlook.WouldMark slot) (gone, others) not_two = one_out_but old.panel.devices table old.history slot
@@ -147,7 +151,8 @@ one_out_by honest fair old table (outlook.Missing slot) (by, out) not_two = all_
 one_out_by honest fair old table (outlook.Rebuilding slot position) (by, out) not_two = all_are_there honest fair old table out
 
 -- So where no device fails and all cases hold, it is not refused but with 16.
-module _ (honest : Type 0) (fair : honest) (id : List ℕ) (old bank : BankView) (table : Table) (expected : Outlook) (expected_is : IsOutlook honest old table expected)
+module _ (honest : Type 0) (fair : honest) (id : List ℕ) (old bank : BankView) (table : Table) (expected : Outlook)
+    (expected_is : IsOutlook honest old table expected)
     (not_two : expected ≢ outlook.TwoLost) (chosen : IsChosen id old.panel.devices (readable old.history) table) (later : IsLater old.panel bank.panel)
     (run : Throughout (StaysDown old.history) old.history bank.history) (stay : NoDeviceFailedIn old.history bank.history) where
   not_no_set : ((slot : ℕ) → HasNone id bank.panel.devices slot (readable bank.history slot)) → HasRead old.history bank.history → ⊥
@@ -159,7 +164,8 @@ module _ (honest : Type 0) (fair : honest) (id : List ℕ) (old bank : BankView)
 
   not_two_lost : IsTwoLostThen id old.panel.devices old.history bank.history → ⊥
   not_two_lost two =
-      two.apart (one_out_by honest fair old table expected expected_is not_two two.first two.second (within two.first two.first_of_set) (within two.second two.second_of_set)
+      two.apart (one_out_by honest fair old table expected expected_is not_two two.first two.second (within two.first two.first_of_set)
+      (within two.second two.second_of_set)
       (out_before two.first (out_then two.first two.first_out)) (out_before two.second (out_then two.second two.second_out)))
     where
       moment : History
@@ -170,10 +176,12 @@ module _ (honest : Type 0) (fair : honest) (id : List ℕ) (old bank : BankView)
       out_then slot (inr out) full = out full
       out_then slot (inl down) full =
           let own = full.live.incarnation in
-          none_down two.table.id old.panel.devices slot own.place moment (throughout_cut bank.history run two.t two.from slot (stay slot down)) own.newest own.counted
+          none_down two.table.id old.panel.devices slot own.place moment (throughout_cut bank.history run two.t two.from slot (stay slot down)) own.newest
+          own.counted
 
       read_then : IsRead old.history moment
-      read_then = throughout_cut bank.history (read_throughout (two.unwritten (out_then two.first two.first_out) (out_then two.second two.second_out))) two.t two.from
+      read_then = throughout_cut bank.history (read_throughout (two.unwritten (out_then two.first two.first_out) (out_then two.second two.second_out))) two.t
+          two.from
 
       stood : readable moment ≡ readable old.history
       stood = readable_stays old.history moment read_then (λ device down. stay device (cut_down two.t bank.history device down))
@@ -185,7 +193,8 @@ module _ (honest : Type 0) (fair : honest) (id : List ℕ) (old bank : BankView)
       within : (slot : ℕ) → slot < slots_of two.table → slot < slots_of table
       within slot = subst (λ (t : Table). slot < slots_of t) same
 
-      out_before : (slot : ℕ) → ¬ IsInFull old.panel.devices two.table slot (readable moment slot) → ¬ IsInFull old.panel.devices table slot (readable old.history slot)
+      out_before : (slot : ℕ) → ¬ IsInFull old.panel.devices two.table slot (readable moment slot)
+          → ¬ IsInFull old.panel.devices table slot (readable old.history slot)
       out_before slot out = subst (λ (image : Slots). ¬ IsInFull old.panel.devices table slot (image slot)) stood
           (subst (λ (t : Table). ¬ IsInFull old.panel.devices t slot (readable moment slot)) same out)
 
@@ -197,7 +206,8 @@ module _ (honest : Type 0) (fair : honest) (id : List ℕ) (old bank : BankView)
 
 ends_as_foreseen : (honest : Type 0) (fair : honest) (id : List ℕ) (old : BankView) (outcome : Outcome) → Assembles honest id old outcome → (table : Table)
     → IsChosen id old.panel.devices (readable old.history) table → (expected : Outlook) → IsOutlook honest old table expected → expected ≢ outlook.TwoLost
-    → NoDeviceFailedIn old.history (bank_after outcome).history → (base : Table) (lost : Option Lost) (X : List (List Bytes)) → base.id ≡ id → MayAssemble base lost X old
+    → NoDeviceFailedIn old.history (bank_after outcome).history → (base : Table) (lost : Option Lost) (X : List (List Bytes)) → base.id ≡ id
+    → MayAssemble base lost X old
     → EndsAsForeseen base lost table expected outcome
 ends_as_foreseen honest fair id old outcome assembles table chosen expected is not_two stay base lost X of_id may = record {
   opened = λ array opened loss. foreseen honest fair old table array (assembles.states fair base lost X of_id may array opened loss table chosen)

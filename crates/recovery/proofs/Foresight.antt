@@ -43,7 +43,11 @@ module _ (honest : Type 0) (old new : BankView) (table : Table) (same : ShowsSam
 
   presence_shown : (slot : ℕ) (what : Presence) → IsPresence old table slot what → IsPresence new table slot what
   presence_shown slot presence.Absent down = same.down slot ∙ down
-  presence_shown slot presence.TooShort (up, short) = (same.down slot ∙ up, subst (λ (n : ℕ). n < least_sectors table.geometry slot) (sym (same.sectors slot)) short)
+  presence_shown slot presence.TooShort (up, short) = (
+    same.down slot
+        ∙ up,
+    subst (λ (n : ℕ). n < least_sectors table.geometry slot) (sym (same.sectors slot)) short,
+  )
   presence_shown slot presence.There (up, long) = (same.down slot ∙ up, subst (λ (n : ℕ). least_sectors table.geometry slot ≤ n) (sym (same.sectors slot)) long)
 
   absent_shown : (slot : ℕ) → IsAbsent old table slot → IsAbsent new table slot
@@ -119,7 +123,8 @@ module _ (honest : Type 0) (old new : BankView) (table : Table) (same : ShowsSam
   outlook_shown (outlook.Rebuilding slot position) (by, is) = (by, out_shown out.Nobody is)
 
 -- An inspection of a bank found this, and no device failed in it.
-module _ (honest still : Type 0) (id : List ℕ) (old new : BankView) (examined : Examined) (fair : honest) (goes_on : still) (is_old : Honest old) (is_new : Honest new)
+module _ (honest still : Type 0) (id : List ℕ) (old new : BankView) (examined : Examined) (fair : honest) (goes_on : still) (is_old : Honest old)
+    (is_new : Honest new)
     (stay : NoDeviceFailedIn old.history new.history) (has : HasExamined honest id old new examined) where
   abbrev read : BankView
   read = has.read
@@ -150,8 +155,10 @@ module _ (honest still : Type 0) (id : List ℕ) (old new : BankView) (examined 
     of_id = has.of_id;
     has_slots = subst (λ (n : ℕ). slots_of examined.table ≤ n) (sym has.until.devices) has.has_slots;
     chosen = shown honest read new examined.table same_shown (λ n image. IsChosen id n image examined.table) (has.chosen fair);
-    slots = slots_by still honest (λ s. fair) new examined.table examined.slots (slots_shown honest read new examined.table same_shown examined.slots has.slots);
-    outlook = outlook_still still honest (λ s. fair) new examined.table examined.outlook (outlook_shown honest read new examined.table same_shown examined.outlook has.outlook);
+    slots = slots_by still honest (λ s. fair) new examined.table examined.slots
+        (slots_shown honest read new examined.table same_shown examined.slots has.slots);
+    outlook = outlook_still still honest (λ s. fair) new examined.table examined.outlook
+        (outlook_shown honest read new examined.table same_shown examined.outlook has.outlook);
     last = lasts_by still honest (λ s. fair) new examined.table examined.last has.last;
   }
 

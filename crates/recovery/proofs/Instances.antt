@@ -1,5 +1,6 @@
 -- Small cases that meet what making a set and assembling one promise.
-use Rattle.std.proofs.Common.{◌≡◌, ◌≢◌, inl, inr, ℕ, zero, suc, ◌+◌, ◌*◌, ◌-◌, ◌^◌, ◌<◌, ◌≤◌, min, nat_lt, Bool, true, false, cond, List, [], ◌∷◌, length, Option, Some, None, refl, sym, ◌∙◌, ap, subst, arith}
+use Rattle.std.proofs.Common.{◌≡◌, ◌≢◌, inl, inr, ℕ, zero, suc, ◌+◌, ◌*◌, ◌-◌, ◌^◌, ◌<◌, ◌≤◌, min, nat_lt, Bool, true, false, cond, List, [], ◌∷◌, length}
+use Rattle.std.proofs.Common.{Option, Some, None, refl, sym, ◌∙◌, ap, subst, arith}
 use Rattle.std.specs.Prelude.{Contains, Result, Ok, Err}
 use Rattle.std.proofs.lemmas.Bool.{cases_lt}
 use Rattle.sector_model.specs.declared.event.Event.TheVariants.{Quiet}
@@ -55,7 +56,8 @@ OnReturned P (Returned bank refusal) = P bank refusal
 opened_is : (P : ArrayView → Type 0) (given array : ArrayView) → Opened given ≡ Opened array → P given → P array
 opened_is P given array is of_given = subst (OnOpened P) is of_given
 
-returned_is : (P : BankView → Refusal → Type 0) (given bank : BankView) (cause refusal : Refusal) → Returned given cause ≡ Returned bank refusal → P given cause → P bank refusal
+returned_is : (P : BankView → Refusal → Type 0) (given bank : BankView) (cause refusal : Refusal) → Returned given cause ≡ Returned bank refusal → P given cause
+    → P bank refusal
 returned_is P given bank cause refusal is of_given = subst (OnReturned P) is of_given
 
 not_opened : (A : Type 0) (bank : BankView) (refusal : Refusal) (array : ArrayView) → Returned bank refusal ≡ Opened array → A
@@ -86,14 +88,16 @@ fresh_bank panel image = record { panel = panel; history = Began image }
 abbrev fresh_array : Panel → Slots → Table → ArrayView
 fresh_array panel image table = record { panel = panel; history = Began image; table = table; number = 0 }
 
-fresh_rests : (panel : Panel) (image : Slots) (table : Table) → IsFresh panel.devices table image → RestsOn (fresh_array panel image table) None (zeros_of table.geometry)
+fresh_rests : (panel : Panel) (image : Slots) (table : Table) → IsFresh panel.devices table image
+    → RestsOn (fresh_array panel image table) None (zeros_of table.geometry)
 fresh_rests panel image table fresh = settled_begins spellings (fresh_set_holds spellings (holds_from_core spellings)) panel.devices table image fresh
 
 fresh_slots : (panel : Panel) (image : Slots) (table : Table) → IsFresh panel.devices table image → IsTrueTo panel (Began image) → HasItsSlots table panel
 fresh_slots panel image table fresh true_to = record {
   of_bank = fresh.has_slots;
   fit = λ slot of_set counted up. subst (λ (n : ℕ). least_sectors table.geometry slot ≤ n) (sym (true_to.sectors slot))
-      (both_most (least_sectors table.geometry slot) (length (disk_of (image slot))) (2 ^ 32 - 1) (fresh.long_enough slot of_set) (least_is_small table.geometry slot));
+      (both_most (least_sectors table.geometry slot) (length (disk_of (image slot))) (2 ^ 32 - 1) (fresh.long_enough slot of_set)
+      (least_is_small table.geometry slot));
 }
   where
     both_most : (n a b : ℕ) → n ≤ a → n ≤ b → n ≤ min a b
@@ -113,10 +117,12 @@ pub makes_fresh : (honest : Type 0) (panel : Panel) (image : Slots) (table : Tab
     → Makes honest table.id table.geometry (fresh_bank panel image) (Opened (fresh_array panel image table))
 makes_fresh honest panel image table fresh true_to = record {
   later = later_same panel;
-  first = λ array is. opened_is (λ a. IsFirstTable table.id table.geometry a.table) (fresh_array panel image table) array is (first_of_fresh panel.devices image table fresh);
+  first = λ array is. opened_is (λ a. IsFirstTable table.id table.geometry a.table) (fresh_array panel image table) array is
+      (first_of_fresh panel.devices image table fresh);
   number = λ array is. opened_is (λ a. a.number ≡ 0) (fresh_array panel image table) array is refl;
   its_slots = λ array is. opened_is (λ a. HasItsSlots a.table a.panel) (fresh_array panel image table) array is (fresh_slots panel image table fresh true_to);
-  rests = λ fair quiet array is. opened_is (λ a. RestsOn a None (zeros_of table.geometry)) (fresh_array panel image table) array is (fresh_rests panel image table fresh);
+  rests = λ fair quiet array is. opened_is (λ a. RestsOn a None (zeros_of table.geometry)) (fresh_array panel image table) array is
+      (fresh_rests panel image table fresh);
   cause = λ bank refusal is. not_returned (IsNoMake table.geometry bank.panel refusal) (fresh_array panel image table) bank refusal is;
 }
 
@@ -138,9 +144,11 @@ pub makes_none_of_few : (honest : Type 0) (id : List ℕ) (geometry : Geometry) 
 makes_none_of_few honest id geometry bank few = makes_none honest id geometry bank BadGeometry few
 
 -- where a slot of the set is down
-pub makes_none_of_down : (honest : Type 0) (id : List ℕ) (geometry : Geometry) (bank : BankView) (slot : ℕ) → slot < geometry.members + 2 → bank.panel.down slot ≡ true
+pub makes_none_of_down : (honest : Type 0) (id : List ℕ) (geometry : Geometry) (bank : BankView) (slot : ℕ) → slot < geometry.members + 2
+    → bank.panel.down slot ≡ true
     → Makes honest id geometry bank (Returned bank NotUsable)
-makes_none_of_down honest id geometry bank slot of_set down = makes_none honest id geometry bank NotUsable record { slot = slot; of_set = of_set; unusable = inl down }
+makes_none_of_down honest id geometry bank slot of_set down =
+    makes_none honest id geometry bank NotUsable record { slot = slot; of_set = of_set; unusable = inl down }
 
 -- ---- assembling
 
@@ -157,15 +165,25 @@ quiet_left h image may d = by_slot (image d) (may d)
     by_slot None is = is
     by_slot (Some disk) is = is
 
-quiet_lost : (slots : ℕ) (before : Option Lost) (h : History) (after : Option Lost) → IsLostAt slots before (After Quiet h) after → IsLostAt slots before h after
+quiet_lost : (slots : ℕ) (before : Option Lost) (h : History) (after : Option Lost) → IsLostAt slots before (After Quiet h) after
+    → IsLostAt slots before h after
 quiet_lost slots None h after (inl none) = inl none
-quiet_lost slots None h after (inr failure) = inr record { slot = failure.slot; of_set = failure.of_set; failed = failure.failed; others = failure.others; lost = failure.lost }
+quiet_lost slots None h after (inr failure) = inr record {
+  slot = failure.slot;
+  of_set = failure.of_set;
+  failed = failure.failed;
+  others =
+      failure.others;
+  lost = failure.lost;
+}
 quiet_lost slots (Some lost) h after is = is
 
-quiet_holds : (base : Table) (devices : ℕ) (lost : Option Lost) (X : List (List Bytes)) (h : History) → HoldsNow base devices lost X h → HoldsNow base devices lost X (After Quiet h)
+quiet_holds : (base : Table) (devices : ℕ) (lost : Option Lost) (X : List (List Bytes)) (h : History) → HoldsNow base devices lost X h
+    → HoldsNow base devices lost X (After Quiet h)
 quiet_holds base devices lost X h now after image is may = now after image (quiet_lost (slots_of base) lost h after is) (quiet_left h image may)
 
-holds_over_reads : (base : Table) (devices : ℕ) (lost : Option Lost) (X : List (List Bytes)) (h : History) (n : ℕ) → HoldsNow base devices lost X h → HoldsNow base devices lost X (reads n h)
+holds_over_reads : (base : Table) (devices : ℕ) (lost : Option Lost) (X : List (List Bytes)) (h : History) (n : ℕ) → HoldsNow base devices lost X h
+    → HoldsNow base devices lost X (reads n h)
 unfolding reads
 holds_over_reads base devices lost X h zero now = now
 holds_over_reads base devices lost X h (suc n) now = quiet_holds base devices lost X (reads n h) (holds_over_reads base devices lost X h n now)
@@ -177,7 +195,8 @@ throughout_reads base devices lost X h zero now = here now
 throughout_reads base devices lost X h (suc n) now =
     then_also Quiet (reads n h) (throughout_reads base devices lost X h n now) (holds_over_reads base devices lost X h (suc n) now)
 
-quiet_each : (devices : ℕ) (table : Table) (h : History) (lost : Option Lost) (P : Slots → Type 0) → InEachImage devices table h lost P → InEachImage devices table (After Quiet h) lost P
+quiet_each : (devices : ℕ) (table : Table) (h : History) (lost : Option Lost) (P : Slots → Type 0) → InEachImage devices table h lost P
+    → InEachImage devices table (After Quiet h) lost P
 quiet_each devices table h lost P each = record {
   whole = λ image may. each.whole image (quiet_left h image may);
   weakened = λ image slot content may out stands. each.weakened image slot content (quiet_left h image may) out stands;
@@ -197,7 +216,8 @@ quiet_settled devices table number h lost V settled = record {
   lost_slot = settled.lost_slot;
 }
 
-settled_over_reads : (devices : ℕ) (table : Table) (number : ℕ) (h : History) (lost : Option Lost) (V : List Bytes) (n : ℕ) → IsSettled devices table number h lost V
+settled_over_reads : (devices : ℕ) (table : Table) (number : ℕ) (h : History) (lost : Option Lost) (V : List Bytes) (n : ℕ)
+    → IsSettled devices table number h lost V
     → IsSettled devices table number (reads n h) lost V
 unfolding reads
 settled_over_reads devices table number h lost V zero settled = settled
@@ -224,7 +244,8 @@ own_rows devices table image fresh = record {
       );
   last = None;
   is_last = λ journal place seal live counts.
-      spellings.zero_no_seal seal (sym (fresh.cleared_seals journal place live.beyond_members live.of_set (omega (arith, counts.belongs.own_place))) ∙ counts.stands);
+      spellings.zero_no_seal seal (sym (fresh.cleared_seals journal place live.beyond_members live.of_set (omega (arith, counts.belongs.own_place)))
+      ∙ counts.stands);
   in_entry = λ row member. refl;
 }
 
@@ -262,8 +283,10 @@ at_rest devices table image n fresh = record {
 }
 
 -- a table that is chosen there, or by which a case holds there, is the set's
-its_table : (base : Table) (devices : ℕ) (table : Table) (image : Slots) (h : History) (lost : Option Lost) (X : List (List Bytes)) → IsAtRest devices table image h → table.id ≡ base.id
-    → (holds : Holds base devices record { image = readable h; lost = lost } X) → (other : Table) → IsChosen base.id devices (readable h) other → other ≡ holds.table
+its_table : (base : Table) (devices : ℕ) (table : Table) (image : Slots) (h : History) (lost : Option Lost) (X : List (List Bytes))
+    → IsAtRest devices table image h → table.id ≡ base.id
+    → (holds : Holds base devices record { image = readable h; lost = lost } X) → (other : Table) → IsChosen base.id devices (readable h) other
+    → other ≡ holds.table
 its_table base devices table image h lost X rest same holds other chosen =
     chosen_is_one devices holds.table X (readable h) holds.whole other
     (subst (λ (i : List ℕ). IsChosen i devices (readable h) other) (sym holds.not_older.same_id) chosen)
@@ -271,13 +294,15 @@ its_table base devices table image h lost X rest same holds other chosen =
 chosen_there : (devices : ℕ) (table : Table) (image : Slots) (h : History) → IsAtRest devices table image h → IsChosen table.id devices (readable h) table
 chosen_there devices table image h rest = rest.settled.chosen.whole (readable h) (readable_left h)
 
-chosen_is_its : (devices : ℕ) (table : Table) (image : Slots) (h : History) → IsAtRest devices table image h → (other : Table) → IsChosen table.id devices (readable h) other → other ≡ table
+chosen_is_its : (devices : ℕ) (table : Table) (image : Slots) (h : History) → IsAtRest devices table image h → (other : Table)
+    → IsChosen table.id devices (readable h) other → other ≡ table
 chosen_is_its devices table image h rest other chosen =
     let holds = rest.settled.holds (readable h) (readable_left h) in
     its_table table devices table image h None (zeros_of table.geometry ∷ []) rest refl holds other chosen
     ∙ sym (its_table table devices table image h None (zeros_of table.geometry ∷ []) rest refl holds table (chosen_there devices table image h rest))
 
-zeros_among : (base : Table) (devices : ℕ) (table : Table) (image : Slots) (h : History) (lost : Option Lost) (X : List (List Bytes)) → IsAtRest devices table image h → table.id ≡ base.id
+zeros_among : (base : Table) (devices : ℕ) (table : Table) (image : Slots) (h : History) (lost : Option Lost) (X : List (List Bytes))
+    → IsAtRest devices table image h → table.id ≡ base.id
     → Holds base devices record { image = readable h; lost = lost } X → Contains X (zeros_of table.geometry)
 zeros_among base devices table image h lost X rest same holds =
     let is : table ≡ holds.table = its_table base devices table image h lost X rest same holds table
@@ -291,8 +316,10 @@ zeros_among base devices table image h lost X rest same holds =
 abbrev array_after : Panel → History → Table → ArrayView
 array_after panel h table = record { panel = panel; history = h; table = table; number = 0 }
 
-opens_on_one : (base : Table) (panel : Panel) (table : Table) (image : Slots) (n : ℕ) (now : Panel) (lost : Option Lost) (X : List (List Bytes)) → now.devices ≡ panel.devices
-    → IsFresh panel.devices table image → table.id ≡ base.id → MayAssemble base lost X (fresh_bank panel image) → IsSingleFailure (slots_of base) lost (reads n (Began image))
+opens_on_one : (base : Table) (panel : Panel) (table : Table) (image : Slots) (n : ℕ) (now : Panel) (lost : Option Lost) (X : List (List Bytes))
+    → now.devices ≡ panel.devices
+    → IsFresh panel.devices table image → table.id ≡ base.id → MayAssemble base lost X (fresh_bank panel image)
+    → IsSingleFailure (slots_of base) lost (reads n (Began image))
     → OpensOnOne base lost X (array_after now (reads n (Began image)) table)
 opens_on_one base panel table image n now lost X same_devices fresh same may one =
     let h = reads n (Began image) in
@@ -327,7 +354,8 @@ has_its_states panel now table image n fresh =
     }
 
 -- A set that was just made, and is at rest, is assembled by so many reads: with its own table and no entry, and nothing is written.
-pub assembles_fresh : (honest : Type 0) (panel now : Panel) (image : Slots) (table : Table) (n : ℕ) → IsFresh panel.devices table image → IsTrueTo panel (Began image)
+pub assembles_fresh : (honest : Type 0) (panel now : Panel) (image : Slots) (table : Table) (n : ℕ) → IsFresh panel.devices table image
+    → IsTrueTo panel (Began image)
     → IsLater panel now → Assembles honest table.id (fresh_bank panel image) (Opened (array_after now (reads n (Began image)) table))
 unfolding reads
 assembles_fresh honest panel now image table n fresh true_to later =
@@ -336,7 +364,8 @@ assembles_fresh honest panel now image table n fresh true_to later =
     record {
       later = later;
       of_id = λ array is. opened_is (λ a. a.table.id ≡ table.id) given array is refl;
-      its_slots = λ array is. opened_is (λ a. HasItsSlots a.table a.panel) given array is (its_slots_later table panel now later (fresh_slots panel image table fresh true_to));
+      its_slots = λ array is. opened_is (λ a. HasItsSlots a.table a.panel) given array is
+          (its_slots_later table panel now later (fresh_slots panel image table fresh true_to));
       moments = λ fair base lost X same may. throughout_reads base panel.devices lost X (Began image) n may.holds;
       rests = λ fair base lost X same may array is one.
           opened_is (λ a. IsSingleFailure (slots_of base) lost a.history → OpensOnOne base lost X a) given array is
@@ -379,7 +408,8 @@ assembles_refused honest id bank now n refusal later listed because = record {
 }
 
 -- where no superblock of the set counts, there is no set
-pub assembles_none : (honest : Type 0) (id : List ℕ) (bank : BankView) (now : Panel) (n : ℕ) → ((slot : ℕ) → HasNone id bank.panel.devices slot (readable bank.history slot))
+pub assembles_none : (honest : Type 0) (id : List ℕ) (bank : BankView) (now : Panel) (n : ℕ)
+    → ((slot : ℕ) → HasNone id bank.panel.devices slot (readable bank.history slot))
     → IsLater bank.panel now → Assembles honest id bank (Returned (given_back bank now n) NoSet)
 assembles_none honest id bank now n none later = assembles_refused honest id bank now n NoSet later tt (none_now, reads_read bank.history n)
   where
@@ -388,7 +418,8 @@ assembles_none honest id bank now n none later = assembles_refused honest id ban
         (subst (λ (i : Slots). HasNone id bank.panel.devices slot (i slot)) (sym (readable_over_reads bank.history n)) (none slot))
 
 -- where two slots of the set are not in full, by the table that is chosen, two are lost, and nothing was written
-pub assembles_two_lost : (honest : Type 0) (id : List ℕ) (bank : BankView) (table : Table) (first second : ℕ) → IsChosen id bank.panel.devices (readable bank.history) table
+pub assembles_two_lost : (honest : Type 0) (id : List ℕ) (bank : BankView) (table : Table) (first second : ℕ)
+    → IsChosen id bank.panel.devices (readable bank.history) table
     → first ≢ second → first < slots_of table → second < slots_of table
     → ¬ IsInFull bank.panel.devices table first (readable bank.history first) → ¬ IsInFull bank.panel.devices table second (readable bank.history second)
     → Assembles honest id bank (Returned (given_back bank bank.panel 0) TwoLost)

@@ -42,10 +42,12 @@ flags_differ e = cc
 -- what is known
 
 -- the last seals that are known, and one more
-pub in_known : (known : Known) (journal k : ℕ) (last one : Option Seal) → also_known known journal last k ≡ Some one → ((k ≡ journal) × (one ≡ last)) ⊎ ((k ≢ journal) × (known k ≡ Some one))
+pub in_known : (known : Known) (journal k : ℕ) (last one : Option Seal) → also_known known journal last k ≡ Some one → ((k ≡ journal) × (one ≡ last))
+    ⊎ ((k ≢ journal) × (known k ≡ Some one))
 in_known known journal k last one is = by_test (k == journal) refl is
   where
-    by_test : (b : Bool) → (k == journal) ≡ b → (if b then Some last else known k) ≡ Some one → ((k ≡ journal) × (one ≡ last)) ⊎ ((k ≢ journal) × (known k ≡ Some one))
+    by_test : (b : Bool) → (k == journal) ≡ b → (if b then Some last else known k) ≡ Some one → ((k ≡ journal) × (one ≡ last))
+        ⊎ ((k ≢ journal) × (known k ≡ Some one))
     by_test true here so = inl (eqb-true k journal here, sym (same_Some last one so))
     by_test false beside so = inr ((λ same. false≢true (sym beside ∙ eq-eqb k journal same)), so)
 
@@ -71,13 +73,15 @@ module _ (slot : ℕ) (table new_table : Table) (old new : History) (over : IsRe
   pub last_stays : (journal : ℕ) (last : Option Seal) → CountsOn new_table journal → HasLast table old journal last → HasLast new_table new journal last
   last_stays journal last on has =
       subst₂ (λ (id : List ℕ) (g : Geometry). IsLastSealed id g (Some (seen new journal)) last) (sym over.goes.same_id) (sym over.goes.same_geometry)
-      (same_sealed table.id table.geometry (Some (seen new journal)) (Some (seen old journal)) (λ place below. over.same journal (FIRST_SEAL + place) on (omega arith)) last has)
+      (same_sealed table.id table.geometry (Some (seen new journal)) (Some (seen old journal))
+      (λ place below. over.same journal (FIRST_SEAL + place) on (omega arith)) last has)
 
   pub knows_still : (known : Known) (from : PutsFrom) → KnowsSeals known from table old → MayWrite from new_table new → KnowsSeals known from new_table new
   knows_still known from knows writes = record { writes = writes; last = λ k one is on. last_stays k one on.counted (knows.last k one is (was_on k on)) }
 
 -- where the journal that has the last entry is gone, the last seals are what stands beside
-pub beside_left : (latest : Latest) (from : PutsFrom) (table new_table : Table) (old new : History) → IsReadOver latest.source table new_table old new → ¬ CountsOn new_table latest.source
+pub beside_left : (latest : Latest) (from : PutsFrom) (table new_table : Table) (old new : History) → IsReadOver latest.source table new_table old new
+    → ¬ CountsOn new_table latest.source
     → IsLatestOn latest from table old → MayWrite from new_table new → AllHaveLast latest.beside from new_table new
 beside_left latest from table new_table old new over out is writes = record {
   writes = writes;
@@ -86,7 +90,8 @@ beside_left latest from table new_table old new over out is writes = record {
 }
 
 -- and the last entry is still that while it is read
-pub latest_still : (latest : Latest) (from : PutsFrom) (table : Table) (old new : History) → IsReadOver latest.source table table old new → IsJournalOn table latest.source
+pub latest_still : (latest : Latest) (from : PutsFrom) (table : Table) (old new : History) → IsReadOver latest.source table table old new
+    → IsJournalOn table latest.source
     → IsLatestOn latest from table old → MayWrite from table new → IsLatestOn latest from table new
 latest_still latest from table old new over source is writes = record {
   writes = writes;
@@ -96,8 +101,10 @@ latest_still latest from table old new over source is writes = record {
 
 -- reads of a journal on which the table counts
 
-module _ (spellings : Spellings) (honest : Type 0) (before after : PutsFrom → Table → History → Type 0) (writes : (from : PutsFrom) (t : Table) (h : History) → before from t h → MayWrite from t h)
-    (journal number : ℕ) (table : Table) (old_panel mid_panel : Panel) (old mid : History) (counted : CountsOn table journal) (later : IsLater old_panel mid_panel)
+module _ (spellings : Spellings) (honest : Type 0) (before after : PutsFrom → Table → History → Type 0)
+    (writes : (from : PutsFrom) (t : Table) (h : History) → before from t h → MayWrite from t h)
+    (journal number : ℕ) (table : Table) (old_panel mid_panel : Panel) (old mid : History) (counted : CountsOn table journal)
+    (later : IsLater old_panel mid_panel)
     (read : honest → HasRead old mid) (others : (other : ℕ) → honest → other ≢ journal → is_down mid other ≡ is_down old other)
     (true_old : honest → IsTrueTo old_panel old) (true_mid : honest → IsTrueTo mid_panel mid) where
   abbrev Was : ArrayView
@@ -108,19 +115,22 @@ module _ (spellings : Spellings) (honest : Type 0) (before after : PutsFrom → 
 
   -- They were answered.
   module _ (stay : honest → (device : ℕ) → is_down mid device ≡ is_down old device)
-      (follows : honest → (from : PutsFrom) → IsSingleFailure (slots_of from.base) from.lost mid → before from table old → IsRead journal table old from table mid → after from table mid) where
+      (follows : honest → (from : PutsFrom) → IsSingleFailure (slots_of from.base) from.lost mid → before from table old
+      → IsRead journal table old from table mid → after from table mid) where
     part : honest → (from : PutsFrom) → before from table old → IsPartOf (IsRead journal table old) from journal table old mid true
     part fair from is = read_part spellings journal table old mid counted (off fair) (read fair) true (λ all. stay fair) from (writes from table old is)
 
     none_failed : honest → (slot : ℕ) → ¬ DeviceFailed slot old_panel mid_panel
-    none_failed fair slot failed = flags_differ (sym failed.is_down ∙ (true_mid fair).down slot ∙ stay fair slot ∙ sym ((true_old fair).down slot) ∙ failed.was_up)
+    none_failed fair slot failed = flags_differ (sym failed.is_down ∙ (true_mid fair).down slot ∙ stay fair slot ∙ sym ((true_old fair).down slot)
+        ∙ failed.was_up)
 
     pub read_done : Brings honest before after Was (view_of mid_panel mid table number) (Ok tt)
     read_done = record {
       goes_on = goes_on_later old_panel mid_panel old mid table number later;
       stays = record { table = inl refl; failure = λ fair goes slot of_set failed. absurd (none_failed fair slot failed) };
       number = refl;
-      moments = λ fair from at. throughout_if_lost from.base from.devices from.lost from.lists old mid (reads_run (read fair)) (λ was lost_at. (part fair from (at (was, lost_at))).moments);
+      moments = λ fair from at. throughout_if_lost from.base from.devices from.lost from.lists old mid (reads_run (read fair))
+          (λ was lost_at. (part fair from (at (was, lost_at))).moments);
       reached = λ fair ok from at loss.
           let is = at (single_failure_before (slots_of from.base) from.lost old mid (reads_run (read fair)) loss) in
           follows fair from loss is ((part fair from is).done refl);
@@ -130,7 +140,8 @@ module _ (spellings : Spellings) (honest : Type 0) (before after : PutsFrom → 
     }
 
   -- One was not, and that was taken over.
-  module _ (why : Stop) (ends : IsCauseOf mid_panel why × ((why ≡ stop.Worn) ⊎ (why ≡ stop.Down journal))) (new_panel : Panel) (new_table : Table) (new : History) (answer : Answer)
+  module _ (why : Stop) (ends : IsCauseOf mid_panel why × ((why ≡ stop.Worn) ⊎ (why ≡ stop.Down journal))) (new_panel : Panel) (new_table : Table)
+      (new : History) (answer : Answer)
       (still : Type 0) (more : honest → still) (true_new : honest → IsTrueTo new_panel new) (its_slots : HasItsSlots table old_panel)
       (taken : EndsOrFailsSlot still journal mid_panel new_panel table new_table mid new (Err why) answer) where
     calls : CallsOne honest journal old_panel mid_panel old mid (Err why)
@@ -149,11 +160,13 @@ module _ (spellings : Spellings) (honest : Type 0) (before after : PutsFrom → 
         of_journal other same (inr named) = cc
 
     steps : Brings honest MayWrite (IsRead journal table old) Was (view_of new_panel new new_table number) answer
-    steps = read_brings spellings honest journal number table new_table old_panel mid_panel new_panel old mid new (Err why) answer still more true_old true_mid true_new its_slots counted calls read taken
+    steps = read_brings spellings honest journal number table new_table old_panel mid_panel new_panel old mid new (Err why) answer still more true_old true_mid
+        true_new its_slots counted calls read taken
 
     pub read_failed : (answer ≡ Ok tt → (from : PutsFrom) → before from table old → IsRead journal table old from new_table new → after from new_table new)
         → Brings honest before after Was (view_of new_panel new new_table number) answer
-    read_failed follows = steps_more honest HoldsAll (IfSingleFailure MayWrite) (IfSingleFailure before) (IfSingleFailure (IsRead journal table old)) (IfSingleFailure after) Was (view_of new_panel new new_table number) answer
+    read_failed follows = steps_more honest HoldsAll (IfSingleFailure MayWrite) (IfSingleFailure before) (IfSingleFailure (IsRead journal table old))
+        (IfSingleFailure after) Was (view_of new_panel new new_table number) answer
         (λ from at loss. writes from table old (at loss))
         (λ fair ok from at is loss. follows ok from (at (single_failure_before (slots_of from.base) from.lost old new (steps.runs fair) loss)) (is loss))
         steps

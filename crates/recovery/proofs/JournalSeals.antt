@@ -41,7 +41,8 @@ kept_read old device at = record { keeps = λ answered h before. step answered h
     step false h before = fault (is_down h device) h before
 
 -- two reads of a device
-pub two_reads : {device first second : ℕ} {answered : Bool} {old new : History} → Made (Read device first ∷ Read device second ∷ []) answered old new → HasRead old new
+pub two_reads : {device first second : ℕ} {answered : Bool} {old new : History} → Made (Read device first ∷ Read device second ∷ []) answered old new
+    → HasRead old new
 two_reads {device = device} {first = first} {second = second} {old = old} {new = new} made =
     throughout_last new (throughout_kept (λ h. HasRead old h) (kept_read old device first, (kept_read old device second, tt)) (read_none old) made)
 
@@ -64,32 +65,43 @@ module _ (spellings : Spellings) (honest : Type 0) (known : Known) (journal numb
       (λ from loss knows. (knows.writes, knows_more known journal None from table old knows (λ on. absurd (on.counted.there missing))))
 
   module _ (mid_panel : Panel) (mid : History) (counted : CountsOn table journal) (later : IsLater old_panel mid_panel) (answered : Bool)
-      (made : honest → Made (Read journal FIRST_SEAL ∷ Read journal (FIRST_SEAL + 1) ∷ []) answered old mid) (true_old : honest → IsTrueTo old_panel old) (true_mid : honest → IsTrueTo mid_panel mid) where
+      (made : honest → Made (Read journal FIRST_SEAL ∷ Read journal (FIRST_SEAL + 1) ∷ []) answered old mid) (true_old : honest → IsTrueTo old_panel old)
+      (true_mid : honest → IsTrueTo mid_panel mid) where
     abbrev before : PutsFrom → Table → History → Type 0
     before = KnowsSeals known
 
     -- it was read
-    pub seal_found : answered ≡ true → (last : Option Seal) → (honest → HasLast table old journal last) → FindsSeal (view_of mid_panel mid table number) (Ok last)
-    seal_found all last has = read_done spellings honest before (KnowsSeals (also_known known journal last)) (λ from t h knows. knows.writes) journal number table old_panel mid_panel old mid counted later
+    pub seal_found : answered ≡ true → (last : Option Seal) → (honest → HasLast table old journal last)
+        → FindsSeal (view_of mid_panel mid table number) (Ok last)
+    seal_found all last has = read_done spellings honest before (KnowsSeals (also_known known journal last)) (λ from t h knows. knows.writes) journal number
+        table old_panel mid_panel old mid counted later
         (λ fair. two_reads (made fair)) (λ other fair. two_reads_beside (made fair) other) true_old true_mid
         (λ fair. made_down (subst (λ (b : Bool). Made (Read journal FIRST_SEAL ∷ Read journal (FIRST_SEAL + 1) ∷ []) b old mid) all (made fair)))
         (λ fair from loss knows is. knows_more known journal last from table mid (knows_still journal table table old mid is.1 known from knows is.0)
         (λ on. last_stays journal table table old mid is.1 journal last on.counted (has fair)))
 
     -- the journal failed, and that was taken over: it is marked missing, or that was refused
-    module _ (why : Stop) (ends : IsCauseOf mid_panel why × ((why ≡ stop.Worn) ⊎ (why ≡ stop.Down journal))) (new_panel : Panel) (new_table : Table) (new : History)
+    module _ (why : Stop) (ends : IsCauseOf mid_panel why × ((why ≡ stop.Worn) ⊎ (why ≡ stop.Down journal))) (new_panel : Panel) (new_table : Table)
+        (new : History)
         (still : Type 0) (more : honest → still) (true_new : honest → IsTrueTo new_panel new) (its_slots : HasItsSlots table old_panel) where
       failed : (answer : Answer) → EndsOrFailsSlot still journal mid_panel new_panel table new_table mid new (Err why) answer
           → Brings honest before (KnowsSeals (also_known known journal None)) Was (view_of new_panel new new_table number) answer
-      failed answer taken = read_failed spellings honest before (KnowsSeals (also_known known journal None)) (λ from t h knows. knows.writes) journal number table old_panel mid_panel old mid counted later
-          (λ fair. two_reads (made fair)) (λ other fair. two_reads_beside (made fair) other) true_old true_mid why ends new_panel new_table new answer still more true_new its_slots taken
+      failed answer taken = read_failed spellings honest before (KnowsSeals (also_known known journal None)) (λ from t h knows. knows.writes) journal number
+          table old_panel mid_panel old mid counted later
+          (λ fair. two_reads (made fair)) (λ other fair. two_reads_beside (made fair) other) true_old true_mid why ends new_panel new_table new answer still
+          more true_new its_slots taken
           (λ ok from knows is. knows_more known journal None from new_table new (knows_still journal table new_table old new is.1 known from knows is.0)
-          (λ on. absurd (gone_then still journal mid_panel new_panel table new_table mid new why counted (subst (EndsOrFailsSlot still journal mid_panel new_panel table new_table mid new (Err why)) ok taken) on.counted)))
+          (λ on. absurd (gone_then still journal mid_panel new_panel table new_table mid new why counted
+          (subst (EndsOrFailsSlot still journal mid_panel new_panel table new_table mid new (Err why)) ok taken) on.counted)))
 
-      pub seal_marked : (answer : Answer) → answer ≡ Ok tt → EndsOrFailsSlot still journal mid_panel new_panel table new_table mid new (Err why) answer → FindsSeal (view_of new_panel new new_table number) (Ok None)
-      seal_marked answer ok taken = subst (Brings honest before (KnowsSeals (also_known known journal None)) Was (view_of new_panel new new_table number)) ok (failed answer taken)
+      pub seal_marked : (answer : Answer) → answer ≡ Ok tt → EndsOrFailsSlot still journal mid_panel new_panel table new_table mid new (Err why) answer
+          → FindsSeal (view_of new_panel new new_table number) (Ok None)
+      seal_marked answer ok taken = subst (Brings honest before (KnowsSeals (also_known known journal None)) Was (view_of new_panel new new_table number)) ok
+          (failed answer taken)
 
-      pub seal_refused : (refusal : Refusal) (answer : Answer) → answer ≡ Err refusal → EndsOrFailsSlot still journal mid_panel new_panel table new_table mid new (Err why) answer
+      pub seal_refused : (refusal : Refusal) (answer : Answer) → answer ≡ Err refusal
+          → EndsOrFailsSlot still journal mid_panel new_panel table new_table mid new (Err why) answer
           → FindsSeal (view_of new_panel new new_table number) (Err refusal)
-      seal_refused refusal answer is taken = steps_refused honest HoldsAll (IfSingleFailure before) (IfSingleFailure (KnowsSeals (also_known known journal None))) _ Was (view_of new_panel new new_table number) refusal
+      seal_refused refusal answer is taken = steps_refused honest HoldsAll (IfSingleFailure before)
+          (IfSingleFailure (KnowsSeals (also_known known journal None))) _ Was (view_of new_panel new new_table number) refusal
           (subst (Brings honest before (KnowsSeals (also_known known journal None)) Was (view_of new_panel new new_table number)) is (failed answer taken))

@@ -1,5 +1,6 @@
 -- What the last seals of both journals say of the set's last entry.
-use Rattle.std.proofs.Common.{◌≡◌, inl, inr, ℕ, zero, suc, ◌+◌, ◌-◌, ◌<◌, ◌≤◌, ◌==◌, Bool, true, false, List, [], length, Option, Some, None, refl, sym, ◌∙◌, ap, subst, subst₂, arith}
+use Rattle.std.proofs.Common.{◌≡◌, inl, inr, ℕ, zero, suc, ◌+◌, ◌-◌, ◌<◌, ◌≤◌, ◌==◌, Bool, true, false, List, [], length, Option, Some, None, refl, sym, ◌∙◌}
+use Rattle.std.proofs.Common.{ap, subst, subst₂, arith}
 use Rattle.std.specs.Prelude.{slice_index_or}
 use Rattle.std.proofs.lemmas.Bool.{cases_lt, eqb-true, eq-eqb, false≢true}
 use Rattle.std.proofs.lemmas.List.FromFn.{fill_by_all, get_or-map-range_with_len, length-map-range_with_len}
@@ -86,8 +87,10 @@ size members seal = held_before members seal.form (length seal.rows.items)
 length-body_in : (members : ℕ) (disk : List Bytes) (seal : Seal) → length (body_in members disk seal) ≡ size members seal
 length-body_in members disk seal = length-map-range_with_len (λ i. sector_of disk (body_start seal.number + i)) 0 (size members seal)
 
-body_in_at : (members : ℕ) (disk : List Bytes) (seal : Seal) (k : ℕ) → k < size members seal → slice_index_or (body_in members disk seal) k [] ≡ sector_of disk (body_start seal.number + k)
-body_in_at members disk seal k below = get_or-map-range_with_len (λ i. sector_of disk (body_start seal.number + i)) 0 (size members seal) k k [] below (omega arith)
+body_in_at : (members : ℕ) (disk : List Bytes) (seal : Seal) (k : ℕ) → k < size members seal
+    → slice_index_or (body_in members disk seal) k [] ≡ sector_of disk (body_start seal.number + k)
+body_in_at members disk seal k below = get_or-map-range_with_len (λ i. sector_of disk (body_start seal.number + i)) 0 (size members seal) k k [] below
+    (omega arith)
 
 -- the entry in memory, whose sectors are those of a journal, has the body that reads of it give
 pub body_loaded : (members : ℕ) (entry : Entry) (disk : List Bytes) (seal : Seal) → members ≤ MOST_MEMBERS → IsEntryOf members seal entry
@@ -95,29 +98,35 @@ pub body_loaded : (members : ℕ) (entry : Entry) (disk : List Bytes) (seal : Se
     → sector_at entry i member ≡ sector_of disk (body_start seal.number + rank members seal.form i member))
     → body_of members entry ≡ body_in members disk seal
 body_loaded members entry disk seal few is loaded =
-    fill_by_all (λ k. sector_of disk (body_start seal.number + k)) (body_of members entry) (size members seal) [] (length_of_seal members seal entry few is) each
+    fill_by_all (λ k. sector_of disk (body_start seal.number + k)) (body_of members entry) (size members seal) [] (length_of_seal members seal entry few is)
+    each
   where
     each : (k : ℕ) → k < size members seal → slice_index_or (body_of members entry) k [] ≡ sector_of disk (body_start seal.number + k)
     each k below =
         let at : IsPlaceOf members seal.form (length seal.rows.items) k = place_of members seal.form (length seal.rows.items) k below in
-        let same : rank members (form_of entry) at.row at.member ≡ rank members seal.form at.row at.member = rank_of_seal members seal entry few is at.row at.member at.of_rows at.of_members in
+        let same : rank members (form_of entry) at.row at.member ≡ rank members seal.form at.row at.member =
+        rank_of_seal members seal entry few is at.row at.member at.of_rows at.of_members in
         ap (λ (n : ℕ). slice_index_or (body_of members entry) n []) (sym (same ∙ at.is))
-        ∙ body_at members entry at.row at.member few (subst (λ (rows : List ℕ). at.row < length rows) (sym is.rows) at.of_rows) at.of_members (is.held at.row at.member at.of_rows at.of_members ∙ at.held)
+        ∙ body_at members entry at.row at.member few (subst (λ (rows : List ℕ). at.row < length rows) (sym is.rows) at.of_rows) at.of_members
+        (is.held at.row at.member at.of_rows at.of_members ∙ at.held)
         ∙ loaded at.row at.member at.of_rows at.of_members at.held
         ∙ ap (λ (n : ℕ). sector_of disk (body_start seal.number + n)) at.is
 
 -- a journal has the entry of its last seal, with the body that reads give
-has_its_own : (id : List ℕ) (geometry : Geometry) (members : ℕ) (disk : List Bytes) (seal : Seal) → IsGreatest id geometry (Some disk) seal → HasThisEntry id geometry disk seal (body_in members disk seal)
+has_its_own : (id : List ℕ) (geometry : Geometry) (members : ℕ) (disk : List Bytes) (seal : Seal) → IsGreatest id geometry (Some disk) seal
+    → HasThisEntry id geometry disk seal (body_in members disk seal)
 has_its_own id geometry members disk seal is = record {
   last = is;
   has_body = λ k within. sym (body_in_at members disk seal k (omega (arith, within, length-body_in members disk seal)));
 }
 
 -- where two journals have equal bodies of an entry, the one has the body of the other
-same_sector : (members : ℕ) (first second : List Bytes) (seal : Seal) → HaveEqualBodies members (Some first) (Some second) seal → (k : ℕ) → k < size members seal
+same_sector : (members : ℕ) (first second : List Bytes) (seal : Seal) → HaveEqualBodies members (Some first) (Some second) seal → (k : ℕ)
+    → k < size members seal
     → sector_of second (body_start seal.number + k) ≡ sector_of first (body_start seal.number + k)
 same_sector members first second seal equal k below =
-    sym (at_place second) ∙ same_Some (stands second) (stands first) (sym (found second) ∙ sym (equal (row_at seal.rows.items at.row) at.member at.of_members) ∙ found first) ∙ at_place first
+    sym (at_place second) ∙ same_Some (stands second) (stands first) (sym (found second) ∙ sym (equal (row_at seal.rows.items at.row) at.member at.of_members)
+    ∙ found first) ∙ at_place first
   where
     at : IsPlaceOf members seal.form (length seal.rows.items) k
     at = place_of members seal.form (length seal.rows.items) k below
@@ -126,12 +135,14 @@ same_sector members first second seal equal k below =
     stands disk = sector_of disk (body_start seal.number + rank members seal.form at.row at.member)
 
     found : (disk : List Bytes) → sector_in members (Some disk) seal (row_at seal.rows.items at.row) at.member ≡ Some (stands disk)
-    found disk = sector_held members (Some disk) seal (row_at seal.rows.items at.row) at.row at.member (place_of_row seal.rows.items at.row seal.allowed.rising at.of_rows) at.held
+    found disk = sector_held members (Some disk) seal (row_at seal.rows.items at.row) at.row at.member
+        (place_of_row seal.rows.items at.row seal.allowed.rising at.of_rows) at.held
 
     at_place : (disk : List Bytes) → stands disk ≡ sector_of disk (body_start seal.number + k)
     at_place disk = ap (λ (n : ℕ). sector_of disk (body_start seal.number + n)) at.is
 
-has_the_same : (id : List ℕ) (geometry : Geometry) (members : ℕ) (first second : List Bytes) (seal : Seal) → HaveEqualBodies members (Some first) (Some second) seal → IsGreatest id geometry (Some second) seal
+has_the_same : (id : List ℕ) (geometry : Geometry) (members : ℕ) (first second : List Bytes) (seal : Seal)
+    → HaveEqualBodies members (Some first) (Some second) seal → IsGreatest id geometry (Some second) seal
     → HasThisEntry id geometry second seal (body_in members first seal)
 has_the_same id geometry members first second seal equal is = record {
   last = is;
@@ -141,7 +152,8 @@ has_the_same id geometry members first second seal equal is = record {
 }
 
 -- How far the last entry is on each journal, by the last seals.
-module _ (spellings : Spellings) (from : PutsFrom) (table : Table) (h : History) (loss : IsSingleFailure (slots_of from.base) from.lost h) (latest : Latest) (of_set : IsLatestOf table latest)
+module _ (spellings : Spellings) (from : PutsFrom) (table : Table) (h : History) (loss : IsSingleFailure (slots_of from.base) from.lost h) (latest : Latest)
+    (of_set : IsLatestOf table latest)
     (is : IsLatestOn latest from table h) where
   abbrev members : ℕ
   members = table.geometry.members
@@ -164,7 +176,8 @@ module _ (spellings : Spellings) (from : PutsFrom) (table : Table) (h : History)
   live journal on = record { beyond_members = on.beyond; of_set = on.counted.of_set; live = is.writes.there journal on.counted.of_set on.counted.there }
 
   -- a journal on which the table counts is in step with the one that has the entry
-  in_step : (journal : ℕ) (last : Option Seal) → IsJournalOn table journal → HasLast table h journal last → AreInStep members (Some (seen h latest.source)) (Some (seen h journal)) (Some seal) last
+  in_step : (journal : ℕ) (last : Option Seal) → IsJournalOn table journal → HasLast table h journal last
+      → AreInStep members (Some (seen h latest.source)) (Some (seen h journal)) (Some seal) last
   in_step journal last on has =
       subst₂ (λ (c d : Content). AreInStep members c d (Some seal) last) (read latest.source of_set.source.counted) (read journal on.counted)
       (holds_now.in_step latest.source journal (Some seal) last (live latest.source of_set.source) (live journal on)
@@ -206,7 +219,8 @@ module _ (spellings : Spellings) (from : PutsFrom) (table : Table) (h : History)
     on_journals = λ journal beyond counted.
         let on : IsJournalOn table journal = record { beyond = beyond; counted = counted } in
         on_reached (λ k. progress_beside (is_on_both latest)) latest.source journal HasSeal (λ (p : Progress). IsAt p table h journal seal body)
-        (λ same. subst (λ (k : ℕ). HasThisEntry table.id table.geometry (seen h k) seal body) (sym same) (has_its_own table.id table.geometry members (seen h latest.source) seal is.source))
+        (λ same. subst (λ (k : ℕ). HasThisEntry table.id table.geometry (seen h k) seal body) (sym same)
+        (has_its_own table.id table.geometry members (seen h latest.source) seal is.source))
         (λ apart. at_other journal on latest.beside (is.beside journal on apart) (λ other some. (of_set.beside other some).not_later));
     may_stand = record {
       source = latest.source;
@@ -217,12 +231,14 @@ module _ (spellings : Spellings) (from : PutsFrom) (table : Table) (h : History)
   }
 
 -- An entry that has its seal on each journal is safe there.
-pub safe_on_all : (seal : Seal) (body : List Bytes) (journals : ℕ → Progress) (from : PutsFrom) (table : Table) (h : History) → IsComing Copied seal body journals from table h
+pub safe_on_all : (seal : Seal) (body : List Bytes) (journals : ℕ → Progress) (from : PutsFrom) (table : Table) (h : History)
+    → IsComing Copied seal body journals from table h
     → ((journal : ℕ) → IsJournalOn table journal → journals journal ≡ HasSeal) → IsPutBefore 0 seal body from table h
 safe_on_all seal body journals from table h is sealed = record {
   writes = is.writes;
   long = is.long;
-  on_journals = λ journal beyond counted. subst (λ (p : Progress). IsAt p table h journal seal body) (sealed journal record { beyond = beyond; counted = counted }) (is.on_journals journal beyond counted);
+  on_journals = λ journal beyond counted. subst (λ (p : Progress). IsAt p table h journal seal body)
+      (sealed journal record { beyond = beyond; counted = counted }) (is.on_journals journal beyond counted);
   on_members = λ member i below. absurd (omega (arith, below));
 }
 

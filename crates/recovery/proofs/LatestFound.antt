@@ -1,5 +1,6 @@
 -- The last entry that was found: whose it is, on which journals it stands, and which entry is the last where its journal is gone.
-use Rattle.std.proofs.Common.{◌≡◌, ◌≢◌, ◌⊎◌, inl, inr, ℕ, ◌+◌, ◌%◌, ◌<◌, ◌≤◌, ◌==◌, Bool, true, false, Option, Some, None, refl, sym, ◌∙◌, ap, subst, subst₂, arith}
+use Rattle.std.proofs.Common.{◌≡◌, ◌≢◌, ◌⊎◌, inl, inr, ℕ, ◌+◌, ◌%◌, ◌<◌, ◌≤◌, ◌==◌, Bool, true, false, Option, Some, None, refl, sym, ◌∙◌, ap, subst, subst₂}
+use Rattle.std.proofs.Common.{arith}
 use Rattle.std.specs.Prelude.{IfSome, List, if◌then◌else◌}
 use Rattle.std.proofs.lemmas.Bool.{cases_lt, eq-eqb, eqb-true, false≢true}
 use Rattle.sector_model.specs.History.{History}
@@ -19,7 +20,8 @@ use Rattle.array_io.proofs.Commits.EntryCopied.{two_journals}
 use Rattle.array_io.proofs.Commits.PuttingStates.{on_reached, reached_beside}
 use Rattle.array_io.proofs.Marks.MarkingHolds.{missing_then, state_stays}
 use Rattle.recovery.specs.declared.latest.Latest.{Latest}
-use Rattle.recovery.specs.Replaying.{AllHaveLast, HasLast, IsFoundOn, IsJournalOn, IsStaleJournal, IsLatestBeside, IsLatestBy, IsLatestOf, IsLatestOn, IsOtherJournal, IsSealOf, Known, KnowsSeals, also_known, is_on_both, progress_beside, progress_of}
+use Rattle.recovery.specs.Replaying.{AllHaveLast, HasLast, IsFoundOn, IsJournalOn, IsStaleJournal, IsLatestBeside, IsLatestBy, IsLatestOf, IsLatestOn}
+use Rattle.recovery.specs.Replaying.{IsOtherJournal, IsSealOf, Known, KnowsSeals, also_known, is_on_both, progress_beside, progress_of}
 
 states_differ : ¬ (Missing ≡ InSync)
 states_differ e = cc
@@ -29,7 +31,8 @@ abbrev IsJournalOf : Table → ℕ → Type 0
 IsJournalOf table journal = (table.geometry.members ≤ journal) × (journal < slots_of table)
 
 -- a journal of the set is the one or the other
-one_of_two : (table : Table) (journal first second : ℕ) → IsJournalOf table journal → IsJournalOf table first → IsJournalOf table second → first ≢ second → (journal ≡ first) ⊎ (journal ≡ second)
+one_of_two : (table : Table) (journal first second : ℕ) → IsJournalOf table journal → IsJournalOf table first → IsJournalOf table second → first ≢ second
+    → (journal ≡ first) ⊎ (journal ≡ second)
 one_of_two table journal first second (beyond, of_set) (beyond', of_set') (beyond'', of_set'') apart =
     two_journals table.geometry.members journal first second beyond of_set beyond' of_set' beyond'' of_set'' apart
 
@@ -52,8 +55,10 @@ known_beside known journal k last apart = by_test (k == journal) refl
     by_test false differ = refl
 
 -- An entry by the last seals of its journal and the other one.
-module _ (table : Table) (latest : Latest) (source other : ℕ) (is_source : IsJournalOf table source) (is_other : IsJournalOf table other) (apart : source ≢ other) (seal : Seal) (last : Option Seal)
-    (same_seal : latest.seal ≡ seal) (same_source : latest.source ≡ source) (same_beside : latest.beside ≡ last) (found : IsSealOf table seal × CountsOn table source) where
+module _ (table : Table) (latest : Latest) (source other : ℕ) (is_source : IsJournalOf table source) (is_other : IsJournalOf table other)
+    (apart : source ≢ other) (seal : Seal) (last : Option Seal)
+    (same_seal : latest.seal ≡ seal) (same_source : latest.source ≡ source) (same_beside : latest.beside ≡ last)
+    (found : IsSealOf table seal × CountsOn table source) where
   of_set_by : IsFoundOn table other last → IfSome last (λ s. s.number ≤ seal.number) → IsLatestOf table latest
   of_set_by beside not_later = record {
     belongs = subst (IsSealOf table) (sym same_seal) found.0;
@@ -63,7 +68,8 @@ module _ (table : Table) (latest : Latest) (source other : ℕ) (is_source : IsJ
         let its = subst (IsFoundOn table other) it beside in
         record {
           belongs = its.0;
-          not_later = subst (λ (t : Seal). s.number ≤ t.number) (sym same_seal) (subst (λ (l : Option Seal). IfSome l (λ t. t.number ≤ seal.number)) it not_later);
+          not_later = subst (λ (t : Seal). s.number ≤ t.number) (sym same_seal)
+              (subst (λ (l : Option Seal). IfSome l (λ t. t.number ≤ seal.number)) it not_later);
           counted = λ journal one. elim (one_of_two table journal source other (one.beyond, one.of_set) is_source is_other apart) [
             | inl here ↦ absurd (one.apart (here ∙ sym same_source))
             | inr there ↦ subst (CountsOn table) (sym there) its.1
@@ -71,7 +77,8 @@ module _ (table : Table) (latest : Latest) (source other : ℕ) (is_source : IsJ
         };
   }
 
-  on_by : (from : PutsFrom) (h : History) → MayWrite from table h → HasLast table h source (Some seal) → (IsJournalOn table other → HasLast table h other last) → IsLatestOn latest from table h
+  on_by : (from : PutsFrom) (h : History) → MayWrite from table h → HasLast table h source (Some seal) → (IsJournalOn table other → HasLast table h other last)
+      → IsLatestOn latest from table h
   on_by from h writes has beside = record {
     writes = writes;
     source = subst₂ (λ (k : ℕ) (s : Seal). HasLast table h k (Some s)) (sym same_source) (sym same_seal) has;
@@ -101,7 +108,8 @@ module _ (table : Table) where
   differ_back same = absurd (omega (arith, same))
 
   -- On any bank: the last entry is one of the set, on a journal on which the table counts.
-  pub latest_of_set : (lower upper : Option Seal) (latest : Option Latest) → IsFoundOn table first lower → IsFoundOn table second upper → IsLatestBy first lower upper latest
+  pub latest_of_set : (lower upper : Option Seal) (latest : Option Latest) → IsFoundOn table first lower → IsFoundOn table second upper
+      → IsLatestBy first lower upper latest
       → IfSome latest (λ one. IsLatestOf table one)
   latest_of_set None None None lower upper is = tt
   latest_of_set None None (Some latest) lower upper is = absurd (cc)
@@ -122,31 +130,39 @@ module _ (table : Table) where
   ]
 
   -- By the last seals of both journals it is the last entry.
-  module _ (from : PutsFrom) (h : History) (lower upper : Option Seal) (writes : MayWrite from table h) (on_first : IsJournalOn table first → HasLast table h first lower)
-      (on_second : IsJournalOn table second → HasLast table h second upper) (found_first : IsFoundOn table first lower) (found_second : IsFoundOn table second upper) where
+  module _ (from : PutsFrom) (h : History) (lower upper : Option Seal) (writes : MayWrite from table h)
+      (on_first : IsJournalOn table first → HasLast table h first lower)
+      (on_second : IsJournalOn table second → HasLast table h second upper) (found_first : IsFoundOn table first lower)
+      (found_second : IsFoundOn table second upper) where
     pub latest_on : (latest : Latest) → IsLatestBy first lower upper (Some latest) → IsLatestOn latest from table h
     latest_on latest is = by_both lower upper on_first on_second found_first found_second is
       where
-        by_both : (a b : Option Seal) → (IsJournalOn table first → HasLast table h first a) → (IsJournalOn table second → HasLast table h second b) → IsFoundOn table first a → IsFoundOn table second b
+        by_both : (a b : Option Seal) → (IsJournalOn table first → HasLast table h first a) → (IsJournalOn table second → HasLast table h second b)
+            → IsFoundOn table first a → IsFoundOn table second b
             → IsLatestBy first a b (Some latest) → IsLatestOn latest from table h
         by_both None None on on' found found' is = absurd (cc)
         by_both (Some a) None on on' found found' (is, some) =
-            on_by table latest first second is_first is_second differ a None is.same_seal is.same_source is.alone found from h writes (on record { beyond = is_first.0; counted = found.1 }) on'
+            on_by table latest first second is_first is_second differ a None is.same_seal is.same_source is.alone found from h writes
+            (on record { beyond = is_first.0; counted = found.1 }) on'
         by_both None (Some b) on on' found found' (is, some) =
-            on_by table latest second first is_second is_first differ_back b None is.same_seal is.same_source is.alone found' from h writes (on' record { beyond = is_second.0; counted = found'.1 }) on
+            on_by table latest second first is_second is_first differ_back b None is.same_seal is.same_source is.alone found' from h writes
+            (on' record { beyond = is_second.0; counted = found'.1 }) on
         by_both (Some a) (Some b) on on' found found' (is, some) = elim (cases_lt a.number b.number) [
           | inl below ↦
               let parts = is.above below in
-              on_by table latest second first is_second is_first differ_back b (Some a) parts.0 parts.1 parts.2 found' from h writes (on' record { beyond = is_second.0; counted = found'.1 }) on
+              on_by table latest second first is_second is_first differ_back b (Some a) parts.0 parts.1 parts.2 found' from h writes
+              (on' record { beyond = is_second.0; counted = found'.1 }) on
           | inr least ↦
               let parts = is.not_above least in
-              on_by table latest first second is_first is_second differ a (Some b) parts.0 parts.1 parts.2 found from h writes (on record { beyond = is_first.0; counted = found.1 }) on'
+              on_by table latest first second is_first is_second differ a (Some b) parts.0 parts.1 parts.2 found from h writes
+              (on record { beyond = is_first.0; counted = found.1 }) on'
         ]
 
     pub none_on : IsLatestBy first lower upper None → AllHaveLast None from table h
     none_on is = by_both lower upper on_first on_second is
       where
-        by_both : (a b : Option Seal) → (IsJournalOn table first → HasLast table h first a) → (IsJournalOn table second → HasLast table h second b) → IsLatestBy first a b None → AllHaveLast None from table h
+        by_both : (a b : Option Seal) → (IsJournalOn table first → HasLast table h first a) → (IsJournalOn table second → HasLast table h second b)
+            → IsLatestBy first a b None → AllHaveLast None from table h
         by_both None None on on' is = record {
           writes = writes;
           on_journals = λ journal there. elim (one_of_two table journal first second (on_is_of table journal there) is_first is_second differ) [
@@ -167,7 +183,8 @@ IsLastFound (Some latest) from table h = IsLatestOn latest from table h
 module _ (table : Table) (lower upper : Option Seal) where
   abbrev Tells : ℕ → Type 0
   Tells n = (found : Option Latest) → IsFoundOn table n lower → IsFoundOn table (n + 1) upper → IsLatestBy n lower upper found
-      → IfSome found (λ one. IsLatestOf table one) × ((from : PutsFrom) (h : History) → KnowsSeals (also_known (also_known (λ k. None) n lower) (n + 1) upper) from table h → IsLastFound found from table h)
+      → IfSome found (λ one. IsLatestOf table one) × ((from : PutsFrom) (h : History)
+      → KnowsSeals (also_known (also_known (λ k. None) n lower) (n + 1) upper) from table h → IsLastFound found from table h)
 
   tells : Tells table.geometry.members
   tells found on_lower on_upper by = (latest_of_set table lower upper found on_lower on_upper by, λ from h knows. by_found found by from h knows)
@@ -182,10 +199,13 @@ module _ (table : Table) (lower upper : Option Seal) where
       known_upper : both (table.geometry.members + 1) ≡ Some upper
       known_upper = known_here (also_known (λ k. None) table.geometry.members lower) (table.geometry.members + 1) upper
 
-      by_found : (one : Option Latest) → IsLatestBy table.geometry.members lower upper one → (from : PutsFrom) (h : History) → KnowsSeals both from table h → IsLastFound one from table h
-      by_found None is from h knows = none_on table from h lower upper knows.writes (knows.last table.geometry.members lower known_lower) (knows.last (table.geometry.members + 1) upper known_upper) on_lower on_upper is
+      by_found : (one : Option Latest) → IsLatestBy table.geometry.members lower upper one → (from : PutsFrom) (h : History) → KnowsSeals both from table h
+          → IsLastFound one from table h
+      by_found None is from h knows = none_on table from h lower upper knows.writes (knows.last table.geometry.members lower known_lower)
+          (knows.last (table.geometry.members + 1) upper known_upper) on_lower on_upper is
       by_found (Some latest) is from h knows =
-          latest_on table from h lower upper knows.writes (knows.last table.geometry.members lower known_lower) (knows.last (table.geometry.members + 1) upper known_upper) on_lower on_upper latest is
+          latest_on table from h lower upper knows.writes (knows.last table.geometry.members lower known_lower)
+          (knows.last (table.geometry.members + 1) upper known_upper) on_lower on_upper latest is
 
   pub seals_tell : (n : ℕ) → table.geometry.members ≡ n → Tells n
   seals_tell n same = subst Tells same tells
@@ -204,7 +224,8 @@ found_still table new_table journal (Some seal) same_id same_geometry same (belo
 
 -- the journal that has the last entry is gone
 
-module _ (table new_table : Table) (latest other : Latest) (of_set : IsLatestOf table latest) (marked : IsMarked table latest.source new_table) (is : IsLatestBeside new_table latest (Some other)) where
+module _ (table new_table : Table) (latest other : Latest) (of_set : IsLatestOf table latest) (marked : IsMarked table latest.source new_table)
+    (is : IsLatestBeside new_table latest (Some other)) where
   same_set : slots_of new_table ≡ slots_of table
   same_set = ap (λ (g : Geometry). g.members + 2) marked.same_geometry
 
@@ -213,7 +234,10 @@ module _ (table new_table : Table) (latest other : Latest) (of_set : IsLatestOf 
   source_gone = missing_then table new_table latest.source marked of_set.source.counted.of_set
 
   pub was_source : IsJournalOf new_table latest.source
-  was_source = (subst (λ (g : Geometry). g.members ≤ latest.source) (sym marked.same_geometry) of_set.source.beyond, subst (λ (n : ℕ). latest.source < n) (sym same_set) of_set.source.counted.of_set)
+  was_source = (
+    subst (λ (g : Geometry). g.members ≤ latest.source) (sym marked.same_geometry) of_set.source.beyond,
+    subst (λ (n : ℕ). latest.source < n) (sym same_set) of_set.source.counted.of_set,
+  )
 
   was_other : IsOtherJournal table latest.source other.source
   was_other = record {
@@ -227,7 +251,8 @@ module _ (table new_table : Table) (latest other : Latest) (of_set : IsLatestOf 
   beside_of_set =
       let its = of_set.beside other.seal is.0 in
       record {
-        belongs = subst₂ (λ (id : List ℕ) (g : Geometry). Belongs id g (other.seal.number % HALVES) other.seal) (sym marked.same_id) (sym marked.same_geometry) its.belongs;
+        belongs = subst₂ (λ (id : List ℕ) (g : Geometry). Belongs id g (other.seal.number % HALVES) other.seal) (sym marked.same_id) (sym marked.same_geometry)
+            its.belongs;
         source = record {
           beyond = is.1.beyond;
           counted = record {
@@ -246,10 +271,11 @@ module _ (table new_table : Table) (latest other : Latest) (of_set : IsLatestOf 
   beside_on from h all = record {
     writes = all.writes;
     source = subst (HasLast new_table h other.source) is.0 (all.on_journals other.source beside_of_set.source);
-    beside = λ journal on not. elim (one_of_two new_table journal latest.source other.source (on_is_of new_table journal on) was_source (is.1.beyond, is.1.of_set) (λ same. is.1.apart (sym same))) [
-      | inl here ↦ absurd (on.counted.there (subst (λ (k : ℕ). state_at new_table.states k ≡ Missing) (sym here) source_gone))
-      | inr there ↦ absurd (not there)
-    ];
+    beside = λ journal on not. elim (one_of_two new_table journal latest.source other.source (on_is_of new_table journal on) was_source
+        (is.1.beyond, is.1.of_set) (λ same. is.1.apart (sym same))) [
+          | inl here ↦ absurd (on.counted.there (subst (λ (k : ℕ). state_at new_table.states k ≡ Missing) (sym here) source_gone))
+          | inr there ↦ absurd (not there)
+        ];
   }
 
   -- where it goes too, two are lost
@@ -263,17 +289,22 @@ module _ (table new_table : Table) (latest other : Latest) (of_set : IsLatestOf 
 -- which journal is stale
 
 -- none does: all have it
-pub no_journal_is_stale : (table : Table) (latest : Latest) → IsStaleJournal table latest None → (journal : ℕ) → IsJournalOn table journal → progress_of latest journal ≡ HasSeal
-no_journal_is_stale table latest none journal on = on_reached (λ k. progress_beside (is_on_both latest)) latest.source journal HasSeal (λ (p : Progress). p ≡ HasSeal) (λ same. refl)
+pub no_journal_is_stale : (table : Table) (latest : Latest) → IsStaleJournal table latest None → (journal : ℕ) → IsJournalOn table journal
+    → progress_of latest journal ≡ HasSeal
+no_journal_is_stale table latest none journal on = on_reached (λ k. progress_beside (is_on_both latest)) latest.source journal HasSeal
+    (λ (p : Progress). p ≡ HasSeal) (λ same. refl)
     (λ apart. ap progress_beside (none journal on apart))
 
 -- one does: it awaits the entry, and once it has that, all have it
 module _ (table : Table) (latest : Latest) (journal : ℕ) (of_set : IsLatestOf table latest) (is_stale : IsStaleJournal table latest (Some journal)) where
   pub stale_journal_awaits : progress_of latest journal ≡ Awaited
-  stale_journal_awaits = reached_beside (λ k. progress_beside (is_on_both latest)) latest.source HasSeal journal is_stale.0.apart ∙ ap progress_beside is_stale.1
+  stale_journal_awaits = reached_beside (λ k. progress_beside (is_on_both latest)) latest.source HasSeal journal is_stale.0.apart
+      ∙ ap progress_beside is_stale.1
 
-  pub then_sealed : (new_table : Table) → new_table.geometry ≡ table.geometry → (k : ℕ) → IsJournalOn new_table k → sealed_on (progress_of latest) journal k ≡ HasSeal
-  then_sealed new_table same_geometry k on = on_reached (reached (progress_of latest) journal HasBody) journal k HasSeal (λ (p : Progress). p ≡ HasSeal) (λ same. refl)
+  pub then_sealed : (new_table : Table) → new_table.geometry ≡ table.geometry → (k : ℕ) → IsJournalOn new_table k
+      → sealed_on (progress_of latest) journal k ≡ HasSeal
+  then_sealed new_table same_geometry k on = on_reached (reached (progress_of latest) journal HasBody) journal k HasSeal (λ (p : Progress). p ≡ HasSeal)
+      (λ same. refl)
       (λ apart. reached_beside (progress_of latest) journal HasBody k apart ∙ here apart)
     where
       is_of : IsJournalOf table k
@@ -281,7 +312,8 @@ module _ (table : Table) (latest : Latest) (journal : ℕ) (of_set : IsLatestOf 
 
       here : k ≢ journal → progress_of latest k ≡ HasSeal
       here apart = on_reached (λ n. progress_beside (is_on_both latest)) latest.source k HasSeal (λ (p : Progress). p ≡ HasSeal) (λ same. refl)
-          (λ not. elim (one_of_two table k latest.source journal is_of (on_is_of table latest.source of_set.source) (is_stale.0.beyond, is_stale.0.of_set) (λ same. is_stale.0.apart (sym same))) [
+          (λ not. elim (one_of_two table k latest.source journal is_of (on_is_of table latest.source of_set.source) (is_stale.0.beyond, is_stale.0.of_set)
+          (λ same. is_stale.0.apart (sym same))) [
             | inl same ↦ absurd (not same)
             | inr same ↦ absurd (apart same)
           ])

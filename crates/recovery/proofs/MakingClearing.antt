@@ -1,5 +1,6 @@
 -- What clearing the devices of a set leaves, call by call.
-use Rattle.std.proofs.Common.{◌≡◌, ◌⊎◌, inl, inr, ℕ, suc, ◌+◌, ◌<◌, ◌≤◌, Bool, true, false, cond, List, length, replicate, refl, sym, ◌∙◌, ap, subst, arith, ◌==◌}
+use Rattle.std.proofs.Common.{◌≡◌, ◌⊎◌, inl, inr, ℕ, suc, ◌+◌, ◌<◌, ◌≤◌, Bool, true, false, cond, List, length, replicate, refl, sym, ◌∙◌, ap, subst, arith}
+use Rattle.std.proofs.Common.{◌==◌}
 use Rattle.std.specs.Prelude.{slice_set, Result, Ok, Err, OnOk}
 use Rattle.std.proofs.lemmas.Bool.{cases_eq, cases_lt}
 use Rattle.std.proofs.lemmas.List.{get_or-set_same, get_or-set_other, set_past}
@@ -129,7 +130,8 @@ member_both slots (Ok done) old mid new first second = cleared_both slots old mi
 member_both slots (Err stop) old mid new first second = tt
 
 pub member_cleared : (slots : ℕ) (geometry : Geometry) (slot end : ℕ) (result : Result (Unit {0}) Stop) (mid new : History) → slot < geometry.members
-    → end ≡ FIRST_ROW + rows_of geometry.chunk geometry.stripes → AreZero mid slot 0 SUPERBLOCK_PLACES → OnOk result (HasCleared slots mid new) → OnOk result (AreZero new slot FIRST_ROW end)
+    → end ≡ FIRST_ROW + rows_of geometry.chunk geometry.stripes → AreZero mid slot 0 SUPERBLOCK_PLACES → OnOk result (HasCleared slots mid new)
+    → OnOk result (AreZero new slot FIRST_ROW end)
     → OnOk result (IsClearedSlot geometry new slot)
 member_cleared slots geometry slot end (Ok done) mid new member is places cleared rows = record {
   places = zeros_stay slots slot 0 SUPERBLOCK_PLACES mid new cleared places;
@@ -139,13 +141,15 @@ member_cleared slots geometry slot end (Ok done) mid new member is places cleare
 member_cleared slots geometry slot end (Err stop) mid new member is places cleared rows = tt
 
 -- why clearing one slot of a set ended, as why clearing them all did
-pub stop_in : (slots slot : ℕ) (panel : Panel) (stop : Stop) → slot < slots → IsCauseOf panel stop × ((stop ≡ Worn) ⊎ (stop ≡ Down slot)) → IsStopIn slots panel stop
+pub stop_in : (slots slot : ℕ) (panel : Panel) (stop : Stop) → slot < slots → IsCauseOf panel stop × ((stop ≡ Worn) ⊎ (stop ≡ Down slot))
+    → IsStopIn slots panel stop
 stop_in slots slot panel stop within (cause, inl is) = subst (λ (s : Stop). IsStopIn slots panel s) (sym is) (subst (λ (s : Stop). IsCauseOf panel s) is cause)
 stop_in slots slot panel stop within (cause, inr is) =
     subst (λ (s : Stop). IsStopIn slots panel s) (sym is) (within, subst (λ (s : Stop). IsCauseOf panel s) is cause)
 
 -- a journal's places and seals are its first sectors
-pub journal_cleared : (geometry : Geometry) (slot : ℕ) (result : Result (Unit {0}) Stop) (h : History) → geometry.members ≤ slot → OnOk result (AreZero h slot 0 (FIRST_SEAL + HALVES))
+pub journal_cleared : (geometry : Geometry) (slot : ℕ) (result : Result (Unit {0}) Stop) (h : History) → geometry.members ≤ slot
+    → OnOk result (AreZero h slot 0 (FIRST_SEAL + HALVES))
     → OnOk result (IsClearedSlot geometry h slot)
 journal_cleared geometry slot (Ok done) h beyond zeros = record {
   places = λ at from below. zeros at from (omega (arith, below));

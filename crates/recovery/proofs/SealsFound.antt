@@ -50,20 +50,26 @@ module _ (old mid later : ArrayView) (lower upper : Option Seal) (same_id : late
   pub found_of_set : (latest : Option Latest) → IsLatestBy first lower upper latest → IfSome latest (λ one. IsLatestOf later.table one)
   found_of_set latest by = (seals_tell later.table lower upper first members_are latest found_lower found' by).0
 
-  module _ (honest still : Type 0) (more : honest → still) (steps : Brings honest (KnowsSeals unknown) (KnowsSeals one) old mid (Ok tt)) (steps' : Brings still (KnowsSeals one) (KnowsSeals both) mid later (Ok tt)) where
+  module _ (honest still : Type 0) (more : honest → still) (steps : Brings honest (KnowsSeals unknown) (KnowsSeals one) old mid (Ok tt))
+      (steps' : Brings still (KnowsSeals one) (KnowsSeals both) mid later (Ok tt)) where
     both_known : Brings honest MayWrite (KnowsSeals both) old later (Ok tt)
-    both_known = brings_from {A = Unit {0}} honest (KnowsSeals unknown) MayWrite (λ done. KnowsSeals both) old later (Ok tt) (λ from writes. begins_unknown from old.table old.history writes)
+    both_known = brings_from {A = Unit {0}} honest (KnowsSeals unknown) MayWrite (λ done. KnowsSeals both) old later (Ok tt)
+        (λ from writes. begins_unknown from old.table old.history writes)
         (brings_then honest still more (KnowsSeals unknown) (KnowsSeals one) (λ (done : Unit {0}). KnowsSeals both) old mid later (Ok tt) steps steps')
 
     -- none is found, and nothing is left to be put
     pub none_found : Spellings → IsLatestBy first lower upper None → (body : List Bytes) → BringsTo honest MayWrite (IsFound body) old later (Ok None)
     none_found spellings by body = brings_on honest MayWrite (KnowsSeals both) (IsPut 0) old later
-        (λ from knows. none_to_put spellings from later.table later.history ((seals_tell later.table lower upper first members_are None found_lower found' by).1 from later.history knows)) both_known
+        (λ from knows. none_to_put spellings from later.table later.history
+        ((seals_tell later.table lower upper first members_are None found_lower found' by).1 from later.history knows)) both_known
 
     -- one is, and then it is loaded
-    pub then_loaded : (latest : Latest) → IsLatestBy first lower upper (Some latest) → (held : Type 0) → (honest → held) → (new : ArrayView) (entry : Entry) (result : Result (Option Latest) Refusal)
-        → BringsTo held (IsLatestOn latest) (IsFound (body_of later.table.geometry.members entry)) later new result → BringsTo honest MayWrite (IsFound (body_of first entry)) old new result
-    then_loaded latest by held holds new entry result loads = brings_then honest held holds MayWrite (IsLatestOn latest) (IsFound (body_of first entry)) old later new result
+    pub then_loaded : (latest : Latest) → IsLatestBy first lower upper (Some latest) → (held : Type 0) → (honest → held)
+        → (new : ArrayView) (entry : Entry) (result : Result (Option Latest) Refusal)
+        → BringsTo held (IsLatestOn latest) (IsFound (body_of later.table.geometry.members entry)) later new result
+        → BringsTo honest MayWrite (IsFound (body_of first entry)) old new result
+    then_loaded latest by held holds new entry result loads =
+        brings_then honest held holds MayWrite (IsLatestOn latest) (IsFound (body_of first entry)) old later new result
         (brings_on honest MayWrite (KnowsSeals both) (IsLatestOn latest) old later
         (λ from knows. (seals_tell later.table lower upper first members_are (Some latest) found_lower found' by).1 from later.history knows) both_known)
         (subst (λ (n : ℕ). BringsTo held (IsLatestOn latest) (IsFound (body_of n entry)) later new result) members_are loads)

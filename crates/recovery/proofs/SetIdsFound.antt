@@ -22,7 +22,8 @@ use Rattle.superblock.proofs.Spelled.{one_superblock}
 use Rattle.recovery.specs.Finding.{ReadsPlace}
 use Rattle.recovery.specs.Making.{BankView}
 use Rattle.recovery.specs.SetIds.{FindsLeast, InPlace, InSlot, InSlotsBelow, IsAtMost, IsIdIn, IsIdOf, IsIdOn, IsLesser, ReadsId}
-use Rattle.recovery.proofs.Finding.{Honest, OnRefusal, no_found, no_refusal, none_down, none_failed_first, none_failed_second, same_found, same_readable, same_while_up}
+use Rattle.recovery.proofs.Finding.{Honest, OnRefusal, no_found, no_refusal, none_down, none_failed_first, none_failed_second, same_found, same_readable}
+use Rattle.recovery.proofs.Finding.{same_while_up}
 
 -- the id of a superblock that counts in its set
 pub id_found : (devices slot place : ℕ) (sector : Bytes) (superblock own : Superblock) → sector ≡ superblock_sector superblock
@@ -49,7 +50,8 @@ id_read honest devices slot place old new sector found is_honest is its = record
       let one = its.counts id (same_found found (Some id) same) in
       (one.0, counts_in id devices slot place sector one.0 (readable old.history slot) (stands fair) one.1);
   only = λ fair none other same id superblock counts.
-      sym (same_found found other same) ∙ its.only id superblock (in_counts id devices slot place sector superblock (readable old.history slot) (stands fair) counts);
+      sym (same_found found other same) ∙ its.only id superblock
+      (in_counts id devices slot place sector superblock (readable old.history slot) (stands fair) counts);
   cause = λ refusal same. absurd (no_refusal found refusal same);
 }
   where
@@ -109,7 +111,8 @@ pub search_both : (honest still : Type 0) (above best first : Option (List ℕ))
     (answer : Result (Option (List ℕ)) Refusal) → (honest → still) → (honest → Honest old) → (honest → Honest mid)
     → ((image : Slots) (id : List ℕ) → IsFirst image id → MayBe image id) → ((image : Slots) (id : List ℕ) → IsSecond image id → MayBe image id)
     → ((image : Slots) (id : List ℕ) → MayBe image id → IsFirst image id ⊎ IsSecond image id)
-    → (honest → IsLater old.panel mid.panel → HasRead old.history mid.history → (id : List ℕ) → IsSecond (readable mid.history) id → IsSecond (readable old.history) id)
+    → (honest → IsLater old.panel mid.panel → HasRead old.history mid.history → (id : List ℕ) → IsSecond (readable mid.history) id
+    → IsSecond (readable old.history) id)
     → FindsLeast honest above best IsFirst old mid (Ok first) → FindsLeast still above first IsSecond mid new answer
     → FindsLeast honest above best MayBe old new answer
 search_both honest still above best first IsFirst IsSecond MayBe old mid new answer goes_on is_old is_mid of_first of_second split back one two = record {
@@ -127,7 +130,8 @@ search_both honest still above best first IsFirst IsSecond MayBe old mid new ans
     | inl is ↦ two.kept found same id (one.least fair (none_failed_first old.panel mid.panel new.panel two.later none) first refl id is over)
     | inr is ↦ two.least (goes_on fair) (none_failed_second old.panel mid.panel new.panel one.later none) found same id
         (subst (λ (image : Slots). IsSecond image id)
-        (sym (same_readable old mid (is_old fair) (is_mid fair) one.later (one.reads fair) (none_failed_first old.panel mid.panel new.panel two.later none))) is) over
+        (sym (same_readable old mid (is_old fair) (is_mid fair) one.later (one.reads fair) (none_failed_first old.panel mid.panel new.panel two.later none)))
+        is) over
   ];
   cause = two.cause;
 }
@@ -182,7 +186,8 @@ pub slots_searched : (honest still : Type 0) (above first : Option (List ℕ)) (
     → FindsLeast honest above None (InSlotsBelow devices n) old mid (Ok first) → FindsLeast still above first (InSlot mid.panel.devices n) mid new answer
     → devices ≡ old.panel.devices → FindsLeast honest above None (InSlotsBelow devices (n + 1)) old new answer
 slots_searched honest still above first devices n old mid new answer goes_on is_old is_mid one two is_devices =
-    search_both honest still above None first (InSlotsBelow devices n) (InSlot devices n) (InSlotsBelow devices (n + 1)) old mid new answer goes_on is_old is_mid
+    search_both honest still above None first (InSlotsBelow devices n) (InSlot devices n) (InSlotsBelow devices (n + 1)) old mid new answer goes_on is_old
+    is_mid
     (λ image id is. (is.0, omega (arith, is.1), is.2))
     (λ image id is. (n, omega arith, is))
     (λ image id is. elim (cases_eq is.0 n) [
@@ -209,14 +214,16 @@ all_searched honest above devices n old new answer all is = record {
   kept = is.kept;
   least = λ fair none found same id may over. is.least fair none found same id (
     may.slot,
-    (let within = counted_within id devices may.slot (readable old.history may.slot) may.here.place may.here.superblock may.here.counted in omega (arith, within, all)),
+    (let within = counted_within id devices may.slot (readable old.history may.slot) may.here.place may.here.superblock may.here.counted in omega
+        (arith, within, all)),
     may.here,
   ) over;
   cause = is.cause;
 }
 
 -- the search of a slot was refused
-pub slots_refused : (honest still : Type 0) (above first : Option (List ℕ)) (devices n : ℕ) (MayBe : Slots → List ℕ → Type 0) (old mid new : BankView) (refusal : Refusal)
+pub slots_refused : (honest still : Type 0) (above first : Option (List ℕ)) (devices n : ℕ) (MayBe : Slots → List ℕ → Type 0) (old mid new : BankView)
+    (refusal : Refusal)
     → (honest → still) → FindsLeast honest above None (InSlotsBelow devices n) old mid (Ok first) → FindsLeast still above first MayBe mid new (Err refusal)
     → FindsLeast honest above None (IsIdOn devices) old new (Err refusal)
 slots_refused honest still above first devices n MayBe old mid new refusal goes_on one two =

@@ -1,5 +1,6 @@
 -- What is promised where superblocks are brought up, slot by slot.
-use Rattle.std.proofs.Common.{◌≡◌, ◌≢◌, ◌⊎◌, inl, inr, ⊎_elim, ℕ, ◌+◌, ◌<◌, ◌≤◌, Bool, true, false, cond, zero, suc, List, [], ◌∷◌, length, refl, sym, ◌∙◌, ap, subst, arith, ◌==◌, ◌||◌}
+use Rattle.std.proofs.Common.{◌≡◌, ◌≢◌, ◌⊎◌, inl, inr, ⊎_elim, ℕ, ◌+◌, ◌<◌, ◌≤◌, Bool, true, false, cond, zero, suc, List, [], ◌∷◌, length, refl, sym, ◌∙◌, ap}
+use Rattle.std.proofs.Common.{subst, arith, ◌==◌, ◌||◌}
 use Rattle.std.specs.Prelude.{Result, Ok, Err, IfErr, None, slice_set}
 use Rattle.std.proofs.lemmas.Bool.{cases_eq, eqb-true, or_right}
 use Rattle.sector_model.specs.declared.event.Event.{Event}
@@ -46,7 +47,8 @@ bringing_first table sectors old = record {
 }
 
 -- one moment after another
-pub bringing_both : (table : Table) (sectors : ℕ → Bytes) (old mid h : History) → IsBringing table sectors old mid → IsBringing table sectors mid h → IsBringing table sectors old h
+pub bringing_both : (table : Table) (sectors : ℕ → Bytes) (old mid h : History) → IsBringing table sectors old mid → IsBringing table sectors mid h
+    → IsBringing table sectors old h
 bringing_both table sectors old mid h first second = record {
   holds = λ device at value may. ⊎_elim (first.holds device at value) inr (second.holds device at value may);
   start = λ device. second.start device ∙ first.start device;
@@ -109,7 +111,12 @@ module _ (table : Table) (sectors : ℕ → Bytes) (old : History) where
   }
 
   own_there : (slot : ℕ) → CountsOn table slot → (d a : ℕ) (v : Bytes) → (d ≡ slot) × (a ≡ place_of table) × (v ≡ sectors slot) → IsOwnThere table sectors d a v
-  own_there slot counted d a v (same, place, is) = record { counted = subst (CountsOn table) (sym same) counted; in_place = place; is = is ∙ ap sectors (sym same) }
+  own_there slot counted d a v (same, place, is) = record {
+    counted = subst (CountsOn table) (sym same) counted;
+    in_place = place;
+    is =
+        is ∙ ap sectors (sym same);
+  }
 
   stay_up : (slot : ℕ) → CountsOn table slot → (h : History) (d : ℕ) → ¬ CountsOn table d → (d == slot || is_down h d) ≡ is_down h d
   stay_up slot counted h d out = ap (λ (b : Bool). b || is_down h d) (eqb_other d slot (λ same. out (subst (CountsOn table) (sym same) counted)))
@@ -125,7 +132,8 @@ module _ (table : Table) (sectors : ℕ → Bytes) (old : History) where
       by_case false = faulty
 
   by_failure : (slot : ℕ) → CountsOn table slot → (h : History) → Is h → Is (After (DeviceFailed slot) h)
-  by_failure slot counted h is = by_event (DeviceFailed slot) h is (λ d a v put. absurd put) (λ d down. or_right (d == slot) (is_down h d) down) (stay_up slot counted h)
+  by_failure slot counted h is = by_event (DeviceFailed slot) h is (λ d a v put. absurd put) (λ d down. or_right (d == slot) (is_down h d) down)
+      (stay_up slot counted h)
 
   by_read : (slot at : ℕ) → CountsOn table slot → (answered : Bool) (h : History) → Is h → Is (after_call (Read slot at) answered h)
   by_read slot at counted true h is = quiet_event h is
@@ -134,7 +142,8 @@ module _ (table : Table) (sectors : ℕ → Bytes) (old : History) where
   by_write : (slot : ℕ) → CountsOn table slot → (answered : Bool) (h : History) → Is h → Is (after_call (Write slot (place_of table) (sectors slot)) answered h)
   by_write slot counted true h is = by_event (Wrote slot (place_of table) (sectors slot)) h is (own_there slot counted) (λ d down. down) (λ d out. refl)
   by_write slot counted false h is = by_fault slot (Lost slot (place_of table) (sectors slot)) h is
-      (by_event (Lost slot (place_of table) (sectors slot)) h is (own_there slot counted) (λ d down. or_right (d == slot) (is_down h d) down) (stay_up slot counted h))
+      (by_event (Lost slot (place_of table) (sectors slot)) h is (own_there slot counted) (λ d down. or_right (d == slot) (is_down h d) down)
+      (stay_up slot counted h))
 
   by_flush : (slot : ℕ) → CountsOn table slot → (answered : Bool) (h : History) → Is h → Is (after_call (Flush slot) answered h)
   by_flush slot counted true h is = by_event (Flushed slot) h is (λ d a v put. absurd put) (λ d down. down) (λ d out. refl)
@@ -146,7 +155,8 @@ module _ (table : Table) (sectors : ℕ → Bytes) (old : History) where
   also (Flush device) answered h so_far is = then_also _ h so_far is
 
   -- one call that was tried
-  tried : (call : Call) → IsKeptBy Is call → (result : Result (Unit {0}) Stop) (h new : History) → Throughout Is old h → new ≡ after_try (after_call call) result h → Throughout Is old new
+  tried : (call : Call) → IsKeptBy Is call → (result : Result (Unit {0}) Stop) (h new : History) → Throughout Is old h
+      → new ≡ after_try (after_call call) result h → Throughout Is old new
   tried call keep (Ok done) h new so_far is = subst (Throughout Is old) (sym is) (also call true h so_far (keep.keeps true h (throughout_last h so_far)))
   tried call keep (Err (Down d)) h new so_far is = subst (Throughout Is old) (sym is) (also call false h so_far (keep.keeps false h (throughout_last h so_far)))
   tried call keep (Err Worn) h new so_far is = subst (Throughout Is old) (sym is) so_far
@@ -155,10 +165,12 @@ module _ (table : Table) (sectors : ℕ → Bytes) (old : History) where
 pub moments_read : (table : Table) (sectors : ℕ → Bytes) (slot : ℕ) → CountsOn table slot → (result : Result (Unit {0}) Stop) {old new : History}
     → new ≡ after_try (after_read slot) result old → Throughout (IsBringing table sectors old) old new
 moments_read table sectors slot counted result {old = old} {new = new} is =
-    tried table sectors old (Read slot (place_of table)) (record { keeps = by_read table sectors old slot (place_of table) counted }) result old new (here (bringing_first table sectors old)) is
+    tried table sectors old (Read slot (place_of table)) (record { keeps = by_read table sectors old slot (place_of table) counted }) result old new
+    (here (bringing_first table sectors old)) is
 
 pub moments_write : (table : Table) (sectors : ℕ → Bytes) (slot : ℕ) → CountsOn table slot → (result : Result (Unit {0}) Stop) {old mid new : History}
-    → Throughout (IsBringing table sectors old) old mid → new ≡ after_try (after_write slot (place_of table) (sectors slot)) result mid → Throughout (IsBringing table sectors old) old new
+    → Throughout (IsBringing table sectors old) old mid → new ≡ after_try (after_write slot (place_of table) (sectors slot)) result mid
+    → Throughout (IsBringing table sectors old) old new
 moments_write table sectors slot counted result {old = old} {mid = mid} {new = new} so_far is =
     tried table sectors old (Write slot (place_of table) (sectors slot)) (record { keeps = by_write table sectors old slot counted }) result mid new so_far is
 
@@ -175,7 +187,8 @@ pub record IsReadOf (slot at : ℕ) (found : Bytes) (old read : History) : Type 
   pub up : is_down old slot ≡ false
   pub bytes : found ≡ sector_of (seen old slot) at
 
-pub read_of : (slot at : ℕ) (found : Bytes) {old read : History} (panel : Panel) (done : Unit {0}) → read ≡ after_try (after_read slot) (Ok done) old → panel.down slot ≡ false
+pub read_of : (slot at : ℕ) (found : Bytes) {old read : History} (panel : Panel) (done : Unit {0}) → read ≡ after_try (after_read slot) (Ok done) old
+    → panel.down slot ≡ false
     → IsTrueTo panel read → found ≡ sector_of (seen old slot) at → IsReadOf slot at found old read
 read_of slot at found panel done is up is_true bytes = record {
   is = is;
@@ -185,7 +198,8 @@ read_of slot at found panel done is up is_true bytes = record {
 
 -- nothing is pending but in this device
 pub record RestsBut (slot : ℕ) (h : History) : Type 0 where
-  pub one : (device at : ℕ) (first second : Bytes) → device ≢ slot → is_down h device ≡ false → MayHold h device at first → MayHold h device at second → first ≡ second
+  pub one : (device at : ℕ) (first second : Bytes) → device ≢ slot → is_down h device ≡ false → MayHold h device at first → MayHold h device at second
+      → first ≡ second
 
 pub rests_but : (slot : ℕ) {h : History} → NothingPending h → RestsBut slot h
 rests_but slot nothing = record { one = λ device at first second apart. nothing device at first second }
@@ -197,11 +211,13 @@ rests_failed slot h rests down device at first second up = elim (cases_eq device
   | inr apart ↦ rests.one device at first second apart up
 ]
 
-but_event : (slot : ℕ) (e : Event) (h : History) → ((d a : ℕ) (v : Bytes) → Puts e d a v → d ≡ slot) → ((d : ℕ) → is_down (After e h) d ≡ false → is_down h d ≡ false) → RestsBut slot h
+but_event : (slot : ℕ) (e : Event) (h : History) → ((d a : ℕ) (v : Bytes) → Puts e d a v → d ≡ slot)
+    → ((d : ℕ) → is_down (After e h) d ≡ false → is_down h d ≡ false) → RestsBut slot h
     → RestsBut slot (After e h)
 but_event slot e h put up rests = record {
   one = λ device at first second apart is_up is_first is_second. rests.one device at first second apart (up device is_up)
-      (before device at first apart (may_hold_before e h device at first is_first)) (before device at second apart (may_hold_before e h device at second is_second));
+      (before device at first apart (may_hold_before e h device at first is_first))
+      (before device at second apart (may_hold_before e h device at second is_second));
 }
   where
     before : (device at : ℕ) (value : Bytes) → device ≢ slot → Puts e device at value ⊎ MayHold h device at value → MayHold h device at value
@@ -233,13 +249,15 @@ but_call (Flush slot) true h rests = but_event slot (Flushed slot) h (λ d a v p
 but_call (Flush slot) false h rests = but_fault slot (DeviceFailed slot) h rests (but_failure slot h rests)
 
 -- a call that was tried
-pub but_tried : (call : Call) (result : Result (Unit {0}) Stop) {h new : History} → new ≡ after_try (after_call call) result h → RestsBut (device_of call) h → RestsBut (device_of call) new
+pub but_tried : (call : Call) (result : Result (Unit {0}) Stop) {h new : History} → new ≡ after_try (after_call call) result h → RestsBut (device_of call) h
+    → RestsBut (device_of call) new
 but_tried call (Ok done) {h = h} is rests = subst (RestsBut (device_of call)) (sym is) (but_call call true h rests)
 but_tried call (Err (Down d)) {h = h} is rests = subst (RestsBut (device_of call)) (sym is) (but_call call false h rests)
 but_tried call (Err Worn) is rests = subst (RestsBut (device_of call)) (sym is) rests
 
 -- it ended with an error
-pub brings_stop : {honest : Type 0} (table : Table) (sectors : ℕ → Bytes) (slot : ℕ) (old_panel new_panel : Panel) {old new : History} (result : Result (Unit {0}) Stop) (stop : Stop)
+pub brings_stop : {honest : Type 0} (table : Table) (sectors : ℕ → Bytes) (slot : ℕ) (old_panel new_panel : Panel) {old new : History}
+    (result : Result (Unit {0}) Stop) (stop : Stop)
     → result ≡ Err stop → IsLater old_panel new_panel → IsCauseOf new_panel stop × ((stop ≡ Worn) ⊎ (stop ≡ Down slot))
     → (honest → IsTrueTo new_panel new) → (honest → Throughout (IsBringing table sectors old) old new) → (honest → NothingPending old → RestsBut slot new)
     → (honest → NoSuperblockIsStale (λ s. s ≡ slot) table sectors old → HasRead old new)
@@ -262,7 +280,8 @@ brings_stop table sectors slot old_panel new_panel {new = new} result stop is la
 }
 
 -- the place reads the table's superblock
-pub brings_read : {honest : Type 0} (table : Table) (sectors : ℕ → Bytes) (slot : ℕ) (found : Bytes) (old_panel new_panel : Panel) {old new : History} → CountsOn table slot
+pub brings_read : {honest : Type 0} (table : Table) (sectors : ℕ → Bytes) (slot : ℕ) (found : Bytes) (old_panel new_panel : Panel) {old new : History}
+    → CountsOn table slot
     → IsLater old_panel new_panel → (honest → IsReadOf slot (place_of table) found old new) → found ≡ sectors slot
     → BringsUpSlots honest (λ s. s ≡ slot) table sectors old_panel new_panel old new (Ok tt)
 brings_read table sectors slot found old_panel new_panel {old = old} {new = new} counted later reads same = record {
@@ -277,13 +296,15 @@ brings_read table sectors slot found old_panel new_panel {old = old} {new = new}
       subst (λ (k : ℕ). (is_down new k ≡ false) × IsSafeAt new k (place_of table) (sectors k)) (sym is)
       (subst (λ (h : History). (is_down h slot ≡ false) × IsSafeAt h slot (place_of table) (sectors slot)) (sym read.is) (
         read.up,
-        λ value may. nothing slot (place_of table) value (sector_of (seen old slot) (place_of table)) read.up may (up_seen old slot (place_of table) read.up) ∙ sym read.bytes ∙ same,
+        λ value may. nothing slot (place_of table) value (sector_of (seen old slot) (place_of table)) read.up may (up_seen old slot (place_of table) read.up)
+            ∙ sym read.bytes ∙ same,
       ));
   quiet = λ honest none. read_one slot (Ok tt) (reads honest).is;
 }
 
 -- the place reads something else: the slot is stale
-pub is_stale : (table : Table) (sectors : ℕ → Bytes) (slot : ℕ) (found : Bytes) {A : Type 0} {old read : History} → IsReadOf slot (place_of table) found old read → found ≢ sectors slot
+pub is_stale : (table : Table) (sectors : ℕ → Bytes) (slot : ℕ) (found : Bytes) {A : Type 0} {old read : History}
+    → IsReadOf slot (place_of table) found old read → found ≢ sectors slot
     → NoSuperblockIsStale (λ s. s ≡ slot) table sectors old → A
 is_stale table sectors slot found read other none = absurd (other (read.bytes ∙ none slot refl read.up))
 
@@ -297,7 +318,8 @@ three_rest table sectors slot old nothing device at first second up is_first is_
   | inr other ↦ nothing device at first second up (before other first is_first.0) (before other second is_second.0)
 ]
   where
-    before : device ≢ slot → (value : Bytes) → MayHold (After (Wrote slot (place_of table) (sectors slot)) (After Quiet old)) device at value → MayHold old device at value
+    before : device ≢ slot → (value : Bytes) → MayHold (After (Wrote slot (place_of table) (sectors slot)) (After Quiet old)) device at value
+        → MayHold old device at value
     before other value (inl puts) = absurd (other puts.0)
     before other value (inr was) = was
 
@@ -306,38 +328,48 @@ three_safe : (table : Table) (sectors : ℕ → Bytes) (slot : ℕ) (old : Histo
 three_safe table sectors slot old within value may = may.1 refl ∙ seen_written slot (place_of table) (sectors slot) (After Quiet old) within
 
 -- the superblock is written, and the device flushed
-pub brings_flushed : {honest : Type 0} (table : Table) (sectors : ℕ → Bytes) (slot : ℕ) (found : Bytes) (old_panel new_panel : Panel) {old read written new : History}
-    (result : Result (Unit {0}) Stop) → CountsOn table slot → IsLater old_panel new_panel → IfErr result (λ stop. IsCauseOf new_panel stop × ((stop ≡ Worn) ⊎ (stop ≡ Down slot)))
+pub brings_flushed : {honest : Type 0} (table : Table) (sectors : ℕ → Bytes) (slot : ℕ) (found : Bytes) (old_panel new_panel : Panel)
+    {old read written new : History}
+    (result : Result (Unit {0}) Stop) → CountsOn table slot → IsLater old_panel new_panel
+    → IfErr result (λ stop. IsCauseOf new_panel stop × ((stop ≡ Worn) ⊎ (stop ≡ Down slot)))
     → (honest → IsReadOf slot (place_of table) found old read) → found ≢ sectors slot → (honest → place_of table < length (seen old slot))
     → (honest → written ≡ after_write slot (place_of table) (sectors slot) true read) → (honest → new ≡ after_try (after_flush slot) result written)
     → (honest → IsTrueTo new_panel new) → BringsUpSlots honest (λ s. s ≡ slot) table sectors old_panel new_panel old new result
-brings_flushed table sectors slot found old_panel new_panel {old = old} {read = read} {written = written} {new = new} (Err stop) counted later cause reads other room writes flushes is_true =
+brings_flushed table sectors slot found old_panel new_panel {old = old} {read = read} {written = written} {new = new} (Err stop) counted later cause reads other
+    room writes flushes is_true =
     brings_stop table sectors slot old_panel new_panel (Err stop) stop refl later cause is_true
-    (λ honest. moments_flush table sectors slot counted (Err stop) (moments_write table sectors slot counted (Ok tt) (moments_read table sectors slot counted (Ok tt) (reads honest).is) (writes honest)) (flushes honest))
+    (λ honest. moments_flush table sectors slot counted (Err stop)
+    (moments_write table sectors slot counted (Ok tt) (moments_read table sectors slot counted (Ok tt) (reads honest).is) (writes honest)) (flushes honest))
     (λ honest nothing. but_tried (Flush slot) (Err stop) (flushes honest)
-    (but_tried (Write slot (place_of table) (sectors slot)) (Ok tt) (writes honest) (but_tried (Read slot (place_of table)) (Ok tt) (reads honest).is (rests_but slot nothing))))
+    (but_tried (Write slot (place_of table) (sectors slot)) (Ok tt) (writes honest)
+    (but_tried (Read slot (place_of table)) (Ok tt) (reads honest).is (rests_but slot nothing))))
     (λ honest none. is_stale table sectors slot found (reads honest) other none)
-brings_flushed {honest = honest} table sectors slot found old_panel new_panel {old = old} {read = read} {written = written} {new = new} (Ok done) counted later cause reads other room writes flushes is_true = record {
-  later = later;
-  cause = λ stop was. absurd (cc);
-  named = λ device was. absurd (cc);
-  moments = λ honest. moments_flush table sectors slot counted (Ok tt) (moments_write table sectors slot counted (Ok tt) (moments_read table sectors slot counted (Ok tt) (reads honest).is) (writes honest)) (flushes honest);
-  none_failed = λ honest ok device. ap (λ (h : History). is_down h device) (all_is honest);
-  rests = λ honest nothing ok. subst NothingPending (sym (all_is honest)) (three_rest table sectors slot old nothing);
-  safe = λ honest nothing ok s is.
-      subst (λ (k : ℕ). (is_down new k ≡ false) × IsSafeAt new k (place_of table) (sectors k)) (sym is)
-      (subst (λ (h : History). (is_down h slot ≡ false) × IsSafeAt h slot (place_of table) (sectors slot)) (sym (all_is honest)) (
-        (reads honest).up,
-        three_safe table sectors slot old (room honest),
-      ));
-  quiet = λ honest none. is_stale table sectors slot found (reads honest) other none;
-}
+brings_flushed {honest = honest} table sectors slot found old_panel new_panel {old = old} {read = read} {written = written} {new = new} (Ok done) counted later
+    cause reads other room writes flushes is_true = record {
+      later = later;
+      cause = λ stop was. absurd (cc);
+      named = λ device was. absurd (cc);
+      moments = λ honest. moments_flush table sectors slot counted (Ok tt)
+          (moments_write table sectors slot counted (Ok tt) (moments_read table sectors slot counted (Ok tt) (reads honest).is) (writes honest))
+          (flushes honest);
+      none_failed = λ honest ok device. ap (λ (h : History). is_down h device) (all_is honest);
+      rests = λ honest nothing ok. subst NothingPending (sym (all_is honest)) (three_rest table sectors slot old nothing);
+      safe = λ honest nothing ok s is.
+          subst (λ (k : ℕ). (is_down new k ≡ false) × IsSafeAt new k (place_of table) (sectors k)) (sym is)
+          (subst (λ (h : History). (is_down h slot ≡ false) × IsSafeAt h slot (place_of table) (sectors slot)) (sym (all_is honest)) (
+            (reads honest).up,
+            three_safe table sectors slot old (room honest),
+          ));
+      quiet = λ honest none. is_stale table sectors slot found (reads honest) other none;
+    }
   where
     all_is : honest → new ≡ after_three table sectors slot old
-    all_is honest = flushes honest ∙ ap (λ (h : History). After (Flushed slot) h) (writes honest ∙ ap (λ (h : History). After (Wrote slot (place_of table) (sectors slot)) h) (reads honest).is)
+    all_is honest = flushes honest ∙ ap (λ (h : History). After (Flushed slot) h)
+        (writes honest ∙ ap (λ (h : History). After (Wrote slot (place_of table) (sectors slot)) h) (reads honest).is)
 
 -- the place is one of the device's sectors
-pub place_within : (table : Table) (slot : ℕ) (panel : Panel) (h : History) → IsTrueTo panel h → (panel.down slot ≡ false → SUPERBLOCK_PLACES ≤ panel.sectors slot) → is_down h slot ≡ false
+pub place_within : (table : Table) (slot : ℕ) (panel : Panel) (h : History) → IsTrueTo panel h
+    → (panel.down slot ≡ false → SUPERBLOCK_PLACES ≤ panel.sectors slot) → is_down h slot ≡ false
     → place_of table < length (seen h slot)
 place_within table slot panel h is_true has up =
     let most = has (is_true.down slot ∙ up) in
@@ -360,7 +392,8 @@ brings_none slots table sectors panel h none = record {
 }
 
 -- a safe superblock stays safe while others are brought up
-still_safe : (table : Table) (sectors : ℕ → Bytes) (old h : History) (slot : ℕ) → IsBringing table sectors old h → IsSafeAt old slot (place_of table) (sectors slot)
+still_safe : (table : Table) (sectors : ℕ → Bytes) (old h : History) (slot : ℕ) → IsBringing table sectors old h
+    → IsSafeAt old slot (place_of table) (sectors slot)
     → IsSafeAt h slot (place_of table) (sectors slot)
 still_safe table sectors old h slot is safe value may = ⊎_elim (safe value) (λ own. own.is) (is.holds slot (place_of table) value may)
 
@@ -370,7 +403,8 @@ ok_not_worn result ok worn = absurd (cc)
 -- some slots, and then others
 pub brings_both : {honest still : Type 0} (slots others : ℕ → Type 0) (table : Table) (sectors : ℕ → Bytes) (first second third : Panel) {old mid new : History}
     (result : Result (Unit {0}) Stop) → (honest → still) → BringsUpSlots honest slots table sectors first second old mid (Ok tt)
-    → BringsUpSlots still others table sectors second third mid new result → BringsUpSlots honest (λ s. slots s ⊎ others s) table sectors first third old new result
+    → BringsUpSlots still others table sectors second third mid new result
+    → BringsUpSlots honest (λ s. slots s ⊎ others s) table sectors first third old new result
 brings_both {honest = honest} slots others table sectors first second third {old = old} {mid = mid} {new = new} result go one two = record {
   later = later_both _ _ _ one.later two.later;
   cause = two.cause;
@@ -419,7 +453,8 @@ HasStateBelow table state most slot = (slot < most) × HasState table state slot
 pub device_there : (old new : Panel) (table : Table) (slot : ℕ) → IsLater old new → CanPublish old table None → slot < slots_of table → slot < new.devices
 device_there old new table slot later can within = omega (arith, later.devices, can.of_bank, within)
 
-pub place_there : (old new : Panel) (table : Table) (slot : ℕ) → IsLater old new → CanPublish old table None → slot < slots_of table → state_at table.states slot ≢ Missing
+pub place_there : (old new : Panel) (table : Table) (slot : ℕ) → IsLater old new → CanPublish old table None → slot < slots_of table
+    → state_at table.states slot ≢ Missing
     → new.down slot ≡ false → SUPERBLOCK_PLACES ≤ new.sectors slot
 place_there old new table slot later can within there up = omega (arith, later.sectors slot, can.has_places slot within there (still_up old new slot later up))
 
@@ -432,7 +467,8 @@ can_later old new table later can = record {
 }
 
 -- the next slot isn't in this state
-pub brings_skip : {honest : Type 0} (table : Table) (state : State) (slot : ℕ) (sectors : ℕ → Bytes) (old_panel new_panel : Panel) {old new : History} → state_at table.states slot ≢ state
+pub brings_skip : {honest : Type 0} (table : Table) (state : State) (slot : ℕ) (sectors : ℕ → Bytes) (old_panel new_panel : Panel) {old new : History}
+    → state_at table.states slot ≢ state
     → BringsUpSlots honest (HasStateBelow table state slot) table sectors old_panel new_panel old new (Ok tt)
     → BringsUpSlots honest (HasStateBelow table state (slot + 1)) table sectors old_panel new_panel old new (Ok tt)
 brings_skip table state slot sectors old_panel new_panel other brings =
@@ -478,7 +514,8 @@ brings_ended table state slot sectors first second third result stop is has go o
     (brings_both (HasStateBelow table state slot) (λ s. s ≡ slot) table sectors first second third result go one two)
 
 -- none is left
-pub brings_all : {honest : Type 0} (table : Table) (state : State) (slot : ℕ) (sectors : ℕ → Bytes) (old_panel new_panel : Panel) {old new : History} → slots_of table ≤ slot
+pub brings_all : {honest : Type 0} (table : Table) (state : State) (slot : ℕ) (sectors : ℕ → Bytes) (old_panel new_panel : Panel) {old new : History}
+    → slots_of table ≤ slot
     → BringsUpSlots honest (HasStateBelow table state slot) table sectors old_panel new_panel old new (Ok tt)
     → BringsUpSlots honest (HasState table state) table sectors old_panel new_panel old new (Ok tt)
 brings_all table state slot sectors old_panel new_panel most brings =
@@ -505,7 +542,8 @@ pub rebuilding_there : Rebuilding ≢ Missing
 rebuilding_there is = cc
 
 -- those in sync, and then the one that is rebuilding
-pub brings_up : {honest still : Type 0} (table : Table) (first second third : Panel) {old mid new : History} (result : Result (Unit {0}) Stop) → (honest → still)
+pub brings_up : {honest still : Type 0} (table : Table) (first second third : Panel) {old mid new : History} (result : Result (Unit {0}) Stop)
+    → (honest → still)
     → ((sectors : ℕ → Bytes) → AreSpelled table sectors → BringsUpSlots honest (HasState table InSync) table sectors first second old mid (Ok tt))
     → ((sectors : ℕ → Bytes) → AreSpelled table sectors → BringsUpSlots still (HasState table Rebuilding) table sectors second third mid new result)
     → BringsUp honest table first third old new result
@@ -523,7 +561,8 @@ brings_up table first second third result go one two = record {
 }
 
 -- it ended among those in sync
-pub brings_up_short : {honest : Type 0} (table : Table) (first second : Panel) {old new : History} (result : Result (Unit {0}) Stop) (stop : Stop) → result ≡ Err stop
+pub brings_up_short : {honest : Type 0} (table : Table) (first second : Panel) {old new : History} (result : Result (Unit {0}) Stop) (stop : Stop)
+    → result ≡ Err stop
     → ((sectors : ℕ → Bytes) → AreSpelled table sectors → BringsUpSlots honest (HasState table InSync) table sectors first second old new (Err stop))
     → BringsUp honest table first second old new result
 brings_up_short {honest = honest} table first second {old = old} {new = new} result stop is one = record {

@@ -60,7 +60,8 @@ left_up honest id devices slot old new found is_old is_new is others up = record
 }
 
 -- it is down: nothing counts
-pub left_down : (honest : Type 0) (id : List ℕ) (devices slot : ℕ) (IsSought : Slots → Option Superblock → Type 0) (old new : BankView) (found : Option Superblock)
+pub left_down : (honest : Type 0) (id : List ℕ) (devices slot : ℕ) (IsSought : Slots → Option Superblock → Type 0) (old new : BankView)
+    (found : Option Superblock)
     → (honest → Honest new) → Finds honest id devices IsSought old new (Ok found)
     → (honest → OthersStay slot old.history new.history) → new.panel.down slot ≡ true → FindsLeft honest id devices slot old new (Ok None)
 left_down honest id devices slot IsSought old new found is_new is others down = record {
@@ -179,33 +180,35 @@ pub surveyed_step : (honest still : Type 0) (id : List ℕ) (devices n : ℕ) (o
     → (honest → still) → n < 10 → SurveyedTo honest id devices n old mid best own generations → FindsLeft still id devices n mid new (Ok next)
     → after ≡ newer_of best next → value ≡ own_by next n → generation ≡ generation_by next
     → SurveyedTo honest id devices (n + 1) old new after (slice_set own n value) (slice_set generations n generation)
-surveyed_step honest still id devices n old mid new best next after own generations value generation goes_on within is left is_after is_value is_generation = record {
-  ten = length-set own n value ∙ is.ten;
-  later = later_both old.panel mid.panel new.panel is.later left.later;
-  reads = λ fair. read_both (is.reads fair) (left.reads (goes_on fair));
-  fits = subst (λ (o : Option Superblock). IfSome o (λ s. IsOfSet id devices s)) (sym is_after)
-      (newer_fits id devices best next is.fits (found_fits id devices next left.fits));
-  best_to = λ fair. subst (λ (o : Option Superblock). IsBestTo id devices (readable new.history) (n + 1) o) (sym is_after)
-      (slots_step id devices n (readable new.history) best next
-      (best_same id devices n (readable mid.history) (readable new.history) best (same_below fair) (is.best_to fair))
-      (left.left (goes_on fair) next refl));
-  owns = λ fair. one_slot_more (IsOwn id devices) (readable mid.history) (readable new.history) own n value
-      (omega (arith, within, is.ten)) (same_below fair) (is.owns fair)
-      (subst (λ (v : ℕ). IsOwn id devices n (readable new.history n) v) (sym is_value)
-      (own_found id devices n (readable new.history) next (left.left (goes_on fair) next refl)));
-  ten_generations = length-set generations n generation ∙ is.ten_generations;
-  has_generations = λ fair. one_slot_more (IsOwnGeneration id devices) (readable mid.history) (readable new.history) generations n generation
-      (omega (arith, within, is.ten_generations)) (same_below fair) (is.has_generations fair)
-      (subst (λ (v : ℕ). IsOwnGeneration id devices n (readable new.history n) v) (sym is_generation)
-      (generation_found id devices n (readable new.history) next (left.left (goes_on fair) next refl)));
-}
+surveyed_step honest still id devices n old mid new best next after own generations value generation goes_on within is left is_after is_value is_generation =
+    record {
+      ten = length-set own n value ∙ is.ten;
+      later = later_both old.panel mid.panel new.panel is.later left.later;
+      reads = λ fair. read_both (is.reads fair) (left.reads (goes_on fair));
+      fits = subst (λ (o : Option Superblock). IfSome o (λ s. IsOfSet id devices s)) (sym is_after)
+          (newer_fits id devices best next is.fits (found_fits id devices next left.fits));
+      best_to = λ fair. subst (λ (o : Option Superblock). IsBestTo id devices (readable new.history) (n + 1) o) (sym is_after)
+          (slots_step id devices n (readable new.history) best next
+          (best_same id devices n (readable mid.history) (readable new.history) best (same_below fair) (is.best_to fair))
+          (left.left (goes_on fair) next refl));
+      owns = λ fair. one_slot_more (IsOwn id devices) (readable mid.history) (readable new.history) own n value
+          (omega (arith, within, is.ten)) (same_below fair) (is.owns fair)
+          (subst (λ (v : ℕ). IsOwn id devices n (readable new.history n) v) (sym is_value)
+          (own_found id devices n (readable new.history) next (left.left (goes_on fair) next refl)));
+      ten_generations = length-set generations n generation ∙ is.ten_generations;
+      has_generations = λ fair. one_slot_more (IsOwnGeneration id devices) (readable mid.history) (readable new.history) generations n generation
+          (omega (arith, within, is.ten_generations)) (same_below fair) (is.has_generations fair)
+          (subst (λ (v : ℕ). IsOwnGeneration id devices n (readable new.history n) v) (sym is_generation)
+          (generation_found id devices n (readable new.history) next (left.left (goes_on fair) next refl)));
+    }
   where
     same_below : honest → (k : ℕ) → k < n → readable new.history k ≡ readable mid.history k
     same_below fair k below = others_readable mid.history new.history n k (left.reads (goes_on fair)) (left.others (goes_on fair))
         (λ same. absurd (omega (arith, below, same)))
 
 -- the search of a slot was refused
-pub surveyed_err : (honest still : Type 0) (id : List ℕ) (devices n : ℕ) (old mid new : BankView) (best : Option Superblock) (own generations : List ℕ) (refusal : Refusal)
+pub surveyed_err : (honest still : Type 0) (id : List ℕ) (devices n : ℕ) (old mid new : BankView) (best : Option Superblock) (own generations : List ℕ)
+    (refusal : Refusal)
     → (honest → still) → SurveyedTo honest id devices n old mid best own generations → FindsLeft still id devices n mid new (Err refusal)
     → Surveys honest id old new (Err refusal)
 surveyed_err honest still id devices n old mid new best own generations refusal goes_on is left = record {
@@ -220,7 +223,8 @@ surveyed_err honest still id devices n old mid new best own generations refusal 
 
 -- all slots were searched, and a superblock was found
 pub surveyed_some : (honest : Type 0) (id : List ℕ) (n : ℕ) (old new : BankView) (found : Option Superblock) (best : Superblock) (survey : Survey)
-    → old.panel.devices ≤ n → SurveyedTo honest id old.panel.devices n old new found survey.own survey.generations → found ≡ Some best → survey.table ≡ best.table
+    → old.panel.devices ≤ n → SurveyedTo honest id old.panel.devices n old new found survey.own survey.generations → found ≡ Some best
+    → survey.table ≡ best.table
     → Surveys honest id old new (Ok (Some survey))
 surveyed_some honest id n old new found best survey all is is_best is_table = record {
   later = is.later;
@@ -266,7 +270,8 @@ pub surveyed_then : (honest still : Type 0) (id : List ℕ) (old new : BankView)
     → Surveys honest id old new answer → answer ≡ Ok (Some survey) → IsSurveyOf still new survey
 surveyed_then honest still id old new answer survey back surveys is = record {
   of_bank = surveys.has_slots survey is;
-  told = λ fair. subst (λ (i : List ℕ). Tells i new.panel.devices (readable new.history) survey) (sym (surveys.of_id survey is)) (surveys.told (back fair) survey is);
+  told = λ fair. subst (λ (i : List ℕ). Tells i new.panel.devices (readable new.history) survey) (sym (surveys.of_id survey is))
+      (surveys.told (back fair) survey is);
 }
 
 -- the table that a survey tells

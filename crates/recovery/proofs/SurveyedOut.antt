@@ -79,7 +79,8 @@ dead_other honest bank survey slot of_set surveyed other fair live =
 
 -- it is there
 pub is_there_up : (honest : Type 0) (bank : BankView) (survey : Survey) (slot : ℕ) → (honest → Honest bank)
-    → slot < slots_of survey.table → IsSurveyOf honest bank survey → bank.panel.down slot ≡ false → least_sectors survey.table.geometry slot ≤ bank.panel.sectors slot
+    → slot < slots_of survey.table → IsSurveyOf honest bank survey → bank.panel.down slot ≡ false
+    → least_sectors survey.table.geometry slot ≤ bank.panel.sectors slot
     → slice_index_or survey.own slot 0 ≡ incarnation_at survey.table.incarnations slot
     → state_at survey.table.states slot ≢ Missing → IsThere honest bank survey.table slot
 is_there_up honest bank survey slot is_honest of_set surveyed up long same there = record {

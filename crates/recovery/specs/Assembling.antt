@@ -37,7 +37,8 @@ pub record HasStatesOf (table : Table) (old : BankView) (array : ArrayView) : Ty
   pub incarnations : array.table.incarnations ≡ table.incarnations
   pub live_stays : (slot : ℕ) → slot < slots_of table → IsLive old.panel.devices table slot (readable old.history slot) → is_down array.history slot ≡ false
       → state_at array.table.states slot ≡ state_at table.states slot
-  pub not_live : (slot : ℕ) → slot < slots_of table → ¬ IsLive old.panel.devices table slot (readable old.history slot) → state_at array.table.states slot ≡ Missing
+  pub not_live : (slot : ℕ) → slot < slots_of table → ¬ IsLive old.panel.devices table slot (readable old.history slot)
+      → state_at array.table.states slot ≡ Missing
   pub failure : (slot : ℕ) → slot < slots_of table → is_down array.history slot ≡ true → state_at array.table.states slot ≡ Missing
   pub position : array.table.position ≡ position_in array.table.states table.position
 
@@ -56,7 +57,8 @@ pub record IsTwoLostThen (id : List ℕ) (devices : ℕ) (old new : History) : T
   pub second_of_set : second < slots_of table
   pub first_out : (is_down new first ≡ true) ⊎ ¬ IsInFull devices table first (readable (cut_at t new) first)
   pub second_out : (is_down new second ≡ true) ⊎ ¬ IsInFull devices table second (readable (cut_at t new) second)
-  pub unwritten : ¬ IsInFull devices table first (readable (cut_at t new) first) → ¬ IsInFull devices table second (readable (cut_at t new) second) → HasRead old new
+  pub unwritten : ¬ IsInFull devices table first (readable (cut_at t new) first) → ¬ IsInFull devices table second (readable (cut_at t new) second)
+      → HasRead old new
 
 -- a superblock counts that carries a table of generation 2^62
 pub record IsWornThen (id : List ℕ) (devices : ℕ) (image : Slots) : Type 0 where
@@ -79,7 +81,8 @@ IsOfAssembly Worn = Unit {0}
 IsOfAssembly refusal = ⊥
 
 -- Assembling a set. 17, 15, 16. `Reaches` says what the array is at Ok.
-pub record AssemblesTo (Reaches : (base : Table) (lost : Option Lost) (X : List (List Bytes)) → ArrayView → Type 0) (honest : Type 0) (id : List ℕ) (old : BankView) (outcome : Outcome) : Type 0 where
+pub record AssemblesTo (Reaches : (base : Table) (lost : Option Lost) (X : List (List Bytes)) → ArrayView → Type 0) (honest : Type 0) (id : List ℕ)
+    (old : BankView) (outcome : Outcome) : Type 0 where
   pub later : IsLater old.panel (bank_after outcome).panel
   pub of_id : (array : ArrayView) → outcome ≡ Opened array → array.table.id ≡ id
   pub its_slots : (array : ArrayView) → outcome ≡ Opened array → HasItsSlots array.table array.panel
@@ -95,7 +98,8 @@ pub record AssemblesTo (Reaches : (base : Table) (lost : Option Lost) (X : List 
   pub refused : (bank : BankView) (refusal : Refusal) → outcome ≡ Returned bank refusal → IsOfAssembly refusal
   pub cause : honest → (bank : BankView) (refusal : Refusal) → outcome ≡ Returned bank refusal → IsNoAssembly id old bank refusal
   -- where no superblock counts in what reads give at the return, there is no array
-  pub no_set : honest → ((slot : ℕ) → HasNone id old.panel.devices slot (readable (bank_after outcome).history slot)) → (array : ArrayView) → ¬ (outcome ≡ Opened array)
+  pub no_set : honest → ((slot : ℕ) → HasNone id old.panel.devices slot (readable (bank_after outcome).history slot)) → (array : ArrayView)
+      → ¬ (outcome ≡ Opened array)
 
 -- `assemble(bank, entry, id)`: the array is settled on one of the lists
 abbrev pub Assembles : (honest : Type 0) (id : List ℕ) (old : BankView) (outcome : Outcome) → Type 0

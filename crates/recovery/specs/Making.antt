@@ -96,6 +96,7 @@ pub record FindsTable (honest : Type 0) (id : List ℕ) (old new : BankView) (an
   pub fits : (table : Table) → answer ≡ Ok (Some table) → (table.id ≡ id) × (slots_of table ≤ new.panel.devices)
   pub reads : honest → HasRead old.history new.history
   pub carried : honest → (table : Table) → answer ≡ Ok (Some table) → IsCarried id new.panel.devices (readable old.history) table
-  pub chosen : honest → NoDeviceFailed old.panel new.panel → (table : Table) → answer ≡ Ok (Some table) → IsChosen id new.panel.devices (readable new.history) table
+  pub chosen : honest → NoDeviceFailed old.panel new.panel → (table : Table) → answer ≡ Ok (Some table)
+      → IsChosen id new.panel.devices (readable new.history) table
   pub none : honest → NoDeviceFailed old.panel new.panel → answer ≡ Ok None → (slot : ℕ) → HasNone id new.panel.devices slot (readable new.history slot)
   pub cause : (refusal : Refusal) → answer ≡ Err refusal → (refusal ≡ Worn) × (GREATEST_COUNT ≤ new.panel.calls)

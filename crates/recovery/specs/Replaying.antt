@@ -1,5 +1,6 @@
 -- What finding the last entry of a set, and bringing it onto the journals and members that lack it, promises.
-use Rattle.std.specs.Prelude.{◌≡◌, ◌≢◌, ℕ, ◌+◌, ◌%◌, ◌<◌, ◌≤◌, ◌==◌, if◌then◌else◌, Bool, true, false, List, IfOk, IfSome, IsSome, Option, Some, None, Result, Ok, Err}
+use Rattle.std.specs.Prelude.{◌≡◌, ◌≢◌, ℕ, ◌+◌, ◌%◌, ◌<◌, ◌≤◌, ◌==◌, if◌then◌else◌, Bool, true, false, List, IfOk, IfSome, IsSome, Option, Some, None, Result}
+use Rattle.std.specs.Prelude.{Ok, Err}
 use Rattle.sector_model.specs.declared.refusal.Refusal.{Refusal}
 use Rattle.sector_model.specs.History.{Bytes, History, seen}
 use Rattle.sector_model.specs.Moments.{Throughout}
@@ -27,7 +28,8 @@ answer_to (Ok value) = Ok tt
 answer_to (Err refusal) = Err refusal
 
 -- steps from one state to another that is told by what they give, each if one slot is lost at most
-abbrev pub BringsTo : (honest : Type 0) {A : Type 0} (before : PutsFrom → Table → History → Type 0) (after : A → PutsFrom → Table → History → Type 0) → ArrayView → ArrayView → Result A Refusal → Type 0
+abbrev pub BringsTo : (honest : Type 0) {A : Type 0} (before : PutsFrom → Table → History → Type 0) (after : A → PutsFrom → Table → History → Type 0)
+    → ArrayView → ArrayView → Result A Refusal → Type 0
 BringsTo honest before after old new result = Brings honest before (λ from table h. IfOk result (λ value. after value from table h)) old new (answer_to result)
 
 -- a journal of the set on which the table counts
@@ -164,7 +166,8 @@ pub record SettlesEntry (honest : Type 0) (old new : ArrayView) (result : Result
   pub moments : honest → (from : PutsFrom) → MayReplay from old.table old.history → Throughout (HoldsAll from) old.history new.history
   -- the run went on from the one to the other, and what was down stays so
   pub runs : honest → Throughout (StaysDown old.history) old.history new.history
-  pub reached : honest → (number : ℕ) → result ≡ Ok number → (from : PutsFrom) → MayReplay from old.table old.history → IsSingleFailure (slots_of from.base) from.lost new.history
+  pub reached : honest → (number : ℕ) → result ≡ Ok number → (from : PutsFrom) → MayReplay from old.table old.history
+      → IsSingleFailure (slots_of from.base) from.lost new.history
       → MayReplay from new.table new.history × IsPut number from new.table new.history
   pub cause : (refusal : Refusal) → result ≡ Err refusal → IsStepEnd old new refusal
   -- where no superblock of the set counts at Ok, none did before

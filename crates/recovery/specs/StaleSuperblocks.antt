@@ -40,7 +40,8 @@ pub record BringsUpSlots (honest : Type 0) (slots : ℕ → Type 0) (table : Tab
   pub rests : honest → NothingPending old → result ≢ Err Worn → NothingPending new
   -- at Ok no device failed, and from nothing pending each superblock is safe
   pub none_failed : honest → result ≡ Ok tt → (device : ℕ) → is_down new device ≡ is_down old device
-  pub safe : honest → NothingPending old → result ≡ Ok tt → (slot : ℕ) → slots slot → (is_down new slot ≡ false) × IsSafeAt new slot (place_of table) (sectors slot)
+  pub safe : honest → NothingPending old → result ≡ Ok tt → (slot : ℕ) → slots slot → (is_down new slot ≡ false)
+      × IsSafeAt new slot (place_of table) (sectors slot)
   -- where none is stale nothing is written
   pub quiet : honest → NoSuperblockIsStale slots table sectors old → HasRead old new
 

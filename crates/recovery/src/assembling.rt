@@ -18,8 +18,8 @@ use superblock::Table;
 
 /// Assembles the set of this id: reads which table its superblocks choose, and which slots that table counts on are
 /// there; marks the one missing that is not; brings up stale superblocks where all are there; and then brings the last
-/// entry of the journals onto the journal and the members that lack it. A slot whose device goes down meanwhile is marked
-/// missing too. `entry` is where the array holds entries.
+/// entry of the journals onto the journal and the members that lack it. A slot whose device goes down meanwhile is
+/// marked missing too. `entry` is where the array holds entries.
 ///
 /// `NoSet` where no superblock of this id counts; nothing was written then. `TwoLost` where two slots of the set are
 /// lost, by a table that was chosen at some moment of the call; nothing was written where both were lost before it

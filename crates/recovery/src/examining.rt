@@ -7,7 +7,8 @@ ghost use Rattle.sector_model.specs.declared.refusal.Refusal.TheVariants as refu
 ghost use Rattle.layout_map.specs.declared.sizes.TheConstants.{JOURNAL_SECTORS};
 ghost use Rattle.superblock.specs.NextTables.{slots_of};
 ghost use Rattle.stripe_journal.specs.LastEntry.{number_of};
-ghost use Rattle.recovery.specs.Examining.{AreExaminedSlots, AreLastNumbers, Examines, IsExaminedSlot, IsLastNumber, IsOutlook, IsOutlookBy, IsReason, IsStanding, ReadsLast};
+ghost use Rattle.recovery.specs.Examining.{AreExaminedSlots, AreLastNumbers, Examines, IsExaminedSlot, IsLastNumber};
+ghost use Rattle.recovery.specs.Examining.{IsOutlook, IsOutlookBy, IsReason, IsStanding, ReadsLast};
 ghost use Rattle.recovery.specs.Surveying.{IsGone, IsSurveyOf};
 ghost use Rattle.recovery.specs.SeenBank.{bank_seen};
 
@@ -25,12 +26,13 @@ const UNEXAMINED: ExaminedSlot = ExaminedSlot {
     standing: Standing::NotThere,
 };
 
-/// Inspects the set of this id, by reads of superblocks and seals alone: which table its superblocks choose, what each of
-/// its slots has, and what assembling it would do now. `None` where no superblock of this id counts; `Worn` where the
-/// count of device calls stands at 2^62.
+/// Inspects the set of this id, by reads of superblocks and seals alone: which table its superblocks choose, what each
+/// of its slots has, and what assembling it would do now. `None` where no superblock of this id counts; `Worn` where
+/// the count of device calls stands at 2^62.
 pub fn examine<B: Bank>(bank: &mut B, id: &[u8; 16]) -> Result<Option<Examined>, Refusal>
     ensures honest { B.honest bank.old ↔ B.honest bank.new }
-    ensures examines { Examines (B.honest bank.old) id.now (bank_seen B.Bank bank.old) (bank_seen B.Bank bank.new) result }
+    ensures examines { Examines (B.honest bank.old) id.now (bank_seen B.Bank bank.old) (bank_seen B.Bank bank.new)
+        result }
 {
     let Some(survey) = survey_bank(bank, id)? else {
         return Ok(None);
@@ -151,7 +153,8 @@ fn outlook_by(table: &Table) -> Outlook
 fn last_numbers<B: Bank>(bank: &mut B, table: &Table) -> Result<[Option<u64>; 2], Refusal>
     requires { slots_of table.now ≤ (B.panel bank.old).devices }
     ensures honest { B.honest bank.old ↔ B.honest bank.new }
-    ensures reads { ReadsLast (B.honest bank.old) (bank_seen B.Bank bank.old) (bank_seen B.Bank bank.new) result (λ last.
+    ensures reads { ReadsLast (B.honest bank.old) (bank_seen B.Bank bank.old) (bank_seen B.Bank bank.new) result
+        (λ last.
         AreLastNumbers (B.honest bank.old) (bank_seen B.Bank bank.new) table.now last) }
 {
     let first = table.geometry.members;
@@ -167,7 +170,8 @@ fn last_number<B: Bank>(bank: &mut B, table: &Table, journal: u8) -> Result<Opti
     requires of_set { journal < slots_of table.now }
     requires device { journal < (B.panel bank.old).devices }
     ensures honest { B.honest bank.old ↔ B.honest bank.new }
-    ensures reads { ReadsLast (B.honest bank.old) (bank_seen B.Bank bank.old) (bank_seen B.Bank bank.new) result (λ last.
+    ensures reads { ReadsLast (B.honest bank.old) (bank_seen B.Bank bank.old) (bank_seen B.Bank bank.new) result
+        (λ last.
         IsLastNumber (B.honest bank.old) (bank_seen B.Bank bank.new) table.now journal last) }
 {
     match presence_of(bank, table, journal) {
@@ -186,7 +190,8 @@ fn last_sealed_number<B: Bank>(
     requires device { journal < (B.panel bank.old).devices }
     requires within { JOURNAL_SECTORS ≤ (B.panel bank.old).sectors journal }
     ensures honest { B.honest bank.old ↔ B.honest bank.new }
-    ensures reads { ReadsLast (B.honest bank.old) (bank_seen B.Bank bank.old) (bank_seen B.Bank bank.new) result (λ last.
+    ensures reads { ReadsLast (B.honest bank.old) (bank_seen B.Bank bank.old) (bank_seen B.Bank bank.new) result
+        (λ last.
         IsLastNumber (B.honest bank.old) (bank_seen B.Bank bank.new) table.now journal last) }
 {
     match last_sealed(bank, journal, &table.id, &table.geometry) {

@@ -23,9 +23,9 @@ pub fn chosen_table<B: Bank>(bank: &mut B, id: [u8; 16]) -> Result<Option<Table>
 }
 
 /// The newest superblock of this id that counts in a slot of the bank (condition), place 0 being read first; of two of
-/// the same generation that of place 0. `None` where none counts; what a device holds that is down, that goes down here,
-/// or that is too short, does not count. No call is made of another slot's device. `Worn` where the count of device calls
-/// stands at 2^62.
+/// the same generation that of place 0. `None` where none counts; what a device holds that is down, that goes down
+/// here, or that is too short, does not count. No call is made of another slot's device. `Worn` where the count of
+/// device calls stands at 2^62.
 pub fn newest_at<B: Bank>(
     bank: &mut B,
     slot: u8,
@@ -73,7 +73,8 @@ pub(crate) fn read_place<B: Bank>(
 ) -> Result<Option<Sector>, Refusal>
     requires { slot < (B.panel bank.old).devices }
     ensures honest { B.honest bank.old ↔ B.honest bank.new }
-    ensures reads { ReadsPlace (B.honest bank.old) slot place (bank_seen B.Bank bank.old) (bank_seen B.Bank bank.new) result }
+    ensures reads { ReadsPlace (B.honest bank.old) slot place (bank_seen B.Bank bank.old) (bank_seen B.Bank bank.new)
+        result }
     ensures others { B.honest bank.old → OthersStay slot (B.history bank.old) (B.history bank.new) }
 {
     if bank.is_down(slot) {

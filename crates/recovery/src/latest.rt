@@ -9,7 +9,9 @@ ghost use Rattle.array_io.specs.Believed.Views.{HasItsSlots};
 ghost use Rattle.array_io.specs.Steps.MarkingOn.{AreOthersInSync, IsOutBeside};
 ghost use Rattle.array_io.specs.Steps.Putting.{MayWrite};
 ghost use Rattle.array_io.specs.Steps.PuttingSteps.{HasItsRows};
-ghost use Rattle.recovery.specs.Replaying.{BringsTo, IsFound, IsFoundIn, IsFoundOn, IsStaleJournal, IsLaterOf, IsLatestBeside, IsLatestBy, IsLatestOf, IsLatestOn, IsLoaded, IsOtherJournal, Known, KnowsSeals, also_known, is_on_both};
+ghost use Rattle.recovery.specs.Replaying.{BringsTo, IsFound, IsFoundIn, IsFoundOn, IsStaleJournal, IsLaterOf};
+ghost use Rattle.recovery.specs.Replaying.{IsLatestBeside, IsLatestBy, IsLatestOf, IsLatestOn, IsLoaded};
+ghost use Rattle.recovery.specs.Replaying.{IsOtherJournal, Known, KnowsSeals, also_known, is_on_both};
 
 use array_io::{done_or_fail_slot, load_entry};
 use sector_model::{Bank, Refusal};
@@ -27,12 +29,12 @@ pub(crate) struct Latest {
     pub beside: Option<Seal>,
 }
 
-/// Finds the last entry by reads of the journals on which the table counts, the one with the greater number, and loads it into
-/// `entry`. `None` where no seal counts. A journal whose device goes down is marked missing: what is known of the other one then
-/// decides, so no seal is read twice.
+/// Finds the last entry by reads of the journals on which the table counts, the one with the greater number, and loads
+/// it into `entry`. `None` where no seal counts. A journal whose device goes down is marked missing: what is known of
+/// the other one then decides, so no seal is read twice.
 ///
-/// Refused as `mark_slot` is, and with `Worn` where the count of device calls stands at 2^62. The set's slots are slots of the
-/// bank, and each that the table does not call missing is long enough where it is up (condition).
+/// Refused as `mark_slot` is, and with `Worn` where the count of device calls stands at 2^62. The set's slots are slots
+/// of the bank, and each that the table does not call missing is long enough where it is up (condition).
 pub(crate) fn latest_entry<B: Bank>(
     bank: &mut B,
     table: &mut Table,
@@ -43,7 +45,8 @@ pub(crate) fn latest_entry<B: Bank>(
     ensures its_slots { HasItsSlots table.new (B.panel bank.new) }
     ensures geometry { table.new.geometry ≡ table.old.geometry }
     ensures of_set { IfOk result (λ found. IsFoundIn table.new entry.new found) }
-    ensures finds { (number : ℕ) → BringsTo (B.honest bank.old) MayWrite (IsFound (body_of table.old.geometry.members entry.new))
+    ensures finds { (number : ℕ) → BringsTo (B.honest bank.old) MayWrite
+        (IsFound (body_of table.old.geometry.members entry.new))
         (array_on B.Bank bank.old table.old number) (array_on B.Bank bank.new table.new number) result }
 {
     let first = table.geometry.members;
@@ -86,8 +89,8 @@ fn journal_beside(table: &Table, journal: u8) -> u8
     if journal == first { first + 1 } else { first }
 }
 
-// The last seal of a journal, by reads; `None` where none counts, where the table calls the journal missing, or where its
-// device goes down and it is marked missing. Refused as `latest_entry` is.
+// The last seal of a journal, by reads; `None` where none counts, where the table calls the journal missing, or where
+// its device goes down and it is marked missing. Refused as `latest_entry` is.
 fn seal_or_fail_slot<B: Bank>(
     bank: &mut B,
     table: &mut Table,
@@ -99,9 +102,11 @@ fn seal_or_fail_slot<B: Bank>(
     ensures honest { B.honest bank.old ↔ B.honest bank.new }
     ensures its_slots { HasItsSlots table.new (B.panel bank.new) }
     ensures geometry { table.new.geometry ≡ table.old.geometry }
-    ensures others_stay { (other : ℕ) → other ≢ journal → state_at table.new.states other ≡ state_at table.old.states other }
+    ensures others_stay { (other : ℕ) → other ≢ journal
+        → state_at table.new.states other ≡ state_at table.old.states other }
     ensures of_set { IfOk result (λ last. IsFoundOn table.new journal last) }
-    ensures finds { (number : ℕ) (known : Known) → BringsTo (B.honest bank.old) (KnowsSeals known) (λ last. KnowsSeals (also_known known journal last))
+    ensures finds { (number : ℕ) (known : Known)
+        → BringsTo (B.honest bank.old) (KnowsSeals known) (λ last. KnowsSeals (also_known known journal last))
         (array_on B.Bank bank.old table.old number) (array_on B.Bank bank.new table.new number) result }
 {
     let state = table.states[journal as usize];
@@ -159,8 +164,8 @@ fn later_of(first: u8, lower: Seal, upper: Seal) -> Latest
     }
 }
 
-// Loads the last entry. Where its journal goes down and is marked missing, that of the other journal is the last. Refused as
-// `latest_entry` is.
+// Loads the last entry. Where its journal goes down and is marked missing, that of the other journal is the last.
+// Refused as `latest_entry` is.
 fn load_latest<B: Bank>(
     bank: &mut B,
     table: &mut Table,
@@ -173,7 +178,8 @@ fn load_latest<B: Bank>(
     ensures its_slots { HasItsSlots table.new (B.panel bank.new) }
     ensures geometry { table.new.geometry ≡ table.old.geometry }
     ensures of_set { IfOk result (λ found. IsFoundIn table.new entry.new found) }
-    ensures loads { (number : ℕ) → BringsTo (B.honest bank.old) (IsLatestOn latest) (IsFound (body_of table.old.geometry.members entry.new))
+    ensures loads { (number : ℕ) → BringsTo (B.honest bank.old) (IsLatestOn latest)
+        (IsFound (body_of table.old.geometry.members entry.new))
         (array_on B.Bank bank.old table.old number) (array_on B.Bank bank.new table.new number) result }
 {
     if load_or_fail_slot(bank, table, &latest, entry)? {
@@ -200,7 +206,8 @@ fn latest_beside(table: &Table, latest: Latest) -> Option<Latest>
     }
 }
 
-// Loads the last entry from the only journal that is left. Refused as `latest_entry` is, so with `TwoLost` where it goes down.
+// Loads the last entry from the only journal that is left. Refused as `latest_entry` is, so with `TwoLost` where it
+// goes down.
 fn load_alone<B: Bank>(
     bank: &mut B,
     table: &mut Table,
@@ -214,7 +221,8 @@ fn load_alone<B: Bank>(
     ensures its_slots { HasItsSlots table.new (B.panel bank.new) }
     ensures geometry { table.new.geometry ≡ table.old.geometry }
     ensures of_set { IfOk result (λ found. IsFoundIn table.new entry.new found) }
-    ensures loads { (number : ℕ) → BringsTo (B.honest bank.old) (IsLatestOn latest) (IsFound (body_of table.old.geometry.members entry.new))
+    ensures loads { (number : ℕ) → BringsTo (B.honest bank.old) (IsLatestOn latest)
+        (IsFound (body_of table.old.geometry.members entry.new))
         (array_on B.Bank bank.old table.old number) (array_on B.Bank bank.new table.new number) result }
 {
     if load_or_fail_slot(bank, table, &latest, entry)? {
@@ -238,8 +246,10 @@ fn load_or_fail_slot<B: Bank>(
     ensures its_slots { HasItsSlots table.new (B.panel bank.new) }
     ensures geometry { table.new.geometry ≡ table.old.geometry }
     ensures loaded { result ≡ Ok true → (table.new ≡ table.old) × HasItsRows table.old latest.now.seal entry.new }
-    ensures marked { result ≡ Ok false → IsMarked table.old latest.now.source table.new × AreOthersInSync table.old latest.now.source }
-    ensures loads { (number : ℕ) → BringsTo (B.honest bank.old) (IsLatestOn latest.now) (IsLoaded latest.now (body_of table.old.geometry.members entry.new))
+    ensures marked { result ≡ Ok false → IsMarked table.old latest.now.source table.new
+        × AreOthersInSync table.old latest.now.source }
+    ensures loads { (number : ℕ) → BringsTo (B.honest bank.old) (IsLatestOn latest.now)
+        (IsLoaded latest.now (body_of table.old.geometry.members entry.new))
         (array_on B.Bank bank.old table.old number) (array_on B.Bank bank.new table.new number) result }
 {
     let geometry = table.geometry;

@@ -15,8 +15,8 @@ pub fn outlook_law<B: Bank>(bank: &B)
 
 /// The law of inspections. It computes nothing: its promise is what it is for.
 ///
-/// What an inspection of a bank finds is so of the bank as the inspection leaves it, and assembling that very bank does what the inspection
-/// says, where it is honest and no device fails.
+/// What an inspection of a bank finds is so of the bank as the inspection leaves it, and assembling that very bank does
+/// what the inspection says, where it is honest and no device fails.
 pub fn inspection_law<B: Bank>(before: &B, after: &B)
     ensures { Foresees (B.honest before.now) (B.honest after.now) (bank_seen B.Bank before.now)
         (bank_seen B.Bank after.now) }

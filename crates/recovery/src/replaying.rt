@@ -14,8 +14,8 @@ use stripe_journal::Entry;
 use superblock::Table;
 
 /// Brings the last entry of a set onto the journal that lacks it, if one does, body before seal, and then its rows onto
-/// the members; gives its number, 0 where there is none. A slot whose device goes down is marked missing, and it goes on
-/// without it. `entry` is where the entry is held meanwhile.
+/// the members; gives its number, 0 where there is none. A slot whose device goes down is marked missing, and it goes
+/// on without it. `entry` is where the entry is held meanwhile.
 ///
 /// Refused with `TwoLost` where a second slot is lost, and with `Worn` where the count of device calls, or the table's
 /// generation, stands at 2^62. The set's slots are slots of the bank, and each that the table does not call missing is
@@ -51,7 +51,8 @@ fn copy_to_stale_journal<B: Bank>(
     ensures honest { B.honest bank.old ↔ B.honest bank.new }
     ensures its_slots { HasItsSlots table.new (B.panel bank.new) }
     ensures geometry { table.new.geometry ≡ table.old.geometry }
-    ensures copies { (number : ℕ) → Brings (B.honest bank.old) (IsComing Copied latest.now.seal (body_of table.old.geometry.members entry.now) (progress_of latest.now))
+    ensures copies { (number : ℕ) → Brings (B.honest bank.old)
+        (IsComing Copied latest.now.seal (body_of table.old.geometry.members entry.now) (progress_of latest.now))
         (IsPutBefore 0 latest.now.seal (body_of table.old.geometry.members entry.now))
         (array_on B.Bank bank.old table.old number) (array_on B.Bank bank.new table.new number) result }
 {

@@ -1,7 +1,8 @@
 //! Of which sets a bank has superblocks.
 ghost use Rattle.std.specs.Prelude.{◌≡◌, ◌↔◌, ◌<◌, IsTrue};
 ghost use Rattle.std.specs.Int.{from_be_bytes, w128};
-ghost use Rattle.recovery.specs.SetIds.{FindsIdAbove, FindsLeast, InPlace, InSlot, IsAbove, IsAtMost, IsIdOf, IsLesser, ReadsId};
+ghost use Rattle.recovery.specs.SetIds.{FindsIdAbove, FindsLeast, InPlace, InSlot, IsAbove, IsAtMost, IsIdOf, IsLesser};
+ghost use Rattle.recovery.specs.SetIds.{ReadsId};
 ghost use Rattle.recovery.specs.SeenBank.{bank_seen};
 
 use crate::find::read_place;
@@ -12,11 +13,13 @@ use superblock::{counted, decode};
 type Id = [u8; 16];
 
 /// The least id above this one of all of which a superblock counts on the bank, by reads alone: the least of all where
-/// none is given, and `None` where there is none above. Ids are in the order of their texts. What a device holds that is
-/// down, that goes down here, or that is too short, does not count; `Worn` where the count of device calls stands at 2^62.
+/// none is given, and `None` where there is none above. Ids are in the order of their texts. What a device holds that
+/// is down, that goes down here, or that is too short, does not count; `Worn` where the count of device calls stands at
+/// 2^62.
 pub fn id_above<B: Bank>(bank: &mut B, above: &Option<Id>) -> Result<Option<Id>, Refusal>
     ensures honest { B.honest bank.old ↔ B.honest bank.new }
-    ensures finds { FindsIdAbove (B.honest bank.old) above.now (bank_seen B.Bank bank.old) (bank_seen B.Bank bank.new) result }
+    ensures finds { FindsIdAbove (B.honest bank.old) above.now (bank_seen B.Bank bank.old) (bank_seen B.Bank bank.new)
+        result }
 {
     let mut best = None;
     for slot in 0..bank.devices() {
@@ -34,7 +37,8 @@ fn least_in_slot<B: Bank>(
 ) -> Result<Option<Id>, Refusal>
     requires { slot < (B.panel bank.old).devices }
     ensures honest { B.honest bank.old ↔ B.honest bank.new }
-    ensures finds { FindsLeast (B.honest bank.old) above.now best (InSlot (B.panel bank.old).devices slot) (bank_seen B.Bank bank.old)
+    ensures finds { FindsLeast (B.honest bank.old) above.now best (InSlot (B.panel bank.old).devices slot)
+        (bank_seen B.Bank bank.old)
         (bank_seen B.Bank bank.new) result }
 {
     let best = least_in_place(bank, slot, 0, best, above)?;
@@ -51,7 +55,8 @@ fn least_in_place<B: Bank>(
 ) -> Result<Option<Id>, Refusal>
     requires { slot < (B.panel bank.old).devices }
     ensures honest { B.honest bank.old ↔ B.honest bank.new }
-    ensures finds { FindsLeast (B.honest bank.old) above.now best (InPlace (B.panel bank.old).devices slot place) (bank_seen B.Bank bank.old)
+    ensures finds { FindsLeast (B.honest bank.old) above.now best (InPlace (B.panel bank.old).devices slot place)
+        (bank_seen B.Bank bank.old)
         (bank_seen B.Bank bank.new) result }
 {
     let further = id_at(bank, slot, place)?;
@@ -62,7 +67,8 @@ fn least_in_place<B: Bank>(
 fn id_at<B: Bank>(bank: &mut B, slot: u8, place: u8) -> Result<Option<Id>, Refusal>
     requires { slot < (B.panel bank.old).devices }
     ensures honest { B.honest bank.old ↔ B.honest bank.new }
-    ensures reads { ReadsId (B.honest bank.old) (B.panel bank.old).devices slot place (bank_seen B.Bank bank.old) (bank_seen B.Bank bank.new)
+    ensures reads { ReadsId (B.honest bank.old) (B.panel bank.old).devices slot place (bank_seen B.Bank bank.old)
+        (bank_seen B.Bank bank.new)
         result }
 {
     match read_place(bank, slot, place)? {

@@ -1,4 +1,5 @@
-//! Stale superblocks are brought up: a place is stale where it does not hold exactly the table's superblock of its slot.
+//! Stale superblocks are brought up: a place is stale where it does not hold exactly the table's superblock of its
+//! slot.
 ghost use Rattle.std.specs.Prelude.{◌≡◌, ◌≢◌, ◌≤◌, ◌<◌, ◌↔◌, ℕ, true, false, None};
 ghost use Rattle.sector_model.specs.History.{Bytes};
 ghost use Rattle.layout_map.specs.declared.sizes.TheConstants.{SUPERBLOCK_PLACES};
@@ -22,7 +23,8 @@ use superblock::{State, Table, own_sector};
 pub(crate) fn bring_up<B: Bank>(bank: &mut B, table: &Table) -> Result<(), Stop>
     requires { CanPublish (B.panel bank.old) table.now None }
     ensures honest { B.honest bank.old ↔ B.honest bank.new }
-    ensures brings { BringsUp (B.honest bank.old) table.now (B.panel bank.old) (B.panel bank.new) (B.history bank.old) (B.history bank.new) result }
+    ensures brings { BringsUp (B.honest bank.old) table.now (B.panel bank.old) (B.panel bank.new) (B.history bank.old)
+        (B.history bank.new) result }
 {
     bring_up_in(bank, table, State::InSync)?;
     bring_up_in(bank, table, State::Rebuilding)
@@ -33,7 +35,8 @@ fn bring_up_in<B: Bank>(bank: &mut B, table: &Table, state: State) -> Result<(),
     requires can { CanPublish (B.panel bank.old) table.now None }
     requires there { state ≢ Missing }
     ensures honest { B.honest bank.old ↔ B.honest bank.new }
-    ensures brings { (sectors : ℕ → Bytes) → AreSpelled table.now sectors → BringsUpSlots (B.honest bank.old) (HasState table.now state) table.now sectors
+    ensures brings { (sectors : ℕ → Bytes) → AreSpelled table.now sectors
+        → BringsUpSlots (B.honest bank.old) (HasState table.now state) table.now sectors
         (B.panel bank.old) (B.panel bank.new) (B.history bank.old) (B.history bank.new) result }
 {
     for slot in 0..table.geometry.members + 2 {
@@ -51,7 +54,8 @@ fn bring_up_slot<B: Bank>(bank: &mut B, table: &Table, slot: u8) -> Result<(), S
     requires device { slot < (B.panel bank.old).devices }
     requires within { (B.panel bank.old).down slot ≡ false → SUPERBLOCK_PLACES ≤ (B.panel bank.old).sectors slot }
     ensures honest { B.honest bank.old ↔ B.honest bank.new }
-    ensures brings { (sectors : ℕ → Bytes) → StandsAt table.now slot (sectors slot) → BringsUpSlots (B.honest bank.old) (λ s. s ≡ slot) table.now sectors
+    ensures brings { (sectors : ℕ → Bytes) → StandsAt table.now slot (sectors slot)
+        → BringsUpSlots (B.honest bank.old) (λ s. s ≡ slot) table.now sectors
         (B.panel bank.old) (B.panel bank.new) (B.history bank.old) (B.history bank.new) result }
 {
     let own = own_sector(table, slot);

@@ -4,7 +4,8 @@ ghost use Rattle.superblock.specs.declared.state.State.TheVariants.{InSync, Miss
 ghost use Rattle.superblock.specs.NextTables.{slots_of};
 ghost use Rattle.superblock.specs.Tables.{state_at};
 ghost use Rattle.recovery.specs.Examining.{IsPresence};
-ghost use Rattle.recovery.specs.Surveying.{FindsLeft, IsDead, IsGone, IsNotFull, IsOutOf, IsSurveyOf, IsThere, Surveys, generation_by, own_by};
+ghost use Rattle.recovery.specs.Surveying.{FindsLeft, IsDead, IsGone, IsNotFull, IsOutOf, IsSurveyOf, IsThere, Surveys};
+ghost use Rattle.recovery.specs.Surveying.{generation_by, own_by};
 ghost use Rattle.recovery.specs.SeenBank.{bank_seen};
 
 use crate::Presence;
@@ -36,8 +37,8 @@ pub(crate) enum Out {
 }
 
 /// Reads each superblock place once, slot by slot from 0, place 0 first. `None` where no superblock of this id counts;
-/// `Worn` where the count of device calls stands at 2^62. What a device holds that is down, that goes down here, or that
-/// is too short for a place, does not count.
+/// `Worn` where the count of device calls stands at 2^62. What a device holds that is down, that goes down here, or
+/// that is too short for a place, does not count.
 pub(crate) fn survey_bank<B: Bank>(bank: &mut B, id: &[u8; 16]) -> Result<Option<Survey>, Refusal>
     ensures honest { B.honest bank.old ↔ B.honest bank.new }
     ensures surveyed { Surveys (B.honest bank.old) id.now (bank_seen B.Bank bank.old) (bank_seen B.Bank bank.new)

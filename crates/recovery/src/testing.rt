@@ -1,5 +1,5 @@
-//! What this crate's tests are made of: banks in memory, superblocks by their bytes, sets that are made and assembled, and
-//! what values are compared with. Where one of them cannot go on, the test ends.
+//! What this crate's tests are made of: banks in memory, superblocks by their bytes, sets that are made and assembled,
+//! and what values are compared with. Where one of them cannot go on, the test ends.
 use crate::{Returned, assemble, make};
 use array_io::Array;
 use layout_map::{FIRST_ROW, Geometry, JOURNAL_SECTORS};
@@ -155,7 +155,8 @@ pub(crate) fn assembled(rt: &(impl Abort + AllocGlobal), image: Image) -> Array<
     array_of(rt, answer(rt, image, Plan::NONE, ID))
 }
 
-/// What assembling the set on these devices answers, of which a slot goes down at its first call of this number or above.
+/// What assembling the set on these devices answers, of which a slot goes down at its first call of this number or
+/// above.
 pub(crate) fn answer_failing(
     rt: &(impl Abort + AllocGlobal),
     image: Image,
@@ -255,8 +256,8 @@ pub(crate) fn sector_of(rt: &impl Abort, image: &Image, slot: usize, at: usize) 
     disk[at]
 }
 
-/// The superblock of a table with this generation and so many stripes, in the slot of this role: 3 members, chunk 8, all
-/// slots in sync at incarnation 1.
+/// The superblock of a table with this generation and so many stripes, in the slot of this role: 3 members, chunk 8,
+/// all slots in sync at incarnation 1.
 pub(crate) fn superblock(generation: u8, stripes: u8, role: u8) -> Sector {
     let mut sector = BLANK;
     sector[..8].copy_from_slice(b"RAID5JV1");
@@ -280,7 +281,8 @@ pub(crate) fn table_in(rt: &impl Abort, sector: &Sector) -> Table {
     decode(sector).expect(rt, "it is a superblock").table
 }
 
-/// Asks that this slot of a table is missing and each other one of the set in sync, all of them where it is none of these.
+/// Asks that this slot of a table is missing and each other one of the set in sync, all of them where it is none of
+/// these.
 pub(crate) fn check_missing(rt: &impl Abort, table: &Table, missing: usize) {
     let mut states = [State::Missing; 10];
     for slot in 0..table.geometry.members as usize + 2 {

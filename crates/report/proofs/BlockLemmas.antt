@@ -1,5 +1,6 @@
 -- Facts on the fields that spell blocks.
-use Rattle.std.proofs.Common.{◌≡◌, ◌≢◌, ℕ, ◌*◌, inl, inr, List, [], ◌∷◌, ◌++◌, length, get_or, replicate, Result, Ok, Err, Some, None, true, false, refl, sym, ap, ◌∙◌, arith, length-append}
+use Rattle.std.proofs.Common.{◌≡◌, ◌≢◌, ℕ, ◌*◌, inl, inr, List, [], ◌∷◌, ◌++◌, length, get_or, replicate, Result, Ok, Err, Some, None, true, false, refl, sym}
+use Rattle.std.proofs.Common.{ap, ◌∙◌, arith, length-append}
 use Rattle.std.specs.Prelude.{All, MatchResult, codes, is_ok}
 use Rattle.std.proofs.lemmas.Bool.{both_ways}
 use Rattle.std.proofs.lemmas.List.{append_cancel_right}

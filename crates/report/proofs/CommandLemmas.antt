@@ -162,7 +162,8 @@ third_is_field line keyword first name after split some =
     }
 
 -- a line of a word, a name and a number
-sized_line : (keyword line name : List ℕ) (count : ℕ) (after : List (List ℕ)) → fields_of line ≡ keyword ∷ after → BeginsWithNumber after name count [] → IsSized keyword line name count
+sized_line : (keyword line name : List ℕ) (count : ℕ) (after : List (List ℕ)) → fields_of line ≡ keyword ∷ after → BeginsWithNumber after name count []
+    → IsSized keyword line name count
 sized_line keyword line name count after is h =
     let split : fields_of line ≡ keyword ∷ name ∷ h.number_field ∷ [] = rw h.spelled at is in
     record {
@@ -232,7 +233,8 @@ as_list (Read name at count) fields is are = absurd (omega arith)
 as_list (Write name at blocks) fields is are = absurd (omega arith)
 
 -- a command of the word `create`
-as_create : (c : Command) (fields : List (List ℕ)) → letter_of (keyword_of c) ≡ 101 → AreFieldsOf c fields → (name : List ℕ) × (count : ℕ) × (c ≡ Create name count) × BeginsWithNumber fields name count []
+as_create : (c : Command) (fields : List (List ℕ)) → letter_of (keyword_of c) ≡ 101 → AreFieldsOf c fields → (name : List ℕ) × (count : ℕ)
+    × (c ≡ Create name count) × BeginsWithNumber fields name count []
 as_create Upgrade fields is are = absurd are
 as_create Names fields is are = absurd (omega arith)
 as_create (Create name count) fields is are = (name, count, refl, are)
@@ -243,7 +245,8 @@ as_create (Read name at count) fields is are = absurd (omega arith)
 as_create (Write name at blocks) fields is are = absurd (omega arith)
 
 -- a command of the word `extend`
-as_extend : (c : Command) (fields : List (List ℕ)) → letter_of (keyword_of c) ≡ 116 → AreFieldsOf c fields → (name : List ℕ) × (count : ℕ) × (c ≡ Extend name count) × BeginsWithNumber fields name count []
+as_extend : (c : Command) (fields : List (List ℕ)) → letter_of (keyword_of c) ≡ 116 → AreFieldsOf c fields → (name : List ℕ) × (count : ℕ)
+    × (c ≡ Extend name count) × BeginsWithNumber fields name count []
 as_extend Upgrade fields is are = absurd are
 as_extend Names fields is are = absurd (omega arith)
 as_extend (Create name count) fields is are = absurd (omega arith)
@@ -254,7 +257,8 @@ as_extend (Read name at count) fields is are = absurd (omega arith)
 as_extend (Write name at blocks) fields is are = absurd (omega arith)
 
 -- a command of the word `remove`
-as_remove : (c : Command) (fields : List (List ℕ)) → letter_of (keyword_of c) ≡ 109 → AreFieldsOf c fields → (name : List ℕ) × (c ≡ Remove name) × BeginsWithName fields name []
+as_remove : (c : Command) (fields : List (List ℕ)) → letter_of (keyword_of c) ≡ 109 → AreFieldsOf c fields → (name : List ℕ) × (c ≡ Remove name)
+    × BeginsWithName fields name []
 as_remove Upgrade fields is are = absurd are
 as_remove Names fields is are = absurd (omega arith)
 as_remove (Create name count) fields is are = absurd (omega arith)
@@ -265,7 +269,8 @@ as_remove (Read name at count) fields is are = absurd (omega arith)
 as_remove (Write name at blocks) fields is are = absurd (omega arith)
 
 -- a command of the word `rename`
-as_rename : (c : Command) (fields : List (List ℕ)) → letter_of (keyword_of c) ≡ 110 → AreFieldsOf c fields → (old : List ℕ) × (new : List ℕ) × (c ≡ Rename old new) × BeginsWithNames fields old new []
+as_rename : (c : Command) (fields : List (List ℕ)) → letter_of (keyword_of c) ≡ 110 → AreFieldsOf c fields → (old : List ℕ) × (new : List ℕ)
+    × (c ≡ Rename old new) × BeginsWithNames fields old new []
 as_rename Upgrade fields is are = absurd are
 as_rename Names fields is are = absurd (omega arith)
 as_rename (Create name count) fields is are = absurd (omega arith)
@@ -276,7 +281,8 @@ as_rename (Read name at count) fields is are = absurd (omega arith)
 as_rename (Write name at blocks) fields is are = absurd (omega arith)
 
 -- a command of the word `read`
-as_read : (c : Command) (fields : List (List ℕ)) → letter_of (keyword_of c) ≡ 97 → AreFieldsOf c fields → (name : List ℕ) × (at : ℕ) × (count : ℕ) × (c ≡ Read name at count) × AreReadFields fields name at count
+as_read : (c : Command) (fields : List (List ℕ)) → letter_of (keyword_of c) ≡ 97 → AreFieldsOf c fields → (name : List ℕ) × (at : ℕ) × (count : ℕ)
+    × (c ≡ Read name at count) × AreReadFields fields name at count
 as_read Upgrade fields is are = absurd are
 as_read Names fields is are = absurd (omega arith)
 as_read (Create name count) fields is are = absurd (omega arith)
@@ -287,7 +293,8 @@ as_read (Read name at count) fields is are = (name, at, count, refl, are)
 as_read (Write name at blocks) fields is are = absurd (omega arith)
 
 -- a command of the word `write`
-as_write : (c : Command) (fields : List (List ℕ)) → letter_of (keyword_of c) ≡ 105 → AreFieldsOf c fields → (name : List ℕ) × (at : ℕ) × (blocks : List Block) × (c ≡ Write name at blocks) × AreWriteFields fields name at blocks
+as_write : (c : Command) (fields : List (List ℕ)) → letter_of (keyword_of c) ≡ 105 → AreFieldsOf c fields → (name : List ℕ) × (at : ℕ) × (blocks : List Block)
+    × (c ≡ Write name at blocks) × AreWriteFields fields name at blocks
 as_write Upgrade fields is are = absurd are
 as_write Names fields is are = absurd (omega arith)
 as_write (Create name count) fields is are = absurd (omega arith)
@@ -298,7 +305,8 @@ as_write (Read name at count) fields is are = absurd (omega arith)
 as_write (Write name at blocks) fields is are = (name, at, blocks, refl, are)
 
 -- the same number field is one number
-same_number : (fields : List (List ℕ)) (a b : List ℕ) (m n : ℕ) (after before : List (List ℕ)) → BeginsWithNumber fields a m after → BeginsWithNumber fields b n before
+same_number : (fields : List (List ℕ)) (a b : List ℕ) (m n : ℕ) (after before : List (List ℕ)) → BeginsWithNumber fields a m after
+    → BeginsWithNumber fields b n before
     → (a ≡ b) × (m ≡ n) × (after ≡ before)
 same_number fields a b m n after before ha hb =
     let spelled = sym ha.spelled ∙ hb.spelled in
@@ -453,12 +461,14 @@ module _ (line keyword : List ℕ) (left : List (List ℕ)) (split : fields_of l
   write_said word (Some r) h = (Write h.0 h.1 h.2, says_command (Write h.0 h.1 h.2) word h.3, h.4)
 
   -- nothing is said where the word `write` has no fields of a write after it
-  pub write_unsaid : keyword ≡ codes "write" → ((name : List ℕ) (at : ℕ) (all : List Block) → AreWriteFields left name at all → ⊥) → (c : Command) → Says line c → ⊥
+  pub write_unsaid : keyword ≡ codes "write" → ((name : List ℕ) (at : ℕ) (all : List Block) → AreWriteFields left name at all → ⊥) → (c : Command) → Says line c
+      → ⊥
   write_unsaid word none c says =
       let h = as_write c left (letter (codes "write") word c says) (fields_of_command c says).1 in none h.0 h.1 h.2 h.4
 
   -- nothing is said by a line whose first word is that of no command
-  pub other_unsaid : (keyword ≢ codes "list") × (keyword ≢ codes "create") × (keyword ≢ codes "extend") × (keyword ≢ codes "remove") × (keyword ≢ codes "read") × (keyword ≢ codes "write")
+  pub other_unsaid : (keyword ≢ codes "list") × (keyword ≢ codes "create") × (keyword ≢ codes "extend") × (keyword ≢ codes "remove") × (keyword ≢ codes "read")
+      × (keyword ≢ codes "write")
       × (keyword ≢ codes "rename")
       → (c : Command) → Says line c → ⊥
   other_unsaid other Upgrade says = says

@@ -21,7 +21,8 @@ left_by members rows position states = if has_rebuilding (take (members + 2) sta
 lines_by : (id : List ℕ) (members chunk stripes rows generation position left : ℕ) → List ℕ
 lines_by id members chunk stripes rows generation position left =
     (codes "set " ++ encode_lower id ++ codes "\n")
-    ++ (codes "members " ++ decimal members ++ codes " chunk " ++ decimal chunk ++ codes " stripes " ++ decimal stripes ++ codes " rows " ++ decimal rows ++ codes "\n")
+    ++ (codes "members " ++ decimal members ++ codes " chunk " ++ decimal chunk ++ codes " stripes " ++ decimal stripes ++ codes " rows " ++ decimal rows
+    ++ codes "\n")
     ++ (codes "generation " ++ decimal generation ++ codes " position " ++ decimal position ++ codes " left " ++ decimal left ++ codes "\n")
 
 -- and its object
@@ -48,7 +49,8 @@ unfolding lines_by left_by
 said_lines status = refl
 
 said_json : (examined : Examined) (status : Status)
-    → inspection_json status examined ≡ json_by examined status.id status.members status.chunk status.stripes status.rows status.generation status.position (left_in status)
+    → inspection_json status examined ≡ json_by examined status.id status.members status.chunk status.stripes status.rows status.generation status.position
+    (left_in status)
 unfolding json_by left_by
 said_json examined status = refl
 

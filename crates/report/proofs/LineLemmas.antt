@@ -1,5 +1,6 @@
 -- Lines that are read in parts.
-use Rattle.std.proofs.Common.{◌+◌, ◌≡◌, ◌≢◌, ℕ, zero, suc, ◌<◌, ◌≤◌, cond, List, [], ◌∷◌, ◌++◌, All, Option, None, Some, IfSome, OnSome, length, take, inl, inr, refl, sym, ap, subst, ◌∙◌, append_assoc, append-nil, length-take, take_all, ne_eqb, arith}
+use Rattle.std.proofs.Common.{◌+◌, ◌≡◌, ◌≢◌, ℕ, zero, suc, ◌<◌, ◌≤◌, cond, List, [], ◌∷◌, ◌++◌, All, Option, None, Some, IfSome, OnSome, length, take, inl, inr}
+use Rattle.std.proofs.Common.{refl, sym, ap, subst, ◌∙◌, append_assoc, append-nil, length-take, take_all, ne_eqb, arith}
 use Rattle.std.proofs.lemmas.List.Elements.{All-head, All-tail, All-append, All-nil, All-take}
 use Rattle.std.specs.Io.KnownBytes.{Consumes, Keeps, IsAtEnd}
 use Rattle.std.proofs.KnownBytes.{Consumes-nil, Consumes-trans, Consumes-kept}
@@ -40,7 +41,8 @@ lines_of-last x (y ∷ ys) none =
     ∙ ap (onto_first x) (lines_of-last y ys (All-tail (λ byte. byte ≢ 10) x (y ∷ ys) none))
 
 -- before the first part
-pub ReadsPart-nothing : (old new : Option (List ℕ)) (line kept : List ℕ) → Keeps old new → kept ≡ take (LONGEST_LINE + 1) line → ReadsPart old new Nothing line kept
+pub ReadsPart-nothing : (old new : Option (List ℕ)) (line kept : List ℕ) → Keeps old new → kept ≡ take (LONGEST_LINE + 1) line
+    → ReadsPart old new Nothing line kept
 ReadsPart-nothing old new line kept same is = record {
   part = [];
   unbroken = All-nil (λ byte. byte ≢ 10);
@@ -52,13 +54,16 @@ joined_parts : (a b end : List ℕ) → (a ++ []) ++ (b ++ end) ≡ (a ++ b) ++ 
 joined_parts a b end = ap (λ l. l ++ (b ++ end)) (append-nil a) ∙ sym (append_assoc a b end)
 
 -- one part after another
-pub ReadsPart-trans : (old mid new : Option (List ℕ)) (met : Met) (line half kept : List ℕ) → ReadsPart old mid Nothing line half → ReadsPart mid new met half kept
+pub ReadsPart-trans : (old mid new : Option (List ℕ)) (met : Met) (line half kept : List ℕ) → ReadsPart old mid Nothing line half
+    → ReadsPart mid new met half kept
     → ReadsPart old new met line kept
 ReadsPart-trans old mid new met line half kept p q = record {
   part = p.part ++ q.part;
   unbroken = All-append (λ byte. byte ≢ 10) p.part q.part p.unbroken q.unbroken;
-  consumed = subst (Consumes old new) (joined_parts p.part q.part (end_of met)) (Consumes-trans old mid new (p.part ++ []) (q.part ++ end_of met) p.consumed q.consumed);
-  first = q.first ∙ ap (λ l. take (LONGEST_LINE + 1) (l ++ q.part)) p.first ∙ take-kept_append (LONGEST_LINE + 1) (line ++ p.part) q.part ∙ ap (take (LONGEST_LINE + 1)) (append_assoc line p.part q.part);
+  consumed = subst (Consumes old new) (joined_parts p.part q.part (end_of met))
+      (Consumes-trans old mid new (p.part ++ []) (q.part ++ end_of met) p.consumed q.consumed);
+  first = q.first ∙ ap (λ l. take (LONGEST_LINE + 1) (l ++ q.part)) p.first ∙ take-kept_append (LONGEST_LINE + 1) (line ++ p.part) q.part
+      ∙ ap (take (LONGEST_LINE + 1)) (append_assoc line p.part q.part);
 }
 
 -- a whole line was read
@@ -80,17 +85,20 @@ pub unbroken_from_parts : (old new : Option (List ℕ)) (met : Met) (kept : List
 unbroken_from_parts old new met kept h = subst (All (λ byte. byte ≢ 10)) (sym h.first) (All-take (λ byte. byte ≢ 10) (LONGEST_LINE + 1) h.part h.unbroken)
 
 -- a reader whose bytes were known still says so
-pub end_from_parts : (old mid new : Option (List ℕ)) (line kept : List ℕ) → ReadsPart old mid Nothing line kept → OnSome mid (IsAtEnd new) → OnSome old (IsAtEnd new)
+pub end_from_parts : (old mid new : Option (List ℕ)) (line kept : List ℕ) → ReadsPart old mid Nothing line kept → OnSome mid (IsAtEnd new)
+    → OnSome old (IsAtEnd new)
 end_from_parts None mid new line kept h end = tt
 end_from_parts (Some script) None new line kept h end = absurd h.consumed
 end_from_parts (Some script) (Some rest) new line kept h end = end
 
 -- what was read at the end of a script is all of it
-whole : (script : List ℕ) (new : Option (List ℕ)) (kept : List ℕ) (h : ReadsPart (Some script) new ScriptEnd [] kept) → IsAtEnd new → (new ≡ Some []) × (script ≡ h.part)
+whole : (script : List ℕ) (new : Option (List ℕ)) (kept : List ℕ) (h : ReadsPart (Some script) new ScriptEnd [] kept) → IsAtEnd new → (new ≡ Some [])
+    × (script ≡ h.part)
 whole script None kept h end = absurd h.consumed
 whole script (Some rest) kept h end = (ap Some end, h.consumed ∙ ap (λ l. (h.part ++ []) ++ l) end ∙ append-nil (h.part ++ []) ∙ append-nil h.part)
 
-last_line : (new : Option (List ℕ)) (line kept : List ℕ) → new ≡ Some [] → All (λ byte. byte ≢ 10) line → kept ≡ take (LONGEST_LINE + 1) line → 0 < length kept → GivesLine line new kept
+last_line : (new : Option (List ℕ)) (line kept : List ℕ) → new ≡ Some [] → All (λ byte. byte ≢ 10) line → kept ≡ take (LONGEST_LINE + 1) line → 0 < length kept
+    → GivesLine line new kept
 last_line new [] kept left none first some = absurd (omega (arith, ap length first))
 last_line new (x ∷ xs) kept left none first some = record {
   line = x ∷ xs;
@@ -125,7 +133,8 @@ no_line_from_parts (Some script) new kept h end none =
     subst (λ l. HasNoLine l new) (sym all.1) (no_line new h.part kept all.0 h.first none)
 
 -- the reader failed in a line
-pub stop_from_parts : (old mid new : Option (List ℕ)) (kept : List ℕ) → ReadsPart old mid Nothing [] kept → Keeps mid new → IfSome old (λ script. StopsInLine script new)
+pub stop_from_parts : (old mid new : Option (List ℕ)) (kept : List ℕ) → ReadsPart old mid Nothing [] kept → Keeps mid new
+    → IfSome old (λ script. StopsInLine script new)
 stop_from_parts None mid new kept h same = tt
 stop_from_parts (Some script) None new kept h same = absurd h.consumed
 stop_from_parts (Some script) (Some rest) None kept h same = absurd same

@@ -1,4 +1,5 @@
--- The lines of a script: a relation between the bytes of a line and a command on volumes. A name is any bytes here; whether it is a good one is decided by the command.
+-- The lines of a script: a relation between the bytes of a line and a command on volumes. A name is any bytes here; whether it is a good one is decided by the
+-- command.
 use Rattle.std.specs.Prelude.{◌≡◌, ◌≢◌, ◌⊎◌, ℕ, ◌+◌, ◌-◌, ◌*◌, ◌<◌, ◌^◌, List, [], ◌∷◌, ◌++◌, length, replicate, slice_index, fold, All, codes, Ok}
 use Rattle.std.specs.Char.{IsAsciiDigit}
 use Rattle.std.specs.List.{flat_map}

@@ -5,7 +5,8 @@ ghost use Rattle.sector_model.specs.declared.refusal.Refusal.TheVariants.{Memory
 ghost use Rattle.serde_json.specs.Data.{string};
 ghost use Rattle.serde_json.specs.View.{view};
 ghost use Rattle.volume_table.specs.declared.status.Status.{Status};
-ghost use Rattle.report.specs.Inspections.{IsStatusOf, entry_json, inspection_json, inspection_slot_json, inspection_slots_json, outlook_text, standing_text};
+ghost use Rattle.report.specs.Inspections.{IsStatusOf, entry_json, inspection_json, inspection_slot_json};
+ghost use Rattle.report.specs.Inspections.{inspection_slots_json, outlook_text, standing_text};
 ghost use Rattle.report.specs.Report.{left};
 
 use crate::inspections::{last_of, presence_word, status_of, write_outlook, write_standing};
@@ -18,11 +19,13 @@ use serde_json::{Map, Value, put};
 use std::alloc::{AllocError, Global};
 use volume_table::Status;
 
-/// What an inspection of a set found as a JSON object, with an array of the slots, as docs/FORMATS.md, "An inspection" has it.
+/// What an inspection of a set found as a JSON object, with an array of the slots, as docs/FORMATS.md, "An inspection"
+/// has it.
 ///
 /// The only refusal is `Refusal::Memory`, where an allocation was refused.
 pub fn examined_to_json(alloc: Global, examined: &Examined) -> Result<Value, Refusal>
-    ensures value { IfOk result (λ value. (status : Status) → IsStatusOf examined.now.table status → view value ≡ inspection_json status examined.now) }
+    ensures value { IfOk result (λ value. (status : Status) → IsStatusOf examined.now.table status
+        → view value ≡ inspection_json status examined.now) }
     ensures err { IfErr result (λ refusal. refusal ≡ Memory) }
 {
     let status = status_of(&examined.table);
@@ -53,7 +56,8 @@ fn inspection_value(
 fn set_numbers(status: &Status) -> [(&'static str, u64); 7]
     ensures { map {B = List ℕ × ℕ} (λ (number : Bor (List ℕ) × ℕ). (number.0.now, number.1)) result
         ≡ (codes "chunk", status.now.chunk) ∷ (codes "stripes", status.now.stripes) ∷ (codes "rows", status.now.rows)
-        ∷ (codes "members", status.now.members) ∷ (codes "generation", status.now.generation) ∷ (codes "position", status.now.position)
+        ∷ (codes "members", status.now.members) ∷ (codes "generation", status.now.generation)
+        ∷ (codes "position", status.now.position)
         ∷ (codes "left", left status.now) ∷ [] }
 {
     [
@@ -87,7 +91,8 @@ fn standing_string(alloc: Global, standing: Standing) -> Result<String, AllocErr
 
 // The objects of all slots, in order.
 fn slot_values(alloc: Global, examined: &Examined) -> Result<Vec<Value>, AllocError>
-    ensures { IfOk result (λ values. map view values.items ≡ inspection_slots_json examined.now (examined.now.table.geometry.members + 2)) }
+    ensures { IfOk result (λ values. map view values.items ≡ inspection_slots_json examined.now
+        (examined.now.table.geometry.members + 2)) }
 {
     let mut values = Vec::new(alloc);
     for slot in 0..examined.table.geometry.members + 2 {
@@ -132,7 +137,8 @@ fn text_value(alloc: Global, text: &str) -> Result<Value, AllocError>
 // The numbers of a slot, each with its key.
 fn slot_numbers(found: &ExaminedSlot, slot: u8) -> [(&'static str, u64); 3]
     ensures { map {B = List ℕ × ℕ} (λ (number : Bor (List ℕ) × ℕ). (number.0.now, number.1)) result
-        ≡ (codes "generation", found.now.generation) ∷ (codes "incarnation", found.now.incarnation) ∷ (codes "slot", slot) ∷ [] }
+        ≡ (codes "generation", found.now.generation) ∷ (codes "incarnation", found.now.incarnation)
+        ∷ (codes "slot", slot) ∷ [] }
 {
     [
         ("generation", found.generation),

@@ -2,7 +2,9 @@
 ghost use Rattle.std.specs.Prelude.{◌≡◌, ◌+◌, ◌<◌, ◌++◌, codes, IfOk, IfErr, OnOk, string_bytes};
 ghost use Rattle.sector_model.specs.declared.refusal.Refusal.TheVariants.{Memory};
 ghost use Rattle.volume_table.specs.declared.status.Status.{Status};
-ghost use Rattle.report.specs.Inspections.{IsStatusOf, entry_text, examined_line, examined_lines, last_in, inspection_text, outlook_text, own_text, place_text, presence_word as word_of_presence, standing_text};
+ghost use Rattle.report.specs.Inspections.{IsStatusOf, entry_text, examined_line, examined_lines, last_in};
+ghost use Rattle.report.specs.Inspections.{inspection_text, outlook_text, own_text, place_text};
+ghost use Rattle.report.specs.Inspections.{presence_word as word_of_presence, standing_text};
 
 use crate::text::{role_word, set_text};
 use recovery::{Examined, ExaminedSlot, Outlook, Presence, Standing};
@@ -11,11 +13,13 @@ use std::alloc::{AllocError, Global};
 use superblock::Table;
 use volume_table::Status;
 
-/// What an inspection of a set found as lines of text, each ended by byte 0A, as docs/FORMATS.md, "An inspection" has them.
+/// What an inspection of a set found as lines of text, each ended by byte 0A, as docs/FORMATS.md, "An inspection" has
+/// them.
 ///
 /// The only refusal is `Refusal::Memory`, where an allocation was refused.
 pub fn examined_text(alloc: Global, examined: &Examined) -> Result<String, Refusal>
-    ensures text { IfOk result (λ text. (status : Status) → IsStatusOf examined.now.table status → string_bytes text ≡ inspection_text status examined.now) }
+    ensures text { IfOk result (λ text. (status : Status) → IsStatusOf examined.now.table status
+        → string_bytes text ≡ inspection_text status examined.now) }
     ensures err { IfErr result (λ refusal. refusal ≡ Memory) }
 {
     let status = status_of(&examined.table);

@@ -1,5 +1,6 @@
 //! The lines of a script, read one at a time.
-ghost use Rattle.std.specs.Prelude.{◌≡◌, ◌≢◌, ◌+◌, ◌<◌, ◌≤◌, [], ◌++◌, length, take, All, Ok, IfOk, IfErr, OnOk, OnErr, IfSome, OnSome, true, false, vec_len, vec_capacity};
+ghost use Rattle.std.specs.Prelude.{◌≡◌, ◌≢◌, ◌+◌, ◌<◌, ◌≤◌, [], ◌++◌, length, take, All, Ok, IfOk, IfErr, OnOk, OnErr};
+ghost use Rattle.std.specs.Prelude.{IfSome, OnSome, true, false, vec_len, vec_capacity};
 ghost use Rattle.std.specs.Io.KnownBytes.{Keeps, IsAtEnd};
 ghost use Rattle.report.specs.Lines.{GivesLine, HasNoLine, StopsInLine, ReadsPart, end_of};
 
@@ -69,7 +70,8 @@ fn read_part<R: BufRead, A: Allocator>(
 ) -> Result<Met, Refusal>
     requires capacity { LONGEST_LINE + 1 ≤ vec_capacity line.old }
     requires held { vec_len line.old ≤ LONGEST_LINE + 1 }
-    ensures read { IfOk result (λ met. ReadsPart (R.remaining reader.old) (R.remaining reader.new) met line.old.items line.new.items) }
+    ensures read { IfOk result (λ met. ReadsPart (R.remaining reader.old) (R.remaining reader.new) met line.old.items
+        line.new.items) }
     ensures end { result ≡ Ok Met.ScriptEnd → OnSome (R.remaining reader.old) (IsAtEnd (R.remaining reader.new)) }
     ensures fault { OnErr result (Keeps (R.remaining reader.old) (R.remaining reader.new)) }
     ensures kind { IfErr result (λ refusal. refusal ≡ Refusal.ReadFault) }
@@ -96,7 +98,8 @@ fn read_part<R: BufRead, A: Allocator>(
 fn find_end(shown: &[u8]) -> (usize, Met)
     ensures within { result.0 + length (end_of result.1) ≤ length shown.now }
     ensures unbroken { All (λ byte. byte ≢ 10) (take result.0 shown.now) }
-    ensures through { take (result.0 + length (end_of result.1)) shown.now ≡ take result.0 shown.now ++ end_of result.1 }
+    ensures through { take (result.0 + length (end_of result.1)) shown.now ≡ take result.0 shown.now
+        ++ end_of result.1 }
     ensures none { result.1 ≡ Met.ScriptEnd → length shown.now ≡ 0 }
     ensures all { result.1 ≡ Met.Nothing → (0 < result.0) × (result.0 ≡ length shown.now) }
 {

@@ -2,7 +2,8 @@
 ghost use Rattle.std.specs.Prelude.{◌≡◌, ℕ, List, [], IfSome, None};
 ghost use Rattle.volume_table.specs.Volumes.{Block};
 ghost use Rattle.volume_table.specs.VolumeStep.{Command, Create, Extend, Names, Read, Remove, Rename, Write};
-ghost use Rattle.report.specs.Fields.{AreReadFields, AreUnsized, AreWriteFields, BeginsWithName, BeginsWithNames, BeginsWithNumber, fields_left};
+ghost use Rattle.report.specs.Fields.{AreReadFields, AreUnsized, AreWriteFields, BeginsWithName, BeginsWithNames};
+ghost use Rattle.report.specs.Fields.{BeginsWithNumber, fields_left};
 ghost use Rattle.report.specs.Grammar.{Says};
 ghost use Rattle.report.specs.Kept.{IsKept, IsSizedEvent, SaysOneCommand};
 
@@ -23,9 +24,9 @@ use number::number;
 /// is still seen as too long.
 pub const KEPT_BLOCKS: usize = MOST_BLOCKS_AT_ONCE + 1;
 
-/// Reads a line (without its end): what a store is asked, a command on volumes. Names lie in the line, and the blocks of a write in the buffer.
-/// None where the line is no command; the buffer then holds anything. The first `KEPT_BLOCKS` of a write are kept, and the others are only checked to
-/// be blocks.
+/// Reads a line (without its end): what a store is asked, a command on volumes. Names lie in the line, and the blocks
+/// of a write in the buffer. None where the line is no command; the buffer then holds anything. The first `KEPT_BLOCKS`
+/// of a write are kept, and the others are only checked to be blocks.
 pub fn parse<'a>(line: &'a [u8], blocks: &'a mut [Sector; KEPT_BLOCKS]) -> Option<Event<'a>>
     ensures said { IfSome result (λ event. (command : Command) × Says line.now command × IsKept command event) }
     ensures unsaid { result ≡ None → (command : Command) → Says line.now command → ⊥ }
@@ -159,7 +160,8 @@ fn parse_write<'a>(
 
 // Takes the name of a volume and a number from the fields.
 fn next_number<'a>(fields: &mut Fields<'a>) -> Option<(&'a [u8], u32)>
-    ensures said { IfSome result (λ read. BeginsWithNumber (fields_left fields.old) read.0.now read.1 (fields_left fields.new)) }
+    ensures said { IfSome result (λ read. BeginsWithNumber (fields_left fields.old) read.0.now read.1
+        (fields_left fields.new)) }
     ensures unsaid { result ≡ None → (name : List ℕ) → (n : ℕ) → (after : List (List ℕ))
         → BeginsWithNumber (fields_left fields.old) name n after → ⊥ }
 {

@@ -4,7 +4,8 @@ ghost use Rattle.std.specs.List.{flat_map};
 ghost use Rattle.hex.specs.Hex.{encode_lower};
 ghost use Rattle.std.specs.Io.KnownBytes.{Appends, Keeps};
 ghost use Rattle.arrayvec.specs.ArrayVec.{array_vec_len};
-ghost use Rattle.report.specs.Replies.{is_uniform as is_uniform_block, block_line, made_line, slot_line, volume_line, refusal_line, reply_text};
+ghost use Rattle.report.specs.Replies.{is_uniform as is_uniform_block, block_line, made_line, slot_line, volume_line};
+ghost use Rattle.report.specs.Replies.{refusal_line, reply_text};
 ghost use Rattle.report.specs.Written.{volume_of, reply_of, AppendsPart, WritesText};
 
 mod set;
@@ -60,9 +61,10 @@ pub fn write_made<W: Write>(writer: &mut W) -> Result<(), Refusal>
     write_text(writer, b"made\n")
 }
 
-/// Writes a line that names the file of a slot, `cannot make dev3.img` or `in use dev3.img`: the words before the name, `dev3.img` with the number of the
-/// slot, what stands after it, and a newline, in one call of `write` where the writer takes it whole. The words and what stands after have 80 bytes at
-/// most (condition). The only refusal is `Refusal::WriteFault`, as for a reply.
+/// Writes a line that names the file of a slot, `cannot make dev3.img` or `in use dev3.img`: the words before the name,
+/// `dev3.img` with the number of the slot, what stands after it, and a newline, in one call of `write` where the writer
+/// takes it whole. The words and what stands after have 80 bytes at most (condition). The only refusal is
+/// `Refusal::WriteFault`, as for a reply.
 pub fn write_slot_line<W: Write>(
     writer: &mut W,
     before: &[u8],
@@ -177,8 +179,8 @@ fn append<const N: usize>(line: &mut ArrayVec<u8, N>, bytes: &[u8])
     let _ = line.try_extend_from_slice(bytes);
 }
 
-/// Writes all bytes. It calls nothing for no bytes, and does not flush. The only refusal is `Refusal::WriteFault`, as for a reply: a beginning of the bytes
-/// may then be written, and never all of them.
+/// Writes all bytes. It calls nothing for no bytes, and does not flush. The only refusal is `Refusal::WriteFault`, as
+/// for a reply: a beginning of the bytes may then be written, and never all of them.
 pub fn write_text<W: Write>(writer: &mut W, bytes: &[u8]) -> Result<(), Refusal>
     ensures ok { OnOk result (Appends (W.contents writer.old) (W.contents writer.new) bytes.now) }
     ensures part { OnErr result (AppendsPart (W.contents writer.old) (W.contents writer.new) bytes.now) }

@@ -1,7 +1,8 @@
 //! The status of a set, as lines of text.
 ghost use Rattle.std.specs.Prelude.{◌≡◌, ◌+◌, ◌<◌, ◌++◌, IfOk, IfErr, OnOk, string_bytes};
 ghost use Rattle.sector_model.specs.declared.refusal.Refusal.TheVariants.{Memory};
-ghost use Rattle.report.specs.Report.{role_word as word_of_role, state_word as word_of_state, head_lines, set_lines, shape_line, table_line, use_line, slot_line, slot_lines, status_text};
+ghost use Rattle.report.specs.Report.{role_word as word_of_role, state_word as word_of_state, head_lines, set_lines};
+ghost use Rattle.report.specs.Report.{shape_line, table_line, use_line, slot_line, slot_lines, status_text};
 
 use crate::left::left_of;
 use sector_model::Refusal;

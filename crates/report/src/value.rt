@@ -41,8 +41,10 @@ fn status_value(alloc: Global, status: &Status) -> Result<Value, AllocError>
 fn numbers(status: &Status) -> [(&'static str, u64); 11]
     ensures { map {B = List ℕ × ℕ} (λ (number : Bor (List ℕ) × ℕ). (number.0.now, number.1)) result
         ≡ (codes "chunk", status.now.chunk) ∷ (codes "stripes", status.now.stripes) ∷ (codes "rows", status.now.rows)
-        ∷ (codes "members", status.now.members) ∷ (codes "generation", status.now.generation) ∷ (codes "position", status.now.position) ∷ (codes "left", left status.now)
-        ∷ (codes "extents", status.now.extents) ∷ (codes "free", status.now.free) ∷ (codes "table", status.now.version) ∷ (codes "volumes", status.now.volumes) ∷ [] }
+        ∷ (codes "members", status.now.members) ∷ (codes "generation", status.now.generation)
+        ∷ (codes "position", status.now.position) ∷ (codes "left", left status.now)
+        ∷ (codes "extents", status.now.extents) ∷ (codes "free", status.now.free) ∷ (codes "table", status.now.version)
+        ∷ (codes "volumes", status.now.volumes) ∷ [] }
 {
     [
         ("chunk", status.chunk as u64),
@@ -66,7 +68,8 @@ pub(crate) fn put_numbers(
     numbers: &[(&str, u64)],
 ) -> Result<(), AllocError>
     ensures { OnOk result (members_view object.new.entries
-        ≡ fold (λ (done : Members) (number : Bor (List ℕ) × ℕ). with_member number.0.now (whole number.1) done) (members_view object.old.entries) numbers.now) }
+        ≡ fold (λ (done : Members) (number : Bor (List ℕ) × ℕ). with_member number.0.now (whole number.1) done)
+        (members_view object.old.entries) numbers.now) }
 {
     for (key, number) in numbers {
         put(object, alloc, key, Value::from(*number))?;

@@ -1,5 +1,6 @@
 -- Copies of what stands in slots.
-use Rattle.std.proofs.Common.{Option, None, Some, is_none, is_some, not, below_more, ◌≡◌, ◌⊎◌, inl, inr, ℕ, zero, suc, ◌+◌, ◌<◌, ◌≤◌, Bool, true, false, List, [], ◌∷◌, ◌++◌, length, get_or, refl, sym, ◌∙◌, ap, subst, arith}
+use Rattle.std.proofs.Common.{Option, None, Some, is_none, is_some, not, below_more, ◌≡◌, ◌⊎◌, inl, inr, ℕ, zero, suc, ◌+◌, ◌<◌, ◌≤◌, Bool, true, false, List}
+use Rattle.std.proofs.Common.{[], ◌∷◌, ◌++◌, length, get_or, refl, sym, ◌∙◌, ap, subst, arith}
 use Rattle.std.proofs.lemmas.List.{get_or_past}
 use Rattle.sector_model.specs.History.{IsSector, disk_of}
 use Rattle.sector_model.specs.Memory.{Disk, sectors_in, slots_of, contents_of, down_at, AreSectors, AreCopies, AreAbsences}
@@ -47,7 +48,8 @@ slots_at (first ∷ slots) slot zero within is = ap sectors_in (sym is)
 slots_at (first ∷ slots) slot (suc d) within is = slots_at slots slot d (omega arith) is
 
 -- one slot more
-pub copies_more : (n : ℕ) (slots : List (Option Disk)) (disks : List Disk) (slot : Option Disk) (disk : Disk) → AreCopies n slots disks → n ≡ length disks → n < length slots
+pub copies_more : (n : ℕ) (slots : List (Option Disk)) (disks : List Disk) (slot : Option Disk) (disk : Disk) → AreCopies n slots disks → n ≡ length disks
+    → n < length slots
     → slot ≡ get_or slots n slot → disk.items ≡ disk_of (sectors_in slot) → AreSectors disk.items → AreCopies (n + 1) slots (disks ++ disk ∷ [])
 copies_more n slots disks slot disk copies as_many within is holds whole = record {
   each = below_more _ _ (λ d lt. contents-push disks disk d (omega (arith, as_many, lt)) ∙ copies.each d lt)
@@ -62,7 +64,8 @@ is_none-sectors false None is = absurd (cc)
 is_none-sectors true (Some disk) is = absurd (cc)
 is_none-sectors false (Some disk) is = refl
 
-pub absences_more : (n : ℕ) (slots : List (Option Disk)) (flags : List Bool) (slot : Option Disk) (flag : Bool) → AreAbsences n slots flags → n ≡ length flags → n < length slots
+pub absences_more : (n : ℕ) (slots : List (Option Disk)) (flags : List Bool) (slot : Option Disk) (flag : Bool) → AreAbsences n slots flags → n ≡ length flags
+    → n < length slots
     → slot ≡ get_or slots n slot → not flag ≡ is_some slot → AreAbsences (n + 1) slots (flags ++ flag ∷ [])
 absences_more n slots flags slot flag absences as_many within is absent = record {
   each = below_more _ _ (λ d lt. down_at-push flags flag d (omega (arith, as_many, lt)) ∙ absences.each d lt)
@@ -73,19 +76,22 @@ pub le_or_lt : (n d : ℕ) → (n ≤ d) ⊎ (d < n)
 le_or_lt n d = grind arith
 
 -- the same of all slots
-pub all_copied : (slots : List (Option Disk)) (disks : List Disk) → AreCopies (length slots) slots disks → length disks ≡ length slots → (d : ℕ) → contents_of disks d ≡ disk_of (slots_of slots d)
+pub all_copied : (slots : List (Option Disk)) (disks : List Disk) → AreCopies (length slots) slots disks → length disks ≡ length slots → (d : ℕ)
+    → contents_of disks d ≡ disk_of (slots_of slots d)
 all_copied slots disks copies as_many d = elim (le_or_lt (length slots) d) [
   | inl past ↦ contents_past disks d (omega (arith, as_many, past)) ∙ ap disk_of (sym (slots_past slots d past))
   | inr lt ↦ copies.each d lt
 ]
 
-pub all_whole : (slots : List (Option Disk)) (disks : List Disk) → AreCopies (length slots) slots disks → length disks ≡ length slots → (d a : ℕ) → a < length (contents_of disks d) → IsSector (get_or (contents_of disks d) a [])
+pub all_whole : (slots : List (Option Disk)) (disks : List Disk) → AreCopies (length slots) slots disks → length disks ≡ length slots → (d a : ℕ)
+    → a < length (contents_of disks d) → IsSector (get_or (contents_of disks d) a [])
 all_whole slots disks copies as_many d a within = elim (le_or_lt (length slots) d) [
   | inl past ↦ absurd (omega (arith, ap length (contents_past disks d (omega (arith, as_many, past))), within))
   | inr lt ↦ (copies.whole d lt).each a within
 ]
 
-pub all_absent : (slots : List (Option Disk)) (flags : List Bool) → AreAbsences (length slots) slots flags → length flags ≡ length slots → (d : ℕ) → down_at flags d ≡ is_none (slots_of slots d)
+pub all_absent : (slots : List (Option Disk)) (flags : List Bool) → AreAbsences (length slots) slots flags → length flags ≡ length slots → (d : ℕ)
+    → down_at flags d ≡ is_none (slots_of slots d)
 all_absent slots flags absences as_many d = elim (le_or_lt (length slots) d) [
   | inl past ↦ get_or_past flags d true (omega (arith, as_many, past)) ∙ ap is_none (sym (slots_past slots d past))
   | inr lt ↦ absences.each d lt

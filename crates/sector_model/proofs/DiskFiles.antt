@@ -9,11 +9,13 @@ pub holds_none : (byte : ℕ → ℕ) → HoldsDisk byte []
 holds_none byte = record { each = λ a k there small. absurd (omega (arith, there)) }
 
 -- one sector more
-pub holds_more : (old new : List ℕ) (disk : List Bytes) (n : ℕ) → new ≡ old ++ get_or disk n [] → length old ≡ 512 * n → n < length disk → HoldsDisk (λ p. get_or old p 0) (take n disk)
+pub holds_more : (old new : List ℕ) (disk : List Bytes) (n : ℕ) → new ≡ old ++ get_or disk n [] → length old ≡ 512 * n → n < length disk
+    → HoldsDisk (λ p. get_or old p 0) (take n disk)
     → HoldsDisk (λ p. get_or new p 0) (take (n + 1) disk)
 holds_more old new disk n is size within was = record {
   each = λ a k there small. ⊎_elim
-      (λ (lt : a < n). ap (λ (l : List ℕ). get_or l (512 * a + k) 0) is ∙ get_or_append_left old (get_or disk n []) 0 (512 * a + k) (omega (arith, size, lt, small))
+      (λ (lt : a < n). ap (λ (l : List ℕ). get_or l (512 * a + k) 0) is
+      ∙ get_or_append_left old (get_or disk n []) 0 (512 * a + k) (omega (arith, size, lt, small))
       ∙ was.each a k (omega (arith, lt, length-take-le n disk (omega (arith, within)))) small
       ∙ ap (λ (l : Bytes). get_or l k 0) (get_or-take n disk a [] lt ∙ sym (get_or-take (n + 1) disk a [] (omega (arith, lt)))))
       (λ (ge : n ≤ a). at_end a k (omega (arith, there, ge, length-take-le (n + 1) disk (omega (arith, within)))))
@@ -22,7 +24,8 @@ holds_more old new disk n is size within was = record {
   where
     at_end : (a k : ℕ) → a ≡ n → get_or new (512 * a + k) 0 ≡ get_or (get_or (take (n + 1) disk) a []) k 0
     at_end a k last =
-        ap (λ (l : List ℕ). get_or l (512 * a + k) 0) is ∙ ap (λ (i : ℕ). get_or (old ++ get_or disk n []) i 0) (omega (arith, last, size)) ∙ get_or-append-add old (get_or disk n []) k 0
+        ap (λ (l : List ℕ). get_or l (512 * a + k) 0) is ∙ ap (λ (i : ℕ). get_or (old ++ get_or disk n []) i 0) (omega (arith, last, size))
+        ∙ get_or-append-add old (get_or disk n []) k 0
         ∙ ap (λ (l : Bytes). get_or l k 0) (sym (get_or-take (n + 1) disk n [] (omega arith)) ∙ ap (λ (i : ℕ). get_or (take (n + 1) disk) i []) (sym last))
 
 pub holds_all : {byte : ℕ → ℕ} (disk : List Bytes) (n : ℕ) → length disk ≤ n → HoldsDisk byte (take n disk) → HoldsDisk byte disk

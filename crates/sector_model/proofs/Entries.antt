@@ -24,7 +24,12 @@ put_by-most (DeviceFailed device) room d a = omega arith
 pub put_by_all-most : (log : List Entry) (room d a : ℕ) → length (put_by_all log room d a) ≤ length log
 put_by_all-most [] room d a = omega arith
 put_by_all-most (entry ∷ log) room d a =
-    omega (arith, length-append (put_by entry.event room d a) (put_by_all log (room_after entry.event room) d a), put_by-most entry.event room d a, put_by_all-most log (room_after entry.event room) d a)
+    omega (
+      arith,
+      length-append (put_by entry.event room d a) (put_by_all log (room_after entry.event room) d a),
+      put_by-most entry.event room d a,
+      put_by_all-most log (room_after entry.event room) d a,
+    )
 
 -- what a read of a log answers after its end
 abbrev pub no_entry : Entry
@@ -38,8 +43,16 @@ put_by_all-more log i room after d a within is =
     ∙ ap (λ (r : ℕ). put_by (get_or log i no_entry).event room d a ++ put_by_all (drop (i + 1) log) r d a) (sym is)
 
 -- the entry there puts a candidate
-pub put_by_all-some : (log : List Entry) (i room d a : ℕ) (v : Bytes) → i < length log → put_by (get_or log i no_entry).event room d a ≡ (if a == a then v ∷ [] else []) → 0 < length (put_by_all (drop i log) room d a)
+pub put_by_all-some : (log : List Entry) (i room d a : ℕ) (v : Bytes) → i < length log
+    → put_by (get_or log i no_entry).event room d a ≡ (if a == a then v ∷ [] else []) → 0 < length (put_by_all (drop i log) room d a)
 put_by_all-some log i room d a v within puts =
     let after = room_after (get_or log i no_entry).event room in
-    let one : length (put_by (get_or log i no_entry).event room d a) ≡ 1 = ap length puts ∙ ap (λ (b : Bool). length (if b then v ∷ [] else [])) (eq-eqb a a refl) in
-    omega (arith, ap length (put_by_all-more log i room after d a within refl), length-append (put_by (get_or log i no_entry).event room d a) (put_by_all (drop (i + 1) log) after d a), one)
+    let one : length (put_by (get_or log i no_entry).event room d a) ≡ 1 =
+    ap length puts ∙ ap (λ (b : Bool). length (if b then v ∷ [] else [])) (eq-eqb a a refl) in
+    omega (
+      arith,
+      ap length (put_by_all-more log i room after d a within refl),
+      length-append (put_by (get_or log i no_entry).event room d a)
+          (put_by_all (drop (i + 1) log) after d a),
+      one,
+    )

@@ -1,5 +1,6 @@
 -- A bank over files stays what its run has led to.
-use Rattle.std.proofs.Common.{◌≡◌, ◌≢◌, ◌⊎◌, inl, inr, ⊎_elim, ℕ, zero, suc, ◌+◌, ◌*◌, ◌-◌, ◌^◌, ◌<◌, ◌≤◌, min, Bool, true, false, not, List, [], ◌∷◌, length, get_or, refl, sym, ◌∙◌, ap, subst, arith, ◌||◌, cond, Result, Ok, Err, OnOk, is_err, is_ok, Option, None, Some, is_none}
+use Rattle.std.proofs.Common.{◌≡◌, ◌≢◌, ◌⊎◌, inl, inr, ⊎_elim, ℕ, zero, suc, ◌+◌, ◌*◌, ◌-◌, ◌^◌, ◌<◌, ◌≤◌, min, Bool, true, false, not, List, [], ◌∷◌, length}
+use Rattle.std.proofs.Common.{get_or, refl, sym, ◌∙◌, ap, subst, arith, ◌||◌, cond, Result, Ok, Err, OnOk, is_err, is_ok, Option, None, Some, is_none}
 use mir.Syntax.{w64}
 use mir.Val.{Fits}
 use Rattle.std.proofs.Math.ListN.{set}
@@ -79,7 +80,14 @@ pub record Follows (e : Event) (dev : ℕ) (answered : Bool) (h : History) : Typ
   pub whole : (d a : ℕ) (v : Bytes) → MayHold (After e h) d a v → MayHold h d a v ⊎ IsSector v
 
 pub follows_quiet : (dev : ℕ) (answered : Bool) (h : History) → is_down h dev ≡ not answered → Follows Quiet dev answered h
-follows_quiet dev answered h is = record { down_here = is; down_others = λ d other. refl; seen_others = λ d other. refl; safe_others = λ d other. refl; whole = λ d a v may. inl may }
+follows_quiet dev answered h is = record {
+  down_here = is;
+  down_others = λ d other. refl;
+  seen_others = λ d other. refl;
+  safe_others = λ d other. refl;
+  whole =
+      λ d a v may. inl may;
+}
 
 pub follows_failed : (dev : ℕ) (h : History) → Follows (DeviceFailed dev) dev false h
 follows_failed dev h = record {
@@ -118,7 +126,8 @@ follows_flushed dev h up = record {
 }
 
 -- the panel after it
-shown_next : (old new : Panel) (h : History) (dev : ℕ) (answered : Bool) (e : Event) → IsTrueTo old h → AfterCall dev answered old new → Follows e dev answered h → IsTrueTo new (After e h)
+shown_next : (old new : Panel) (h : History) (dev : ℕ) (answered : Bool) (e : Event) → IsTrueTo old h → AfterCall dev answered old new
+    → Follows e dev answered h → IsTrueTo new (After e h)
 shown_next old new h dev answered e was call follows = record {
   down = λ d. elim (cases_eq d dev) [
     | inl same ↦ ap new.down same ∙ call.answer ∙ sym follows.down_here ∙ ap (is_down (After e h)) (sym same)
@@ -131,7 +140,8 @@ shown_next old new h dev answered e was call follows = record {
 }
 
 -- what stays of a file
-kept_same : (c : Contents) (s : Bool) (h : History) (e : Event) (d : ℕ) → seen (After e h) d ≡ seen h d → safe_in (After e h) d ≡ safe_in h d → IsKept c s h d → IsKept c s (After e h) d
+kept_same : (c : Contents) (s : Bool) (h : History) (e : Event) (d : ℕ) → seen (After e h) d ≡ seen h d → safe_in (After e h) d ≡ safe_in h d → IsKept c s h d
+    → IsKept c s (After e h) d
 kept_same c s h e d seen_same safe_same was = record {
   room = was.room;
   holds = subst (HoldsDisk c.byte) (sym seen_same) was.holds;
@@ -152,11 +162,14 @@ slot_other slots dev slot d other = get_or-set_other slots dev d slot _ other
 
 -- the file of the device that was called
 
-pub kept_read : (c before : Contents) (s was_synced : Bool) (h : History) (d : ℕ) → c ≡ before → s ≡ was_synced → IsKept before was_synced h d → IsKept c s (After Quiet h) d
+pub kept_read : (c before : Contents) (s was_synced : Bool) (h : History) (d : ℕ) → c ≡ before → s ≡ was_synced → IsKept before was_synced h d
+    → IsKept c s (After Quiet h) d
 kept_read c before s was_synced h d same flag was =
-    subst (λ (t : Contents). IsKept t s (After Quiet h) d) (sym same) (subst (λ (b : Bool). IsKept before b (After Quiet h) d) (sym flag) (kept_same before was_synced h Quiet d refl refl was))
+    subst (λ (t : Contents). IsKept t s (After Quiet h) d) (sym same)
+    (subst (λ (b : Bool). IsKept before b (After Quiet h) d) (sym flag) (kept_same before was_synced h Quiet d refl refl was))
 
-holds_written : (old new : Contents) (disk : List Bytes) (at : ℕ) (value : Bytes) → HoldsDisk old.byte disk → IsWritten (512 * at) 512 value old new → at < length disk → HoldsDisk new.byte (set disk at value)
+holds_written : (old new : Contents) (disk : List Bytes) (at : ℕ) (value : Bytes) → HoldsDisk old.byte disk → IsWritten (512 * at) 512 value old new
+    → at < length disk → HoldsDisk new.byte (set disk at value)
 holds_written old new disk at value was written within = record {
   each = λ a k there small. ⊎_elim
       (λ (same : a ≡ at). ap (λ (b : ℕ). new.byte (512 * b + k)) same ∙ written.put k small
@@ -167,9 +180,11 @@ holds_written old new disk at value was written within = record {
 }
   where
     elsewhere : (a k : ℕ) → a ≢ at → k < 512 → new.byte (512 * a + k) ≡ old.byte (512 * a + k)
-    elsewhere a k other small = ⊎_elim (λ (lt : a < at). written.below (512 * a + k) (omega (arith, lt, small))) (λ (ge : at ≤ a). written.above (512 * a + k) (omega (arith, ge, other))) (cases_lt a at)
+    elsewhere a k other small = ⊎_elim (λ (lt : a < at). written.below (512 * a + k) (omega (arith, lt, small)))
+        (λ (ge : at ≤ a). written.above (512 * a + k) (omega (arith, ge, other))) (cases_lt a at)
 
-pub kept_wrote : (c before : Contents) (s was_synced : Bool) (h : History) (dev at : ℕ) (value : Bytes) → s ≡ false → IsKept before was_synced h dev → at < length (disk_of (start_of h dev))
+pub kept_wrote : (c before : Contents) (s was_synced : Bool) (h : History) (dev at : ℕ) (value : Bytes) → s ≡ false → IsKept before was_synced h dev
+    → at < length (disk_of (start_of h dev))
     → IsWritten (512 * at) 512 value before c → IsKept c s (After (Wrote dev at value) h) dev
 kept_wrote c before s was_synced h dev at value flag was within written = record {
   room = omega (arith, was.room, written.size);
@@ -179,7 +194,8 @@ kept_wrote c before s was_synced h dev at value flag was within written = record
   marked = λ is. absurd (cc);
 }
 
-pub kept_flushed : (c before : Contents) (s was_synced : Bool) (h : History) (dev : ℕ) → IsKept before was_synced h dev → IsSynced before c → IsKept c s (After (Flushed dev) h) dev
+pub kept_flushed : (c before : Contents) (s was_synced : Bool) (h : History) (dev : ℕ) → IsKept before was_synced h dev → IsSynced before c
+    → IsKept c s (After (Flushed dev) h) dev
 kept_flushed c before s was_synced h dev was synced = record {
   room = omega (arith, was.room, synced.size);
   holds = record { each = λ a k there small. synced.byte (512 * a + k) ∙ was.holds.each a k there small };
@@ -189,8 +205,10 @@ kept_flushed c before s was_synced h dev was synced = record {
 }
 
 -- the panel with a slot in place of another
-pub panel_set : {F : Type 0} (slots : List (Slot F)) (dev calls : ℕ) (old slot : Slot F) (answered : Bool) → dev < length slots → slot_at slots dev ≡ old → slot.sectors ≡ old.sectors
-    → is_closed slot ≡ not answered → (is_closed old ≡ true → answered ≡ false) → AfterCall dev answered (panel_of slots calls) (panel_of (set slots dev slot) (calls + 1))
+pub panel_set : {F : Type 0} (slots : List (Slot F)) (dev calls : ℕ) (old slot : Slot F) (answered : Bool) → dev < length slots → slot_at slots dev ≡ old
+    → slot.sectors ≡ old.sectors
+    → is_closed slot ≡ not answered → (is_closed old ≡ true → answered ≡ false)
+    → AfterCall dev answered (panel_of slots calls) (panel_of (set slots dev slot) (calls + 1))
 panel_set slots dev calls old slot answered within was sectors answer stays = record {
   devices = refl;
   sectors = λ d. elim (cases_eq d dev) [
@@ -216,12 +234,14 @@ pub record Here {F : Type 0} (slots : List (Slot F)) (dev : ℕ) (old : Slot F) 
   pub within : dev < length slots
   pub slot : slot_at slots dev ≡ old
 
-pub here_at : {F : Type 0} {slots : List (Slot F)} {dev len : ℕ} {old : Slot F} → len ≡ length slots → len ≡ 10 → dev < 10 → old ≡ get_or slots dev old → Here slots dev old
+pub here_at : {F : Type 0} {slots : List (Slot F)} {dev len : ℕ} {old : Slot F} → len ≡ length slots → len ≡ 10 → dev < 10 → old ≡ get_or slots dev old
+    → Here slots dev old
 here_at {slots = slots} {dev = dev} {old = old} len ten device is =
     let within : dev < length slots = omega (arith, len, ten, device) in record { within = within; slot = slot_is slots dev old within is }
 
 module _ {F : Type 0} {slots : List (Slot F)} {dev : ℕ} {old : Slot F} (c : Here slots dev old) where
-  pub panel_here : (calls : ℕ) (slot : Slot F) (answered : Bool) → slot.sectors ≡ old.sectors → is_closed slot ≡ not answered → (is_closed old ≡ true → answered ≡ false)
+  pub panel_here : (calls : ℕ) (slot : Slot F) (answered : Bool) → slot.sectors ≡ old.sectors → is_closed slot ≡ not answered
+      → (is_closed old ≡ true → answered ≡ false)
       → AfterCall dev answered (panel_of slots calls) (panel_of (set slots dev slot) (calls + 1))
   panel_here calls slot answered = panel_set slots dev calls old slot answered c.within c.slot
 
@@ -257,7 +277,8 @@ sectors_here c = sym (ap (λ (s : Slot _). s.sectors) c.slot)
 pub down_here : {F : Type 0} {slots : List (Slot F)} {dev : ℕ} {old : Slot F} → Here slots dev old → is_closed old ≡ is_closed (slot_at slots dev)
 down_here c = sym (ap is_closed c.slot)
 
-pub synced_others : {F : Type 0} (slots : List (Slot F)) (dev : ℕ) (slot : Slot F) (d : ℕ) → d ≢ dev → (slot_at (set slots dev slot) d).is_synced ≡ (slot_at slots d).is_synced
+pub synced_others : {F : Type 0} (slots : List (Slot F)) (dev : ℕ) (slot : Slot F) (d : ℕ) → d ≢ dev
+    → (slot_at (set slots dev slot) d).is_synced ≡ (slot_at slots d).is_synced
 synced_others {F = F} slots dev slot d other = ap (λ (s : Slot F). s.is_synced) (slot_other slots dev slot d other)
 
 -- What is known where a device of a bank over files is called: its slot, and that the slots are those of the run.
@@ -266,7 +287,8 @@ pub record Calls {F : Type 0} (told : F → Contents) (slots : List (Slot F)) (c
   pub within : dev < length slots
   pub slot : slot_at slots dev ≡ old
 
-pub calls_at : {F : Type 0} {told : F → Contents} {slots : List (Slot F)} {calls dev len : ℕ} {old : Slot F} {h : History} → IsOver told slots calls h → len ≡ length slots → len ≡ 10 → dev < 10
+pub calls_at : {F : Type 0} {told : F → Contents} {slots : List (Slot F)} {calls dev len : ℕ} {old : Slot F} {h : History} → IsOver told slots calls h
+    → len ≡ length slots → len ≡ 10 → dev < 10
     → old ≡ get_or slots dev old → Calls told slots calls dev old h
 calls_at {slots = slots} {dev = dev} {old = old} over len ten device is =
     let within : dev < length slots = omega (arith, len, ten, device) in record { over = over; within = within; slot = slot_is slots dev old within is }
@@ -303,7 +325,8 @@ module _ {F : Type 0} {told : F → Contents} {slots : List (Slot F)} {calls dev
   within_file at may up = omega (arith, within_disk at may up, (called_kept up).room)
 
   -- the slots after the call: the one that was called is kept as the run says
-  pub over_next : (new : Slot F) (answered : Bool) (e : Event) (next : History) → new.sectors ≡ old.sectors → is_closed new ≡ not answered → (is_closed old ≡ true → answered ≡ false)
+  pub over_next : (new : Slot F) (answered : Bool) (e : Event) (next : History) → new.sectors ≡ old.sectors → is_closed new ≡ not answered
+      → (is_closed old ≡ true → answered ≡ false)
       → Follows e dev answered h → KeptAt told (After e h) new dev → next ≡ After e h → IsOver told (set slots dev new) (calls + 1) next
   over_next new answered e next sectors answer stays follows kept is = subst (IsOver told (set slots dev new) (calls + 1)) (sym is) record {
     shown = shown_next _ _ h dev answered e c.over.shown (panel_set slots dev calls old new answered c.within c.slot sectors answer stays) follows;
@@ -318,7 +341,8 @@ module _ {F : Type 0} {told : F → Contents} {slots : List (Slot F)} {calls dev
   -- a call of a device that is down already
   pub over_idle : (new : Slot F) (next : History) → new ≡ old → is_closed old ≡ true → next ≡ After Quiet h → IsOver told (set slots dev new) (calls + 1) next
   over_idle new next same closed is =
-      over_next new false Quiet next (ap (λ (s : Slot F). s.sectors) same) (ap is_closed same ∙ closed) (λ closed. refl) (follows_quiet dev false h (sym called_down ∙ closed))
+      over_next new false Quiet next (ap (λ (s : Slot F). s.sectors) same) (ap is_closed same ∙ closed) (λ closed. refl)
+      (follows_quiet dev false h (sym called_down ∙ closed))
       (λ up. absurd (differ (ap is_closed same ∙ closed) up)) is
 
   -- a read that is answered
@@ -329,18 +353,21 @@ module _ {F : Type 0} {told : F → Contents} {slots : List (Slot F)} {calls dev
       (λ up. kept_read _ _ _ _ h dev same flag (called_kept was_up)) is
 
   -- a read or a flush at which the device goes down
-  pub over_failed : (new : Slot F) (next : History) → new.sectors ≡ old.sectors → is_closed new ≡ true → next ≡ After (DeviceFailed dev) h → IsOver told (set slots dev new) (calls + 1) next
+  pub over_failed : (new : Slot F) (next : History) → new.sectors ≡ old.sectors → is_closed new ≡ true → next ≡ After (DeviceFailed dev) h
+      → IsOver told (set slots dev new) (calls + 1) next
   over_failed new next sectors closed is =
       over_next new false (DeviceFailed dev) next sectors closed (λ was. refl) (follows_failed dev h) (λ up. absurd (differ closed up)) is
 
   -- a write at which it goes down
-  pub over_lost : (new : Slot F) (next : History) (at : ℕ) (value : Bytes) → new.sectors ≡ old.sectors → is_closed new ≡ true → IsSector value → next ≡ After (Lost dev at value) h
+  pub over_lost : (new : Slot F) (next : History) (at : ℕ) (value : Bytes) → new.sectors ≡ old.sectors → is_closed new ≡ true → IsSector value
+      → next ≡ After (Lost dev at value) h
       → IsOver told (set slots dev new) (calls + 1) next
   over_lost new next at value sectors closed whole is =
       over_next new false (Lost dev at value) next sectors closed (λ was. refl) (follows_lost dev at value h whole) (λ up. absurd (differ closed up)) is
 
   -- a write that is answered
-  pub over_wrote : (new : Slot F) (next : History) (at : ℕ) (value : Bytes) → new.sectors ≡ old.sectors → is_closed new ≡ false → is_closed old ≡ false → new.is_synced ≡ false → IsSector value
+  pub over_wrote : (new : Slot F) (next : History) (at : ℕ) (value : Bytes) → new.sectors ≡ old.sectors → is_closed new ≡ false → is_closed old ≡ false
+      → new.is_synced ≡ false → IsSector value
       → MayCall slots dev at → IsWritten (512 * at) 512 value (told_in told old.file) (told_in told new.file) → next ≡ After (Wrote dev at value) h
       → IsOver told (set slots dev new) (calls + 1) next
   over_wrote new next at value sectors up was_up flag whole within written is =
@@ -372,7 +399,8 @@ no_sectors (Some disk) is = absurd (cc)
 holds_safe : (c : Contents) (disk : List Bytes) → ((p : ℕ) → c.safe p ≡ c.byte p) → HoldsDisk c.byte disk → HoldsDisk c.safe disk
 holds_safe c disk synced holds = record { each = λ a k there small. synced (512 * a + k) ∙ holds.each a k there small }
 
-module _ {F : Type 0} (told : F → Contents) (files : List (Option F)) (slots : List (Slot F)) (h : History) (len : length slots ≡ 10) (opened : (d : ℕ) → IsOpened (slot_at slots d))
+module _ {F : Type 0} (told : F → Contents) (files : List (Option F)) (slots : List (Slot F)) (h : History) (len : length slots ≡ 10)
+    (opened : (d : ℕ) → IsOpened (slot_at slots d))
     (made : (d : ℕ) → d < 10 → IsMade told (file_at files d) (slot_at slots d)) (begun : BeginsWith told files h) where
   past : (d : ℕ) → 10 ≤ d → slot_at slots d ≡ record { file = None; sectors = 0; is_synced = true }
   past d ge = get_or_past slots d _ (omega (arith, len, ge))
@@ -408,7 +436,8 @@ module _ {F : Type 0} (told : F → Contents) (files : List (Option F)) (slots :
         (cases_lt d 10);
   }
 
-  kept_begun : (d : ℕ) → is_closed (slot_at slots d) ≡ false → (d < 10) ⊎ (10 ≤ d) → IsKept (told_in told (slot_at slots d).file) (slot_at slots d).is_synced h d
+  kept_begun : (d : ℕ) → is_closed (slot_at slots d) ≡ false → (d < 10) ⊎ (10 ≤ d)
+      → IsKept (told_in told (slot_at slots d).file) (slot_at slots d).is_synced h d
   kept_begun d up (inr ge) = absurd (differ (ap is_closed (past d ge)) up)
   kept_begun d up (inl lt) =
       let b = begun.each d lt in
@@ -417,7 +446,8 @@ module _ {F : Type 0} (told : F → Contents) (files : List (Option F)) (slots :
       subst (λ (f : Option F). IsKept (told_in told f) (slot_at slots d).is_synced h d) (sym is) record {
         room = omega (arith, b.sectors open_there);
         holds = subst (HoldsDisk (told_in told (file_at files d)).byte) (sym (ap (λ (k : History). seen k d) begun.began)) b.holds;
-        safe = subst (HoldsDisk (told_in told (file_at files d)).safe) (sym (ap (λ (k : History). safe_in k d) begun.began)) (holds_safe (told_in told (file_at files d)) (disk_of (start_of h d)) b.synced b.holds);
+        safe = subst (HoldsDisk (told_in told (file_at files d)).safe) (sym (ap (λ (k : History). safe_in k d) begun.began))
+            (holds_safe (told_in told (file_at files d)) (disk_of (start_of h d)) b.synced b.holds);
         marked = λ flag. b.synced;
       }
 

@@ -1,5 +1,6 @@
 -- The run up to a crash, from the entries of the log, and the images of a choice.
-use Rattle.std.proofs.Common.{◌≡◌, ◌≢◌, ◌⊎◌, inl, inr, ◌≤◌, ◌<◌, ◌+◌, ℕ, zero, suc, Bool, true, false, cond, All, List, [], ◌∷◌, ◌++◌, length, get_or, take, Option, Some, None, refl, sym, ◌∙◌, ap, subst, zero-add, arith, ◌==◌, ◌&&◌}
+use Rattle.std.proofs.Common.{◌≡◌, ◌≢◌, ◌⊎◌, inl, inr, ◌≤◌, ◌<◌, ◌+◌, ℕ, zero, suc, Bool, true, false, cond, All, List, [], ◌∷◌, ◌++◌, length, get_or, take}
+use Rattle.std.proofs.Common.{Option, Some, None, refl, sym, ◌∙◌, ap, subst, zero-add, arith, ◌==◌, ◌&&◌}
 use Rattle.std.specs.Prelude.{nat_lt, if◌then◌else◌, slice_set, count_by}
 use Rattle.std.specs.List.{AllWithin}
 use Rattle.std.specs.List.Sorted.{IsPartitionPoint, IsNonDecreasingBy}
@@ -12,7 +13,8 @@ use Rattle.sector_model.specs.declared.choice.Choice.TheVariants.{Oldest, Newest
 use Rattle.sector_model.specs.declared.memory.Entry.{Entry}
 use Rattle.sector_model.specs.declared.event.Event.{Event}
 use Rattle.sector_model.specs.declared.event.Event.TheVariants.{Quiet, Wrote, Lost, Flushed, DeviceFailed}
-use Rattle.sector_model.specs.History.{History, Began, After, Bytes, Slots, MayHold, SlotMayHold, MayLeave, seen, disk_of, sector_of, start_of, calls_of, cut_at}
+use Rattle.sector_model.specs.History.{History, Began, After, Bytes, Slots, MayHold, SlotMayHold, MayLeave, seen, disk_of, sector_of, start_of, calls_of}
+use Rattle.sector_model.specs.History.{cut_at}
 use Rattle.sector_model.specs.Candidates.{logged, candidates, number_taken, taken, IsTaken, IsImageOf}
 use Rattle.sector_model.specs.Memory.{Disk, slots_of, run_of, run_on, event_of, log_before, IsInOrder, is_answered}
 use Rattle.sector_model.specs.MemoryLaw.{length-seen, start-run, calls-run}
@@ -46,7 +48,8 @@ order_from first (entry ∷ log) order least = (
 none_now : (first : ℕ) (log : List Entry) (n : ℕ) → OrderFrom first log → n < first → event_of log n ≡ Quiet
 none_now first [] n order before = refl
 none_now first (entry ∷ log) n order before =
-    ap (λ (b : Bool). cond b entry.event (event_of log n)) (eqb_other n entry.call (λ same. absurd (omega (arith, same, order.0)))) ∙ none_now (entry.call + 1) log n order.1 (omega (arith, order.0))
+    ap (λ (b : Bool). cond b entry.event (event_of log n)) (eqb_other n entry.call (λ same. absurd (omega (arith, same, order.0))))
+    ∙ none_now (entry.call + 1) log n order.1 (omega (arith, order.0))
 
 none_before : (first : ℕ) (log : List Entry) (n : ℕ) → OrderFrom first log → n ≤ first → log_before n log ≡ []
 none_before first [] n order before = refl
@@ -60,9 +63,11 @@ Adds log n =
 
 adds_after : (entry : Entry) (log : List Entry) (n : ℕ) → entry.call < n → Adds log n → Adds (entry ∷ log) n
 adds_after entry log n before adds =
-    let event : event_of (entry ∷ log) n ≡ event_of log n = ap (λ (b : Bool). cond b entry.event (event_of log n)) (eqb_other n entry.call (λ same. absurd (omega (arith, same)))) in
+    let event : event_of (entry ∷ log) n ≡ event_of log n =
+    ap (λ (b : Bool). cond b entry.event (event_of log n)) (eqb_other n entry.call (λ same. absurd (omega (arith, same)))) in
     let now : log_before n (entry ∷ log) ≡ entry ∷ log_before n log = ap (λ (b : Bool). cond b (entry ∷ log_before n log) []) (lt_true entry.call n before) in
-    let next : log_before (suc n) (entry ∷ log) ≡ entry ∷ log_before (suc n) log = ap (λ (b : Bool). cond b (entry ∷ log_before (suc n) log) []) (lt_true entry.call (suc n) (omega arith)) in
+    let next : log_before (suc n) (entry ∷ log) ≡ entry ∷ log_before (suc n) log =
+    ap (λ (b : Bool). cond b (entry ∷ log_before (suc n) log) []) (lt_true entry.call (suc n) (omega arith)) in
     elim adds [
       | inl quiet ↦ inl (event ∙ quiet.0, next ∙ ap (λ (l : List Entry). entry ∷ l) quiet.1 ∙ sym now)
       | inr some ↦ inr (some.0, event ∙ some.1, next ∙ ap (λ (l : List Entry). entry ∷ l) some.2 ∙ sym (ap (λ (l : List Entry). l ++ some.0 ∷ []) now))
@@ -76,12 +81,14 @@ adds_in_order first (entry ∷ log) n order = elim (cases_lt entry.call n) [
     | inl same ↦ inr (
       entry,
       ap (λ (b : Bool). cond b entry.event (event_of log n)) (ap (λ (k : ℕ). n == k) (sym same) ∙ eqb_self n),
-      ap (λ (b : Bool). cond b (entry ∷ log_before (suc n) log) []) (lt_true entry.call (suc n) (omega arith)) ∙ ap (λ (l : List Entry). entry ∷ l) (none_before (entry.call + 1) log (suc n) order.1 (omega arith))
+      ap (λ (b : Bool). cond b (entry ∷ log_before (suc n) log) []) (lt_true entry.call (suc n) (omega arith))
+          ∙ ap (λ (l : List Entry). entry ∷ l) (none_before (entry.call + 1) log (suc n) order.1 (omega arith))
           ∙ sym (ap (λ (b : Bool). (cond b (entry ∷ log_before n log) []) ++ entry ∷ []) (lt_false entry.call n (omega arith))),
     )
     | inr other ↦ inl (
       ap (λ (b : Bool). cond b entry.event (event_of log n)) (eqb_other n entry.call other) ∙ none_now (entry.call + 1) log n order.1 (omega arith),
-      ap (λ (b : Bool). cond b (entry ∷ log_before (suc n) log) []) (lt_false entry.call (suc n) (omega arith)) ∙ sym (ap (λ (b : Bool). cond b (entry ∷ log_before n log) []) (lt_false entry.call n (omega arith))),
+      ap (λ (b : Bool). cond b (entry ∷ log_before (suc n) log) []) (lt_false entry.call (suc n) (omega arith))
+          ∙ sym (ap (λ (b : Bool). cond b (entry ∷ log_before n log) []) (lt_false entry.call n (omega arith))),
     )
   ]
 ]
@@ -104,7 +111,8 @@ alike_event (Wrote device at value) h k alike = record {
   logged = ap (λ (n : ℕ). n + 1) alike.logged;
 }
 alike_event (Lost device at value) h k alike = record {
-  candidates = λ room d a. ap (λ (n : ℕ). if d == device && a == at && nat_lt n room then candidates room h d a ++ value ∷ [] else candidates room h d a) alike.logged
+  candidates = λ room d a. ap (λ (n : ℕ). if d == device && a == at && nat_lt n room then candidates room h d a ++ value ∷ [] else candidates room h d a)
+      alike.logged
       ∙ ap (λ (l : List Bytes). if d == device && a == at && nat_lt (logged k) room then l ++ value ∷ [] else l) (alike.candidates room d a);
   seen = alike.seen;
   logged = alike.logged;
@@ -118,13 +126,15 @@ alike_event (Flushed device) h k alike = record {
 alike_event (DeviceFailed device) h k alike = record { candidates = alike.candidates; seen = alike.seen; logged = alike.logged }
 
 alike_on : (start : Slots) (log : List Entry) → OrderFrom 0 log → (n : ℕ) → IsAlike (run_of start log n) (run_on (Began start) (log_before n log))
-alike_on start log order zero = subst (λ (l : List Entry). IsAlike (Began start) (run_on (Began start) l)) (sym (none_before 0 log 0 order (omega arith))) record { candidates = λ room d a. refl; seen = λ d. refl; logged = refl }
+alike_on start log order zero = subst (λ (l : List Entry). IsAlike (Began start) (run_on (Began start) l)) (sym (none_before 0 log 0 order (omega arith)))
+    record { candidates = λ room d a. refl; seen = λ d. refl; logged = refl }
 alike_on start log order (suc n) =
     let h = run_of start log n in
     let k = run_on (Began start) (log_before n log) in
     let before = alike_on start log order n in
     elim (adds_in_order 0 log n order) [
-      | inl quiet ↦ subst (λ (l : List Entry). IsAlike (After (event_of log n) h) (run_on (Began start) l)) (sym quiet.1) (subst (λ (e : Event). IsAlike (After e h) k) (sym quiet.0) (alike_quiet h k before))
+      | inl quiet ↦ subst (λ (l : List Entry). IsAlike (After (event_of log n) h) (run_on (Began start) l)) (sym quiet.1)
+          (subst (λ (e : Event). IsAlike (After e h) k) (sym quiet.0) (alike_quiet h k before))
       | inr some ↦ subst (λ (l : List Entry). IsAlike (After (event_of log n) h) (run_on (Began start) l)) (sym some.2)
           (subst (λ (m : History). IsAlike (After (event_of log n) h) m) (sym (run_on-append (Began start) (log_before n log) (some.0 ∷ [])))
           (subst (λ (e : Event). IsAlike (After e h) (After some.0.event k)) (sym some.1) (alike_event some.0.event h k before)))
@@ -136,16 +146,21 @@ run_alike start log order n = alike_on start log (order_from 0 log order (λ k d
 
 -- the entries before a call, by their number
 
-before_take : (call n : ℕ) (log : List Entry) → n ≤ length log → AllWithin (λ (entry : Entry). nat_lt entry.call call ≡ true) log 0 n → AllWithin (λ (entry : Entry). nat_lt entry.call call ≡ false) log n (length log)
+before_take : (call n : ℕ) (log : List Entry) → n ≤ length log → AllWithin (λ (entry : Entry). nat_lt entry.call call ≡ true) log 0 n
+    → AllWithin (λ (entry : Entry). nat_lt entry.call call ≡ false) log n (length log)
     → take n log ≡ log_before call log
 before_take call zero [] within front back = refl
 before_take call (suc n) [] within front back = refl
-before_take call zero (entry ∷ log) within front back = sym (ap (λ (b : Bool). cond b (entry ∷ log_before call log) []) (back 0 entry (omega arith) (omega arith)))
+before_take call zero (entry ∷ log) within front back =
+    sym (ap (λ (b : Bool). cond b (entry ∷ log_before call log) []) (back 0 entry (omega arith) (omega arith)))
 before_take call (suc n) (entry ∷ log) within front back =
-    ap (λ (l : List Entry). entry ∷ l) (before_take call n log (omega arith) (λ k d low lt. front (suc k) d (omega arith) (omega arith)) (λ k d low lt. back (suc k) d (omega arith) (omega arith)))
+    ap (λ (l : List Entry). entry ∷ l) (before_take call n log (omega arith) (λ k d low lt. front (suc k) d (omega arith) (omega arith))
+    (λ k d low lt. back (suc k) d (omega arith) (omega arith)))
     ∙ sym (ap (λ (b : Bool). cond b (entry ∷ log_before call log) []) (front 0 entry (omega arith) (omega arith)))
 
-pub part_before : (call n : ℕ) (log : List Entry) → n ≤ length log → IsPartitionPoint (λ (entry : Entry). nat_lt entry.call call ≡ true) (λ (entry : Entry). nat_lt entry.call call ≡ false) log n → take n log ≡ log_before call log
+pub part_before : (call n : ℕ) (log : List Entry) → n ≤ length log
+    → IsPartitionPoint (λ (entry : Entry). nat_lt entry.call call ≡ true) (λ (entry : Entry). nat_lt entry.call call ≡ false) log n
+    → take n log ≡ log_before call log
 part_before call n log within point = before_take call n log within point.0 point.1
 
 -- the calls never fall
@@ -158,26 +173,32 @@ never_fall log order = λ i j d le within. elim (cases_lt i j) [
 -- all entries are of calls that were made
 pub all_before : (n : ℕ) (log : List Entry) → All (IsEarlier n) log → log_before n log ≡ log
 all_before n [] early = refl
-all_before n (entry ∷ log) early = ap (λ (b : Bool). cond b (entry ∷ log_before n log) []) (lt_true entry.call n (early 0 entry (omega arith))) ∙ ap (λ (l : List Entry). entry ∷ l) (all_before n log (λ k d within. early (suc k) d (omega arith)))
+all_before n (entry ∷ log) early = ap (λ (b : Bool). cond b (entry ∷ log_before n log) []) (lt_true entry.call n (early 0 entry (omega arith)))
+    ∙ ap (λ (l : List Entry). entry ∷ l) (all_before n log (λ k d within. early (suc k) d (omega arith)))
 
 -- the answered writes and flushes of a run are those of its log
-pub logged_of : (start : Slots) (log : List Entry) (n : ℕ) → IsInOrder log → All (IsEarlier n) log → logged (run_of start log n) ≡ count_by (λ (entry : Entry). is_answered entry.event) log
+pub logged_of : (start : Slots) (log : List Entry) (n : ℕ) → IsInOrder log → All (IsEarlier n) log
+    → logged (run_of start log n) ≡ count_by (λ (entry : Entry). is_answered entry.event) log
 logged_of start log n order early =
-    (run_alike start log order n).logged ∙ ap (λ (l : List Entry). logged (run_on (Began start) l)) (all_before n log early) ∙ logged_on (Began start) log ∙ zero-add (count_by (λ (entry : Entry). is_answered entry.event) log)
+    (run_alike start log order n).logged ∙ ap (λ (l : List Entry). logged (run_on (Began start) l)) (all_before n log early) ∙ logged_on (Began start) log
+    ∙ zero-add (count_by (λ (entry : Entry). is_answered entry.event) log)
 
 -- the run as it was after its first calls
 pub cut-run : (t n : ℕ) (start : Slots) (log : List Entry) → t ≤ n → cut_at t (run_of start log n) ≡ run_of start log t
 cut-run zero zero start log le = refl
 cut-run (suc t) zero start log le = absurd (omega arith)
 cut-run t (suc n) start log le = elim (cases_lt t (suc n)) [
-  | inl lt ↦ ap (λ (b : Bool). cond b (cut_at t (run_of start log n)) (run_of start log (suc n))) (lt_true t (calls_of (run_of start log n) + 1) (omega (arith, calls-run start log n))) ∙ cut-run t n start log (omega arith)
+  | inl lt ↦ ap (λ (b : Bool). cond b (cut_at t (run_of start log n)) (run_of start log (suc n)))
+      (lt_true t (calls_of (run_of start log n) + 1) (omega (arith, calls-run start log n))) ∙ cut-run t n start log (omega arith)
   | inr ge ↦ let same : t ≡ suc n = omega arith in
-      ap (λ (b : Bool). cond b (cut_at t (run_of start log n)) (run_of start log (suc n))) (lt_false t (calls_of (run_of start log n) + 1) (omega (arith, calls-run start log n))) ∙ ap (run_of start log) (sym same)
+      ap (λ (b : Bool). cond b (cut_at t (run_of start log n)) (run_of start log (suc n)))
+      (lt_false t (calls_of (run_of start log n) + 1) (omega (arith, calls-run start log n))) ∙ ap (run_of start log) (sym same)
 ]
 
 -- the images of a choice
 
-is_taken : (choice : Choice) (room : ℕ) (h k : History) (d : ℕ) (began now : Option (List Bytes)) → IsAlike h k → IsTaken choice room k d began now → IsTaken choice room h d began now
+is_taken : (choice : Choice) (room : ℕ) (h k : History) (d : ℕ) (began now : Option (List Bytes)) → IsAlike h k → IsTaken choice room k d began now
+    → IsTaken choice room h d began now
 is_taken choice room h k d None now alike is = is
 is_taken choice room h k d (Some began) None alike is = is
 is_taken choice room h k d (Some began) (Some disk) alike is =
@@ -185,19 +206,23 @@ is_taken choice room h k d (Some began) (Some disk) alike is =
 
 -- each of the slots is that of the choice, after the entries of the calls before the crash
 abbrev AreTaken : Choice → (room : ℕ) → (start : List (Option Disk)) → List Entry → (image : List (Option Disk)) → Type 0
-AreTaken choice room start log image = (d : ℕ) → d < length start → IsTaken choice room (run_on (Began (slots_of start)) log) d (slots_of start d) (slots_of image d)
+AreTaken choice room start log image = (d : ℕ) → d < length start
+    → IsTaken choice room (run_on (Began (slots_of start)) log) d (slots_of start d) (slots_of image d)
 
-image_at : (choice : Choice) (room call calls : ℕ) (start image : List (Option Disk)) (log part : List Entry) → IsInOrder log → call ≤ calls → part ≡ log_before call log → length image ≡ length start
+image_at : (choice : Choice) (room call calls : ℕ) (start image : List (Option Disk)) (log part : List Entry) → IsInOrder log → call ≤ calls
+    → part ≡ log_before call log → length image ≡ length start
     → AreTaken choice room start part image → IsImageOf choice room (cut_at call (run_of (slots_of start) log calls)) (slots_of image)
 image_at choice room call calls start image log part order le part_is as_many each = record {
   each = λ d. elim (le_or_lt (length start) d) [
-    | inl past ↦ slot d (subst (λ (began : Option (List Bytes)). IsTaken choice room (run_on (Began (slots_of start)) part) d began (slots_of image d)) (sym (slots_past start d past)) (slots_past image d (omega arith)))
+    | inl past ↦ slot d (subst (λ (began : Option (List Bytes)). IsTaken choice room (run_on (Began (slots_of start)) part) d began (slots_of image d))
+        (sym (slots_past start d past)) (slots_past image d (omega arith)))
     | inr within ↦ slot d (each d within)
   ];
 }
   where
     slot : (d : ℕ) → IsTaken choice room (run_on (Began (slots_of start)) part) d (slots_of start d) (slots_of image d)
-        → IsTaken choice room (cut_at call (run_of (slots_of start) log calls)) d (start_of (cut_at call (run_of (slots_of start) log calls)) d) (slots_of image d)
+        → IsTaken choice room (cut_at call (run_of (slots_of start) log calls)) d (start_of (cut_at call (run_of (slots_of start) log calls)) d)
+        (slots_of image d)
     slot d is =
         let h = run_of (slots_of start) log call in
         subst (λ (m : History). IsTaken choice room m d (start_of m d) (slots_of image d)) (sym (cut-run call calls (slots_of start) log le))
@@ -206,7 +231,8 @@ image_at choice room call calls start image log part order le part_is as_many ea
         (subst (λ (l : List Entry). IsAlike h (run_on (Began (slots_of start)) l)) (sym part_is) (run_alike (slots_of start) log order call)) is))
 
 -- the image of a choice after a run of a bank in memory
-pub image_of : (choice : Choice) (room count call calls : ℕ) (start began image : List (Option Disk)) (log part : List Entry) → IsInOrder log → All (IsEarlier calls) log → call ≤ calls → began ≡ start → part ≡ log_before call log
+pub image_of : (choice : Choice) (room count call calls : ℕ) (start began image : List (Option Disk)) (log part : List Entry) → IsInOrder log
+    → All (IsEarlier calls) log → call ≤ calls → began ≡ start → part ≡ log_before call log
     → count ≡ count_by (λ (entry : Entry). is_answered entry.event) log → length image ≡ length began
     → ((d : ℕ) → d < length began → IsTaken choice (room + count) (run_on (Began (slots_of began)) part) d (slots_of began d) (slots_of image d))
     → IsImageOf choice (room + logged (run_of (slots_of start) log calls)) (cut_at call (run_of (slots_of start) log calls)) (slots_of image)
@@ -226,7 +252,8 @@ all_one P v is zero e within = is
 all_one P v is (suc k) e within = absurd (omega arith)
 
 -- one value more, if the test says so
-all_if : (P Q : Bytes → Type 0) (b : Bool) (l : List Bytes) (v : Bytes) → All Q l → ((w : Bytes) → Q w → P w) → (b ≡ true → P v) → All P (if b then l ++ v ∷ [] else l)
+all_if : (P Q : Bytes → Type 0) (b : Bool) (l : List Bytes) (v : Bytes) → All Q l → ((w : Bytes) → Q w → P w) → (b ≡ true → P v)
+    → All P (if b then l ++ v ∷ [] else l)
 all_if P Q true l v all more is = All-push P l v (λ k e within. more (get_or l k e) (all k e within)) (is refl)
 all_if P Q false l v all more is = λ k e within. more (get_or l k e) (all k e within)
 
@@ -234,16 +261,20 @@ candidates_may : (room : ℕ) (h : History) (d a : ℕ) → start_of h d ≢ Non
 candidates_may room (Began start) d a there = all_one (MayHold (Began start) d a) (sector_of (disk_of (start d)) a) (may_hold_seen (Began start) d a there)
 candidates_may room (After Quiet h) d a there = candidates_may room h d a there
 candidates_may room (After (Wrote device at value) h) d a there =
-    all_if (MayHold (After (Wrote device at value) h) d a) (MayHold h d a) (d == device && a == at) (candidates room h d a) value (candidates_may room h d a there) (λ w may. inr may)
+    all_if (MayHold (After (Wrote device at value) h) d a) (MayHold h d a) (d == device && a == at) (candidates room h d a) value
+    (candidates_may room h d a there) (λ w may. inr may)
     (λ is. let both = and_true (d == device) (a == at) is in inl (eqb-true d device both.0, eqb-true a at both.1, refl))
 candidates_may room (After (Lost device at value) h) d a there =
-    all_if (MayHold (After (Lost device at value) h) d a) (MayHold h d a) (d == device && a == at && nat_lt (logged h) room) (candidates room h d a) value (candidates_may room h d a there) (λ w may. inr may)
-    (λ is. let both = and_true (d == device) (a == at) (and_true (d == device && a == at) (nat_lt (logged h) room) is).0 in inl (eqb-true d device both.0, eqb-true a at both.1, refl))
+    all_if (MayHold (After (Lost device at value) h) d a) (MayHold h d a) (d == device && a == at && nat_lt (logged h) room) (candidates room h d a) value
+    (candidates_may room h d a there) (λ w may. inr may)
+    (λ is. let both = and_true (d == device) (a == at) (and_true (d == device && a == at) (nat_lt (logged h) room) is).0 in inl
+    (eqb-true d device both.0, eqb-true a at both.1, refl))
 candidates_may room (After (Flushed device) h) d a there = by_device (d == device) refl (candidates_may room h d a there)
   where
     by_device : (b : Bool) → (d == device) ≡ b → All (MayHold h d a) (candidates room h d a)
         → All (λ v. MayHold h d a v × (d ≡ device → v ≡ sector_of (seen h d) a)) (if b then sector_of (seen h d) a ∷ [] else candidates room h d a)
-    by_device true is all = all_one (λ v. MayHold h d a v × (d ≡ device → v ≡ sector_of (seen h d) a)) (sector_of (seen h d) a) (may_hold_seen h d a there, λ same. refl)
+    by_device true is all = all_one (λ v. MayHold h d a v × (d ≡ device → v ≡ sector_of (seen h d) a)) (sector_of (seen h d) a)
+        (may_hold_seen h d a there, λ same. refl)
     by_device false is all = λ k e within. (all k e within, λ same. absurd (false≢true (sym is ∙ eq-eqb d device same)))
 candidates_may room (After (DeviceFailed device) h) d a there = candidates_may room h d a there
 
@@ -259,7 +290,8 @@ some_candidates : (room : ℕ) (h : History) (d a : ℕ) → 0 < length (candida
 some_candidates room (Began start) d a = omega arith
 some_candidates room (After Quiet h) d a = some_candidates room h d a
 some_candidates room (After (Wrote device at value) h) d a = some_if (d == device && a == at) (candidates room h d a) value (some_candidates room h d a)
-some_candidates room (After (Lost device at value) h) d a = some_if (d == device && a == at && nat_lt (logged h) room) (candidates room h d a) value (some_candidates room h d a)
+some_candidates room (After (Lost device at value) h) d a =
+    some_if (d == device && a == at && nat_lt (logged h) room) (candidates room h d a) value (some_candidates room h d a)
 some_candidates room (After (Flushed device) h) d a = flush_if (d == device) (candidates room h d a) (sector_of (seen h d) a) (some_candidates room h d a)
 some_candidates room (After (DeviceFailed device) h) d a = some_candidates room h d a
 
@@ -270,14 +302,17 @@ number_within (Mixed m) d a count some = omega arith
 
 taken_may : (choice : Choice) (room : ℕ) (h : History) (d a : ℕ) → start_of h d ≢ None → MayHold h d a (taken choice room h d a)
 taken_may choice room h d a there =
-    candidates_may room h d a there (number_taken choice d a (length (candidates room h d a))) [] (number_within choice d a (length (candidates room h d a)) (some_candidates room h d a))
+    candidates_may room h d a there (number_taken choice d a (length (candidates room h d a))) []
+    (number_within choice d a (length (candidates room h d a)) (some_candidates room h d a))
 
 -- after the last sector of a device
-past_may : (h : History) (d a : ℕ) (disk : List Bytes) → start_of h d ≢ None → length disk ≡ length (disk_of (start_of h d)) → length disk ≤ a → MayHold h d a (sector_of disk a)
+past_may : (h : History) (d a : ℕ) (disk : List Bytes) → start_of h d ≢ None → length disk ≡ length (disk_of (start_of h d)) → length disk ≤ a
+    → MayHold h d a (sector_of disk a)
 past_may h d a disk there as_many past =
     subst (MayHold h d a) (get_or_past (seen h d) a [] (omega (arith, length-seen h d)) ∙ sym (get_or_past disk a [] past)) (may_hold_seen h d a there)
 
-slot_allowed : (choice : Choice) (room : ℕ) (h : History) (d : ℕ) (began now : Option (List Bytes)) → start_of h d ≡ began → IsTaken choice room h d began now → SlotMayHold h d now
+slot_allowed : (choice : Choice) (room : ℕ) (h : History) (d : ℕ) (began now : Option (List Bytes)) → start_of h d ≡ began → IsTaken choice room h d began now
+    → SlotMayHold h d now
 slot_allowed choice room h d None now starts is = subst (SlotMayHold h d) (sym is) (absent_down h d starts)
 slot_allowed choice room h d (Some began) None starts is = absurd is
 slot_allowed choice room h d (Some began) (Some disk) starts is =

@@ -1,5 +1,6 @@
 -- What a call of a bank in memory does to its panel and to its run.
-use Rattle.std.proofs.Common.{◌≡◌, ℕ, ◌+◌, ◌-◌, ◌^◌, ◌<◌, min, Bool, true, false, not, ◌||◌, ◌==◌, ◌⊎◌, inl, inr, List, length, get_or, Vec, Global, vec_len, refl, sym, ◌∙◌, ap, subst}
+use Rattle.std.proofs.Common.{◌≡◌, ℕ, ◌+◌, ◌-◌, ◌^◌, ◌<◌, min, Bool, true, false, not, ◌||◌, ◌==◌, ◌⊎◌, inl, inr, List, length, get_or, Vec, Global, vec_len}
+use Rattle.std.proofs.Common.{refl, sym, ◌∙◌, ap, subst}
 use Rattle.std.specs.Prelude.{if◌then◌else◌, slice_set}
 use Rattle.std.proofs.lemmas.List.{length-set, get_or_default, get_or-set_same, get_or-set_other}
 use Rattle.std.proofs.lemmas.Bool.{ne_eqb}
@@ -18,14 +19,21 @@ abbrev Flags : Type 0
 Flags = Vec Bool Global
 
 abbrev panel_of : Disks → Flags → ℕ → Panel
-panel_of disks flags calls = record { devices = vec_len flags; sectors = λ d. min (length (contents_of disks.items d)) (2 ^ 32 - 1); down = λ d. down_at flags.items d; calls = calls }
+panel_of disks flags calls = record {
+  devices = vec_len flags;
+  sectors = λ d. min (length (contents_of disks.items d)) (2 ^ 32 - 1);
+  down =
+      λ d. down_at flags.items d;
+  calls = calls;
+}
 
 -- whether a device is down, as the code reads it
 pub read_down : (flags : Flags) (dev : ℕ) (read is : Bool) → dev < vec_len flags → read ≡ get_or flags.items dev read → read ≡ is → down_at flags.items dev ≡ is
 read_down flags dev read is device found same = get_or_default flags.items dev true read (subst (λ (n : ℕ). dev < n) flags.ok.0 device) ∙ sym found ∙ same
 
 -- the device was down, and nothing changed
-pub after_down : (dev calls more : ℕ) {a b : Disks} {f g : Flags} → down_at f.items dev ≡ true → b ≡ a → g ≡ f → more ≡ calls + 1 → AfterCall dev false (panel_of a f calls) (panel_of b g more)
+pub after_down : (dev calls more : ℕ) {a b : Disks} {f g : Flags} → down_at f.items dev ≡ true → b ≡ a → g ≡ f → more ≡ calls + 1
+    → AfterCall dev false (panel_of a f calls) (panel_of b g more)
 after_down dev calls more is disks flags count = record {
   devices = ap (λ (v : Flags). vec_len v) flags;
   sectors = λ d. ap (λ (v : Disks). min (length (contents_of v.items d)) (2 ^ 32 - 1)) disks;
@@ -36,7 +44,8 @@ after_down dev calls more is disks flags count = record {
 }
 
 -- the device goes down
-pub after_failure : (dev calls more : ℕ) {a b : Disks} (f g : Flags) → dev < vec_len f → b ≡ a → g.items ≡ slice_set f.items dev true → more ≡ calls + 1 → AfterCall dev false (panel_of a f calls) (panel_of b g more)
+pub after_failure : (dev calls more : ℕ) {a b : Disks} (f g : Flags) → dev < vec_len f → b ≡ a → g.items ≡ slice_set f.items dev true → more ≡ calls + 1
+    → AfterCall dev false (panel_of a f calls) (panel_of b g more)
 after_failure dev calls more f g device disks flags count = record {
   devices = g.ok.0 ∙ ap length flags ∙ length-set f.items dev true ∙ sym f.ok.0;
   sectors = λ d. ap (λ (v : Disks). min (length (contents_of v.items d)) (2 ^ 32 - 1)) disks;
@@ -47,7 +56,8 @@ after_failure dev calls more f g device disks flags count = record {
 }
 
 -- the device answers
-pub after_answer : (dev calls more : ℕ) (a b : Disks) {f g : Flags} → down_at f.items dev ≡ false → ((d : ℕ) → length (contents_of b.items d) ≡ length (contents_of a.items d)) → g ≡ f → more ≡ calls + 1
+pub after_answer : (dev calls more : ℕ) (a b : Disks) {f g : Flags} → down_at f.items dev ≡ false
+    → ((d : ℕ) → length (contents_of b.items d) ≡ length (contents_of a.items d)) → g ≡ f → more ≡ calls + 1
     → AfterCall dev true (panel_of a f calls) (panel_of b g more)
 after_answer dev calls more a b is sizes flags count = record {
   devices = ap (λ (v : Flags). vec_len v) flags;

@@ -58,7 +58,8 @@ seen_only old (After (DeviceFailed device) h) (inr rest) d = seen_only old h res
 pub seen_read : {old new : History} → HasRead old new → (d : ℕ) → seen new d ≡ seen old d
 seen_read {old = old} {new = new} read d = seen_only old new read.only d
 
-through_only : (P : History → Type 0) → ((h : History) → P h → P (After Quiet h)) → ((h : History) (d : ℕ) → P h → P (After (DeviceFailed d) h)) → (old new : History) → OnlyRead old new → P old → Throughout P old new
+through_only : (P : History → Type 0) → ((h : History) → P h → P (After Quiet h)) → ((h : History) (d : ℕ) → P h → P (After (DeviceFailed d) h))
+    → (old new : History) → OnlyRead old new → P old → Throughout P old new
 through_only P quiet failed old (Began start) is holds = subst (Throughout P old) is (here holds)
 through_only P quiet failed old (After Quiet h) (inl is) holds = subst (Throughout P old) is (here holds)
 through_only P quiet failed old (After Quiet h) (inr rest) holds =
@@ -71,10 +72,12 @@ through_only P quiet failed old (After (DeviceFailed device) h) (inr rest) holds
     let so_far = through_only P quiet failed old h rest holds in then_also (DeviceFailed device) h so_far (failed h device (throughout_last h so_far))
 
 -- what a quiet call and a failure keep holds at each moment while devices are read
-pub throughout_read : (P : History → Type 0) {old new : History} → ((h : History) → P h → P (After Quiet h)) → ((h : History) (d : ℕ) → P h → P (After (DeviceFailed d) h)) → HasRead old new → P old → Throughout P old new
+pub throughout_read : (P : History → Type 0) {old new : History} → ((h : History) → P h → P (After Quiet h))
+    → ((h : History) (d : ℕ) → P h → P (After (DeviceFailed d) h)) → HasRead old new → P old → Throughout P old new
 throughout_read P {old = old} {new = new} quiet failed read holds = through_only P quiet failed old new read.only holds
 
 -- what a crash may leave in sectors is the same at each moment while devices are read
 pub throughout_within : (Q : Contents) {old new : History} → HasRead old new → LeavesWithin Q old → Throughout (LeavesWithin Q) old new
 throughout_within Q {old = old} {new = new} read left =
-    throughout_read (LeavesWithin Q) (λ h before. within_event Q Quiet h before (λ d a v put. absurd put)) (λ h d before. within_event Q (DeviceFailed d) h before (λ k a v put. absurd put)) read left
+    throughout_read (LeavesWithin Q) (λ h before. within_event Q Quiet h before (λ d a v put. absurd put))
+    (λ h d before. within_event Q (DeviceFailed d) h before (λ k a v put. absurd put)) read left

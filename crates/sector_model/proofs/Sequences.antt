@@ -1,5 +1,6 @@
 -- What holds at each moment while calls are made in a row, and what reads give after them.
-use Rattle.std.proofs.Common.{◌≡◌, ◌≢◌, inl, inr, ℕ, zero, suc, ◌+◌, ◌<◌, ◌≤◌, Bool, true, false, cond, List, [], ◌∷◌, ◌++◌, length, get_or, refl, sym, ◌∙◌, ap, subst, arith, ◌==◌, ◌||◌}
+use Rattle.std.proofs.Common.{◌≡◌, ◌≢◌, inl, inr, ℕ, zero, suc, ◌+◌, ◌<◌, ◌≤◌, Bool, true, false, cond, List, [], ◌∷◌, ◌++◌, length, get_or, refl, sym, ◌∙◌, ap}
+use Rattle.std.proofs.Common.{subst, arith, ◌==◌, ◌||◌}
 use Rattle.std.specs.Prelude.{slice_set, Ok, Err}
 use Rattle.std.proofs.lemmas.Bool.{cases_eq, eq-eqb, eqb-true}
 use Rattle.std.proofs.lemmas.List.{get_or-set_same, get_or-set_other}
@@ -21,7 +22,8 @@ pub made_none : (h : History) → Made [] true h h
 made_none h = record { performed = (refl, refl) }
 
 -- the first call isn't answered, or isn't made
-pub made_stop : {calls : List Call} {old new : History} (call : Call) (stop : Stop) → new ≡ after_try (after_call call) (Err stop) old → Made (call ∷ calls) false old new
+pub made_stop : {calls : List Call} {old new : History} (call : Call) (stop : Stop) → new ≡ after_try (after_call call) (Err stop) old
+    → Made (call ∷ calls) false old new
 made_stop call (Down d) is = record { performed = inl (refl, inr is) }
 made_stop call Worn is = record { performed = inl (refl, inl is) }
 
@@ -32,15 +34,19 @@ same_down (Flush device) h d = refl
 
 -- the first call is answered
 pub made_then : {calls : List Call} {answered : Bool} {old mid new : History} (call : Call) (done : Unit {0}) (after : Panel)
-    → mid ≡ after_try (after_call call) (Ok done) old → after.down (device_of call) ≡ false → IsTrueTo after mid → Made calls answered mid new → Made (call ∷ calls) answered old new
+    → mid ≡ after_try (after_call call) (Ok done) old → after.down (device_of call) ≡ false → IsTrueTo after mid → Made calls answered mid new
+    → Made (call ∷ calls) answered old new
 made_then {calls = calls} {answered = answered} {old = old} {mid = mid} {new = new} call done after is up is_true rest =
-    let was_up = sym (same_down call old (device_of call)) ∙ ap (λ (h : History). is_down h (device_of call)) (sym is) ∙ sym (is_true.down (device_of call)) ∙ up in
+    let was_up = sym (same_down call old (device_of call)) ∙ ap (λ (h : History). is_down h (device_of call)) (sym is) ∙ sym (is_true.down (device_of call))
+    ∙ up in
     record { performed = inr (was_up, subst (λ (h : History). Performs calls answered h new) is rest.performed) }
 
-performs_both : (first second : List Call) (answered : Bool) (old mid new : History) → Performs first true old mid → Performs second answered mid new → Performs (first ++ second) answered old new
+performs_both : (first second : List Call) (answered : Bool) (old mid new : History) → Performs first true old mid → Performs second answered mid new
+    → Performs (first ++ second) answered old new
 performs_both [] second answered old mid new (all, is) rest = subst (λ (h : History). Performs second answered h new) is rest
 performs_both (call ∷ first) second answered old mid new (inl (none, is)) rest = absurd (cc)
-performs_both (call ∷ first) second answered old mid new (inr (is_up, so_far)) rest = inr (is_up, performs_both first second answered (after_call call true old) mid new so_far rest)
+performs_both (call ∷ first) second answered old mid new (inr (is_up, so_far)) rest =
+    inr (is_up, performs_both first second answered (after_call call true old) mid new so_far rest)
 
 performs_short : (first second : List Call) (old new : History) → Performs first false old new → Performs (first ++ second) false old new
 performs_short [] second old new (all, is) = absurd (cc)
@@ -48,8 +54,10 @@ performs_short (call ∷ first) second old new (inl (none, is)) = inl (none, is)
 performs_short (call ∷ first) second old new (inr (is_up, so_far)) = inr (is_up, performs_short first second (after_call call true old) new so_far)
 
 -- one row of calls after another
-pub made_both : {first second : List Call} {answered : Bool} {old mid new : History} → Made first true old mid → Made second answered mid new → Made (first ++ second) answered old new
-made_both {first = first} {second = second} {answered = answered} {old = old} {mid = mid} {new = new} one two = record { performed = performs_both first second answered old mid new one.performed two.performed }
+pub made_both : {first second : List Call} {answered : Bool} {old mid new : History} → Made first true old mid → Made second answered mid new
+    → Made (first ++ second) answered old new
+made_both {first = first} {second = second} {answered = answered} {old = old} {mid = mid} {new = new} one two =
+    record { performed = performs_both first second answered old mid new one.performed two.performed }
 
 pub made_short : {first : List Call} (second : List Call) {old new : History} → Made first false old new → Made (first ++ second) false old new
 made_short {first = first} second {old = old} {new = new} one = record { performed = performs_short first second old new one.performed }
@@ -70,7 +78,8 @@ abbrev pub IsSafe : (History → Type 0) → List Call → History → Type 0
 IsSafe P [] h = P h
 IsSafe P (call ∷ calls) h = P h × P (after_call call false h) × (is_down h (device_of call) ≡ false → IsSafe P calls (after_call call true h))
 
-also : {P : History → Type 0} {start : History} (call : Call) (answered : Bool) (h : History) → Throughout P start h → P (after_call call answered h) → Throughout P start (after_call call answered h)
+also : {P : History → Type 0} {start : History} (call : Call) (answered : Bool) (h : History) → Throughout P start h → P (after_call call answered h)
+    → Throughout P start (after_call call answered h)
 also (Read device at) answered h so_far is = then_also _ h so_far is
 also (Write device at value) answered h so_far is = then_also _ h so_far is
 also (Flush device) answered h so_far is = then_also _ h so_far is
@@ -79,16 +88,20 @@ safe_first : (P : History → Type 0) (calls : List Call) (h : History) → IsSa
 safe_first P [] h safe = safe
 safe_first P (call ∷ calls) h safe = safe.0
 
-performs_from : (P : History → Type 0) (calls : List Call) (answered : Bool) (start old new : History) → Throughout P start old → IsSafe P calls old → Performs calls answered old new → Throughout P start new
+performs_from : (P : History → Type 0) (calls : List Call) (answered : Bool) (start old new : History) → Throughout P start old → IsSafe P calls old
+    → Performs calls answered old new → Throughout P start new
 performs_from P [] answered start old new so_far safe (all, is) = subst (Throughout P start) (sym is) so_far
 performs_from P (call ∷ calls) answered start old new so_far safe (inl (none, inl is)) = subst (Throughout P start) (sym is) so_far
 performs_from P (call ∷ calls) answered start old new so_far safe (inl (none, inr is)) = subst (Throughout P start) (sym is) (also call false old so_far safe.1)
 performs_from P (call ∷ calls) answered start old new so_far safe (inr (is_up, rest)) =
-    let next = safe.2 is_up in performs_from P calls answered start (after_call call true old) new (also call true old so_far (safe_first P calls (after_call call true old) next)) next rest
+    let next = safe.2 is_up in performs_from P calls answered start (after_call call true old) new
+    (also call true old so_far (safe_first P calls (after_call call true old) next)) next rest
 
 -- calls of which each outcome is safe
-pub throughout_made : (P : History → Type 0) {calls : List Call} {answered : Bool} {old new : History} → IsSafe P calls old → Made calls answered old new → Throughout P old new
-throughout_made P {calls = calls} {answered = answered} {old = old} {new = new} safe made = performs_from P calls answered old old new (here (safe_first P calls old safe)) safe made.performed
+pub throughout_made : (P : History → Type 0) {calls : List Call} {answered : Bool} {old new : History} → IsSafe P calls old → Made calls answered old new
+    → Throughout P old new
+throughout_made P {calls = calls} {answered = answered} {old = old} {new = new} safe made =
+    performs_from P calls answered old old new (here (safe_first P calls old safe)) safe made.performed
 
 -- what a call keeps, answered or not
 pub record IsKeptBy (S : History → Type 0) (call : Call) : Type 0 where
@@ -103,7 +116,8 @@ kept_after S [] h keep is = is
 kept_after S (call ∷ calls) h (keep, rest) is = kept_after S calls (after_call call true h) rest (keep.keeps true h is)
 
 -- a phase: calls that keep what makes P hold, and then the others
-pub safe_phase : (P S : History → Type 0) (calls rest : List Call) (h : History) → ((g : History) → S g → P g) → AllKeep S calls → S h → IsSafe P rest (after_all calls h) → IsSafe P (calls ++ rest) h
+pub safe_phase : (P S : History → Type 0) (calls rest : List Call) (h : History) → ((g : History) → S g → P g) → AllKeep S calls → S h
+    → IsSafe P rest (after_all calls h) → IsSafe P (calls ++ rest) h
 safe_phase P S [] rest h more keep is safe = safe
 safe_phase P S (call ∷ calls) rest h more (keep, others) is safe = (
   more h is,
@@ -121,7 +135,8 @@ put_alone : (Q : Contents) (device at : ℕ) (value : Bytes) → Q device at val
 put_alone Q device at value is d a v (same, place, this) =
     subst (λ (k : ℕ). Q k a v) (sym same) (subst (λ (k : ℕ). Q device k v) (sym place) (subst (Q device at) (sym this) is))
 
-within_fault : (Q : Contents) (device : ℕ) (fault : Event) (h : History) → LeavesWithin Q h → ((d a : ℕ) (v : Bytes) → Puts fault d a v → Q d a v) → LeavesWithin Q (After (fault_at device fault h) h)
+within_fault : (Q : Contents) (device : ℕ) (fault : Event) (h : History) → LeavesWithin Q h → ((d a : ℕ) (v : Bytes) → Puts fault d a v → Q d a v)
+    → LeavesWithin Q (After (fault_at device fault h) h)
 within_fault Q device fault h left put = by_case (is_down h device)
   where
     by_case : (b : Bool) → LeavesWithin Q (After (cond b Quiet fault) h)
@@ -140,7 +155,8 @@ pub kept_within : (Q : Contents) (call : Call) → PutsOnly Q call → IsKeptBy 
 kept_within Q call only = record { keeps = λ answered h left. within_call Q call only answered h left }
 
 -- a device that isn't called stays up
-up_fault : (device : ℕ) (fault : Event) (h : History) (d : ℕ) → is_down (After fault h) d ≡ (d == device || is_down h d) → d ≢ device → is_down h d ≡ false → is_down (After (fault_at device fault h) h) d ≡ false
+up_fault : (device : ℕ) (fault : Event) (h : History) (d : ℕ) → is_down (After fault h) d ≡ (d == device || is_down h d) → d ≢ device → is_down h d ≡ false
+    → is_down (After (fault_at device fault h) h) d ≡ false
 up_fault device fault h d is other up = by_case (is_down h device)
   where
     by_case : (b : Bool) → is_down (After (cond b Quiet fault) h) d ≡ false
@@ -166,7 +182,8 @@ put_other true l at a v other = get_or-set_other l at a v [] other
 put_other false l at a v other = refl
 
 -- a write elsewhere
-pub seen_elsewhere : (dev at : ℕ) (value : Bytes) (h : History) (d a : ℕ) → (d ≡ dev → a ≢ at) → sector_of (seen (After (Wrote dev at value) h) d) a ≡ sector_of (seen h d) a
+pub seen_elsewhere : (dev at : ℕ) (value : Bytes) (h : History) (d a : ℕ) → (d ≡ dev → a ≢ at)
+    → sector_of (seen (After (Wrote dev at value) h) d) a ≡ sector_of (seen h d) a
 seen_elsewhere dev at value h d a other = by_case (d == dev) refl
   where
     by_case : (b : Bool) → (d == dev) ≡ b → sector_of (cond b (slice_set (seen h d) at value) (seen h d)) a ≡ sector_of (seen h d) a
@@ -174,13 +191,15 @@ seen_elsewhere dev at value h d a other = by_case (d == dev) refl
     by_case false is = refl
 
 pub seen_written : (dev at : ℕ) (value : Bytes) (h : History) → at < length (seen h dev) → sector_of (seen (After (Wrote dev at value) h) dev) at ≡ value
-seen_written dev at value h within = ap (λ (b : Bool). sector_of (cond b (slice_set (seen h dev) at value) (seen h dev)) at) (eq-eqb dev dev refl) ∙ get_or-set_same (seen h dev) at value _ within
+seen_written dev at value h within = ap (λ (b : Bool). sector_of (cond b (slice_set (seen h dev) at value) (seen h dev)) at) (eq-eqb dev dev refl)
+    ∙ get_or-set_same (seen h dev) at value _ within
 
 pub size_written : (dev at : ℕ) (value : Bytes) (h : History) (d : ℕ) → length (seen (After (Wrote dev at value) h) d) ≡ length (seen h d)
 size_written dev at value h d = length-seen (After (Wrote dev at value) h) d ∙ sym (length-seen h d)
 
 -- sectors before the first that is written
-before_writes : (dev at : ℕ) (values : List Bytes) (h : History) (a : ℕ) → a < at → sector_of (seen (after_all (writes_from dev at values) h) dev) a ≡ sector_of (seen h dev) a
+before_writes : (dev at : ℕ) (values : List Bytes) (h : History) (a : ℕ) → a < at
+    → sector_of (seen (after_all (writes_from dev at values) h) dev) a ≡ sector_of (seen h dev) a
 before_writes dev at [] h a before = refl
 before_writes dev at (value ∷ values) h a before =
     before_writes dev (at + 1) values (After (Wrote dev at value) h) a (omega arith) ∙ seen_elsewhere dev at value h dev a (λ _ same. absurd (omega arith))
@@ -198,7 +217,8 @@ seen_writes dev at (value ∷ values) h (suc k) within room =
     ∙ seen_writes dev (at + 1) values (After (Wrote dev at value) h) k (omega arith) (omega (arith, size_written dev at value h dev))
 
 -- devices before the first that is written
-before_row : (dev at : ℕ) (values : List Bytes) (h : History) (d a : ℕ) → d < dev → sector_of (seen (after_all (writes_across dev at values) h) d) a ≡ sector_of (seen h d) a
+before_row : (dev at : ℕ) (values : List Bytes) (h : History) (d a : ℕ) → d < dev
+    → sector_of (seen (after_all (writes_across dev at values) h) d) a ≡ sector_of (seen h d) a
 before_row dev at [] h d a before = refl
 before_row dev at (value ∷ values) h d a before =
     before_row (dev + 1) at values (After (Wrote dev at value) h) d a (omega arith) ∙ seen_elsewhere dev at value h d a (λ same. absurd (omega arith))
@@ -232,7 +252,8 @@ safe_kept : (S : History → Type 0) (calls : List Call) (h : History) → AllKe
 safe_kept S [] h keep is = is
 safe_kept S (call ∷ calls) h (keep, others) is = (is, keep.keeps false h is, λ up. safe_kept S calls (after_call call true h) others (keep.keeps true h is))
 
-pub throughout_kept : (S : History → Type 0) {calls : List Call} {answered : Bool} {old new : History} → AllKeep S calls → S old → Made calls answered old new → Throughout S old new
+pub throughout_kept : (S : History → Type 0) {calls : List Call} {answered : Bool} {old new : History} → AllKeep S calls → S old → Made calls answered old new
+    → Throughout S old new
 throughout_kept S {calls = calls} {old = old} keep is made = throughout_made S (safe_kept S calls old keep is) made
 
 -- the run after one row of calls and another
@@ -283,9 +304,11 @@ pub sizes_after : (calls : List Call) (h : History) (d : ℕ) → length (seen (
 sizes_after calls h d = length-seen (after_all calls h) d ∙ ap (λ (slots : Slots). length (disk_of (slots d))) (start_after calls h) ∙ sym (length-seen h d)
 
 -- a row of writes changes one place alone
-pub across_elsewhere : (dev at : ℕ) (values : List Bytes) (h : History) (d a : ℕ) → a ≢ at → sector_of (seen (after_all (writes_across dev at values) h) d) a ≡ sector_of (seen h d) a
+pub across_elsewhere : (dev at : ℕ) (values : List Bytes) (h : History) (d a : ℕ) → a ≢ at
+    → sector_of (seen (after_all (writes_across dev at values) h) d) a ≡ sector_of (seen h d) a
 across_elsewhere dev at [] h d a other = refl
-across_elsewhere dev at (value ∷ values) h d a other = across_elsewhere (dev + 1) at values (After (Wrote dev at value) h) d a other ∙ seen_elsewhere dev at value h d a (λ _. other)
+across_elsewhere dev at (value ∷ values) h d a other = across_elsewhere (dev + 1) at values (After (Wrote dev at value) h) d a other
+    ∙ seen_elsewhere dev at value h d a (λ _. other)
 
 -- the devices of calls are up
 abbrev pub AllUp : List Call → History → Type 0
@@ -299,7 +322,11 @@ all_up_same (call ∷ calls) g h same (up, others) = (sym (same (device_of call)
 performs_up : (calls : List Call) (old new : History) → Performs calls true old new → AllUp calls old
 performs_up [] old new is = tt
 performs_up (call ∷ calls) old new (inl (none, is)) = absurd (cc)
-performs_up (call ∷ calls) old new (inr (up, rest)) = (up, all_up_same calls (after_call call true old) old (same_down call old) (performs_up calls (after_call call true old) new rest))
+performs_up (call ∷ calls) old new (inr (up, rest)) = (
+  up,
+  all_up_same calls (after_call call true old) old (same_down call old)
+      (performs_up calls (after_call call true old) new rest),
+)
 
 -- where all of the calls were answered, their devices were up before
 pub made_up : {calls : List Call} {old new : History} → Made calls true old new → AllUp calls old

@@ -12,7 +12,8 @@ pub made_none : {P : Type 0} (d : ℕ) → d < 0 → P
 made_none d within = absurd (omega arith)
 
 -- one more slot, as it is opened
-pub opened_more : {F : Type 0} (slots : List (Slot F)) (slot : Slot F) → ((d : ℕ) → IsOpened (slot_at slots d)) → IsOpened slot → (d : ℕ) → IsOpened (slot_at (slots ++ slot ∷ []) d)
+pub opened_more : {F : Type 0} (slots : List (Slot F)) (slot : Slot F) → ((d : ℕ) → IsOpened (slot_at slots d)) → IsOpened slot → (d : ℕ)
+    → IsOpened (slot_at (slots ++ slot ∷ []) d)
 opened_more [] slot each last zero = last
 opened_more [] slot each last (suc d) = record { absent = λ _. refl; synced = refl }
 opened_more (first ∷ slots) slot each last zero = each 0
@@ -25,7 +26,8 @@ made_all {told = told} files yielded slots all as_many made d within =
     subst (λ (l : List (Option _)). IsMade told (file_at l d) (slot_at slots d)) all (made d (subst (λ (n : ℕ). d < n) (as_many ∙ sym (ap length all)) within))
 
 -- one more slot, as it is made over its file
-pub made_more : {F : Type 0} {told : F → Contents} (files : List (Option F)) (slots : List (Slot F)) (file : Option F) (slot : Slot F) → length slots ≡ length files
+pub made_more : {F : Type 0} {told : F → Contents} (files : List (Option F)) (slots : List (Slot F)) (file : Option F) (slot : Slot F)
+    → length slots ≡ length files
     → ((d : ℕ) → d < length files → IsMade told (file_at files d) (slot_at slots d)) → IsMade told file slot → (d : ℕ) → d < length (files ++ file ∷ [])
     → IsMade told (file_at (files ++ file ∷ []) d) (slot_at (slots ++ slot ∷ []) d)
 made_more [] [] file slot len each last zero within = last

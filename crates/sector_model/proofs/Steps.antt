@@ -1,11 +1,13 @@
 -- What one event changes in what a crash may leave, and how moments go on.
-use Rattle.std.proofs.Common.{◌≡◌, ◌≢◌, ◌⊎◌, inl, inr, ⊎_elim, ℕ, ◌+◌, ◌≤◌, Bool, true, false, zero, suc, List, [], ◌∷◌, Option, Some, None, refl, sym, ◌∙◌, ap, subst, arith, ◌==◌, ◌||◌, cond}
+use Rattle.std.proofs.Common.{◌≡◌, ◌≢◌, ◌⊎◌, inl, inr, ⊎_elim, ℕ, ◌+◌, ◌≤◌, Bool, true, false, zero, suc, List, [], ◌∷◌, Option, Some, None, refl, sym, ◌∙◌, ap}
+use Rattle.std.proofs.Common.{subst, arith, ◌==◌, ◌||◌, cond}
 use Rattle.std.specs.Prelude.{nat_lt, slice_set, is_none}
 use Rattle.std.proofs.lemmas.Bool.{eqb-true}
 use Rattle.std.proofs.lemmas.Bool.Decides.{nat_tests}
 use Rattle.sector_model.specs.declared.event.Event.{Event}
 use Rattle.sector_model.specs.declared.event.Event.TheVariants.{Quiet, Wrote, Lost, Flushed, DeviceFailed}
-use Rattle.sector_model.specs.History.{History, Began, After, Bytes, Slots, calls_of, cut_at, seen, is_down, start_of, disk_of, sector_of, IsAt, MayHold, SlotMayHold, MayLeave}
+use Rattle.sector_model.specs.History.{History, Began, After, Bytes, Slots, calls_of, cut_at, seen, is_down, start_of, disk_of, sector_of, IsAt, MayHold}
+use Rattle.sector_model.specs.History.{SlotMayHold, MayLeave}
 use Rattle.sector_model.specs.Moments.{Throughout, here, then_also, Contents, LeavesWithin, IsWithin}
 
 -- an event puts this value there
@@ -39,7 +41,8 @@ pub within_more : (P Q : Contents) (h : History) → ((d a : ℕ) (v : Bytes) �
 within_more P Q h more left = record { each = λ d a v may. more d a v (left.each d a v may) }
 
 -- the same facts of each image that a crash may leave
-slot_within : (h : History) (d a : ℕ) (slot : Option (List Bytes)) (disk : List Bytes) → SlotMayHold h d slot → slot ≡ Some disk → MayHold h d a (sector_of disk a)
+slot_within : (h : History) (d a : ℕ) (slot : Option (List Bytes)) (disk : List Bytes) → SlotMayHold h d slot → slot ≡ Some disk
+    → MayHold h d a (sector_of disk a)
 slot_within h d a slot disk may is = let at_disk = subst (SlotMayHold h d) is may in at_disk.2 a
 
 pub image_within : (Q : Contents) (h : History) (image : Slots) → LeavesWithin Q h → MayLeave h image → IsWithin Q image
@@ -86,7 +89,8 @@ may_hold_seen (Began start) d a there = at_start (start d) a there
 may_hold_seen (After Quiet h) d a there = may_hold_seen h d a there
 may_hold_seen (After (Wrote device at value) h) d a there = by_device (d == device) refl (may_hold_seen h d a there)
   where
-    by_device : (b : Bool) → (d == device) ≡ b → MayHold h d a (sector_of (seen h d) a) → MayHold (After (Wrote device at value) h) d a (sector_of (cond b (slice_set (seen h d) at value) (seen h d)) a)
+    by_device : (b : Bool) → (d == device) ≡ b → MayHold h d a (sector_of (seen h d) a)
+        → MayHold (After (Wrote device at value) h) d a (sector_of (cond b (slice_set (seen h d) at value) (seen h d)) a)
     by_device true is before = elim (set_sector (seen h d) at a value) [
       | inl new ↦ inl (eqb-true d device is, new.0, new.1)
       | inr old ↦ inr (subst (MayHold h d a) (sym old) before)
@@ -125,7 +129,8 @@ pub throughout_last : {P : History → Type 0} {old : History} (new : History) �
 throughout_last new (here is) = is
 throughout_last new (then_also e h so_far is) = is
 
-pub throughout_on : {P : History → Type 0} {old : History} (mid : History) → Throughout P old mid → (new : History) → Throughout P mid new → Throughout P old new
+pub throughout_on : {P : History → Type 0} {old : History} (mid : History) → Throughout P old mid → (new : History) → Throughout P mid new
+    → Throughout P old new
 throughout_on mid first new (here is) = first
 throughout_on mid first new (then_also e h so_far is) = then_also e h (throughout_on mid first h so_far) is
 

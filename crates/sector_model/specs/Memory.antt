@@ -1,5 +1,6 @@
 -- What a bank in memory holds.
-use Rattle.std.specs.Prelude.{◌≡◌, ◌==◌, ◌&&◌, nat_lt, if◌then◌else◌, ◌<◌, ◌≤◌, ℕ, zero, suc, Bool, true, false, All, List, [], ◌∷◌, ◌++◌, length, Vec, Option, Some, None, is_none, slice_get, slice_index_or, slice_set, ◌+◌, ◌-◌}
+use Rattle.std.specs.Prelude.{◌≡◌, ◌==◌, ◌&&◌, nat_lt, if◌then◌else◌, ◌<◌, ◌≤◌, ℕ, zero, suc, Bool, true, false, All, List, [], ◌∷◌, ◌++◌, length, Vec, Option}
+use Rattle.std.specs.Prelude.{Some, None, is_none, slice_get, slice_index_or, slice_set, ◌+◌, ◌-◌}
 use Rattle.std.specs.List.{AllPairs}
 use Rattle.std.specs.declared.alloc.Global.{Global}
 use Rattle.sector_model.specs.declared.memory.Entry.{Entry}

@@ -29,11 +29,14 @@ pub calls-run : (start : Slots) (log : List Entry) (n : ℕ) → calls_of (run_o
 calls-run start log zero = refl
 calls-run start log (suc n) = ap (λ k. k + 1) (calls-run start log n) ∙ add-one n
 
-pub replayed_is_true : (start : List (Option Disk)) (log : List Entry) (calls : ℕ) (disks : List Disk) (flags : List Bool) (devices : ℕ) → length flags ≡ devices → IsReplayed start log calls disks flags
-    → IsTrueTo record { devices = devices; sectors = λ d. min (length (contents_of disks d)) (2 ^ 32 - 1); down = λ d. down_at flags d; calls = calls } (run_of (slots_of start) log calls)
+pub replayed_is_true : (start : List (Option Disk)) (log : List Entry) (calls : ℕ) (disks : List Disk) (flags : List Bool) (devices : ℕ)
+    → length flags ≡ devices → IsReplayed start log calls disks flags
+    → IsTrueTo record { devices = devices; sectors = λ d. min (length (contents_of disks d)) (2 ^ 32 - 1); down = λ d. down_at flags d; calls = calls }
+    (run_of (slots_of start) log calls)
 replayed_is_true start log calls disks flags devices size was = record {
   down = was.down;
-  sectors = λ d. ap (λ (l : List Bytes). min (length l) (2 ^ 32 - 1)) (was.seen d) ∙ ap (λ (n : ℕ). min n (2 ^ 32 - 1)) (length-seen (run_of (slots_of start) log calls) d);
+  sectors = λ d. ap (λ (l : List Bytes). min (length l) (2 ^ 32 - 1)) (was.seen d)
+      ∙ ap (λ (n : ℕ). min n (2 ^ 32 - 1)) (length-seen (run_of (slots_of start) log calls) d);
   calls = sym (calls-run (slots_of start) log calls);
   beyond = λ d past. ap (λ (slots : Slots). slots d) (start-run (slots_of start) log calls) ∙ was.beyond d (subst (λ (n : ℕ). n ≤ d) (sym size) past);
   whole = λ d a v within may. was.whole d a v (subst (λ (slots : Slots). a < length (disk_of (slots d))) (start-run (slots_of start) log calls) within) may;

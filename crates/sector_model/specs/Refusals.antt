@@ -1,7 +1,9 @@
 -- The numbers, names and texts of the refusals.
 use Rattle.std.specs.Prelude.{ℕ, List, codes}
 use Rattle.sector_model.specs.declared.refusal.Refusal.{Refusal}
-use Rattle.sector_model.specs.declared.refusal.Refusal.TheVariants.{BadName, BadSize, Exists, TooManyVolumes, NoSpace, NoVolume, BadCount, OutOfRange, WouldLose, NotMissing, NotUsable, NothingToRebuild, Incomplete, Memory, TwoLost, Worn, NoSet, BadTable, BadGeometry, BadLine, ReadFault, WriteFault}
+use Rattle.sector_model.specs.declared.refusal.Refusal.TheVariants.{BadName, BadSize, Exists, TooManyVolumes, NoSpace, NoVolume, BadCount, OutOfRange}
+use Rattle.sector_model.specs.declared.refusal.Refusal.TheVariants.{WouldLose, NotMissing, NotUsable, NothingToRebuild, Incomplete, Memory, TwoLost, Worn}
+use Rattle.sector_model.specs.declared.refusal.Refusal.TheVariants.{NoSet, BadTable, BadGeometry, BadLine, ReadFault, WriteFault}
 
 abbrev pub number_of : Refusal → ℕ
 number_of BadName = 1

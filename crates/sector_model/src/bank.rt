@@ -57,7 +57,8 @@ pub trait Bank {
         requires within { (panel self.old).down dev ≡ false → at < (panel self.old).sectors dev }
         ensures panel { AfterCall dev (is_ok result) (panel self.old) (panel self.new) }
         ensures honest { honest self.old ↔ honest self.new }
-        ensures history { honest self.old → history self.new ≡ after_write dev at from.now (is_ok result) (history self.old) };
+        ensures history { honest self.old
+            → history self.new ≡ after_write dev at from.now (is_ok result) (history self.old) };
 
     /// Makes all that was written to the device safe.
     fn flush(&mut self, dev: u8) -> Result<(), Down>

@@ -20,7 +20,8 @@ pub fn read_sector<B: Bank>(bank: &mut B, dev: u8, at: u32, to: &mut Sector) -> 
     ensures history { B.honest bank.old → B.history bank.new ≡ after_try (after_read dev) result (B.history bank.old) }
     ensures bytes { B.honest bank.old → OnOk result (to.new ≡ sector_of (seen (B.history bank.old) dev) at) }
     ensures up { OnOk result ((B.panel bank.new).down dev ≡ false) }
-    ensures err { IfErr result (λ stop. IsCauseOf (B.panel bank.new) stop × ((stop ≡ Stop.Worn) ⊎ (stop ≡ Stop.Down dev))) }
+    ensures err { IfErr result (λ stop. IsCauseOf (B.panel bank.new) stop
+        × ((stop ≡ Stop.Worn) ⊎ (stop ≡ Stop.Down dev))) }
 {
     if bank.now() >= GREATEST_COUNT {
         return Err(Stop::Worn);
@@ -38,9 +39,11 @@ pub fn write_sector<B: Bank>(bank: &mut B, dev: u8, at: u32, from: &Sector) -> R
     requires within { (B.panel bank.old).down dev ≡ false → at < (B.panel bank.old).sectors dev }
     ensures panel { IsLater (B.panel bank.old) (B.panel bank.new) }
     ensures honest { B.honest bank.old ↔ B.honest bank.new }
-    ensures history { B.honest bank.old → B.history bank.new ≡ after_try (after_write dev at from.now) result (B.history bank.old) }
+    ensures history { B.honest bank.old → B.history bank.new ≡ after_try (after_write dev at from.now) result
+        (B.history bank.old) }
     ensures up { OnOk result ((B.panel bank.new).down dev ≡ false) }
-    ensures err { IfErr result (λ stop. IsCauseOf (B.panel bank.new) stop × ((stop ≡ Stop.Worn) ⊎ (stop ≡ Stop.Down dev))) }
+    ensures err { IfErr result (λ stop. IsCauseOf (B.panel bank.new) stop
+        × ((stop ≡ Stop.Worn) ⊎ (stop ≡ Stop.Down dev))) }
 {
     if bank.now() >= GREATEST_COUNT {
         return Err(Stop::Worn);
@@ -59,7 +62,8 @@ pub fn flush_device<B: Bank>(bank: &mut B, dev: u8) -> Result<(), Stop>
     ensures honest { B.honest bank.old ↔ B.honest bank.new }
     ensures history { B.honest bank.old → B.history bank.new ≡ after_try (after_flush dev) result (B.history bank.old) }
     ensures up { OnOk result ((B.panel bank.new).down dev ≡ false) }
-    ensures err { IfErr result (λ stop. IsCauseOf (B.panel bank.new) stop × ((stop ≡ Stop.Worn) ⊎ (stop ≡ Stop.Down dev))) }
+    ensures err { IfErr result (λ stop. IsCauseOf (B.panel bank.new) stop
+        × ((stop ≡ Stop.Worn) ⊎ (stop ≡ Stop.Down dev))) }
 {
     if bank.now() >= GREATEST_COUNT {
         return Err(Stop::Worn);

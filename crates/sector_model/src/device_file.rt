@@ -1,5 +1,6 @@
 //! What a device file does, and sectors that are read and written whole.
-ghost use Rattle.std.specs.Prelude.{IsTrue, Bool, false, ◌≡◌, ◌≢◌, ◌≤◌, ◌<◌, ◌+◌, ◌^◌, ℕ, Ok, length, slice_index_or, IfOk, IfErr, OnOk};
+ghost use Rattle.std.specs.Prelude.{IsTrue, Bool, false, ◌≡◌, ◌≢◌, ◌≤◌, ◌<◌, ◌+◌, ◌^◌, ℕ, Ok, length, slice_index_or};
+ghost use Rattle.std.specs.Prelude.{IfOk, IfErr, OnOk};
 ghost use Rattle.std.specs.IoError.{error_kind};
 ghost use Rattle.sector_model.specs.DeviceFiles.{Contents, AreAt, IsWritten, IsSynced};
 
@@ -39,7 +40,8 @@ pub trait DeviceFile {
         requires { IsTrue tells → place + length from.now ≤ (told self.old).size }
         ensures bound { IfOk result (λ n. n ≤ length from.now) }
         ensures written { IsTrue tells → IfOk result (λ n. IsWritten place n from.now (told self.old) (told self.new)) }
-        ensures interrupted { IsTrue tells → IfErr result (λ e. error_kind e ≡ ErrorKind.Interrupted → told self.new ≡ told self.old) };
+        ensures interrupted { IsTrue tells
+            → IfErr result (λ e. error_kind e ≡ ErrorKind.Interrupted → told self.new ≡ told self.old) };
 
     /// Makes safe all that was written.
     fn sync(&mut self) -> io::Result<()>
@@ -86,7 +88,8 @@ fn read_rest<F: DeviceFile>(
     requires within { IsTrue F.tells → place + 512 ≤ (F.told file.old).size }
     ensures bound { IfOk result (λ n. done + n ≤ 512) }
     ensures front { (k : ℕ) → k < done → slice_index_or to.new k 0 ≡ slice_index_or to.old k 0 }
-    ensures read { IsTrue F.tells → IfOk result (λ n. (k : ℕ) → k < n → slice_index_or to.new (done + k) 0 ≡ (F.told file.old).byte (place + done + k)) }
+    ensures read { IsTrue F.tells → IfOk result
+        (λ n. (k : ℕ) → k < n → slice_index_or to.new (done + k) 0 ≡ (F.told file.old).byte (place + done + k)) }
     ensures same { IsTrue F.tells → F.told file.new ≡ F.told file.old }
 {
     file.read_part(place + done as u64, &mut to[done..])
@@ -123,7 +126,8 @@ pub(crate) fn read_whole<F: DeviceFile>(file: &mut F, place: u64, to: &mut Secto
 fn rest_of(from: &Sector, done: usize) -> &[u8]
     requires { done ≤ 512 }
     ensures len { done + length result.now ≡ 512 }
-    ensures each { (k : ℕ) → k < length result.now → slice_index_or result.now k 0 ≡ slice_index_or from.now (done + k) 0 }
+    ensures each { (k : ℕ) → k < length result.now
+        → slice_index_or result.now k 0 ≡ slice_index_or from.now (done + k) 0 }
 {
     &from[done..]
 }

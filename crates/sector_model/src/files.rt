@@ -1,9 +1,11 @@
 //! A bank of devices over files.
-ghost use Rattle.std.specs.Prelude.{IsTrue, ◌≡◌, ◌≢◌, ◌<◌, ◌≤◌, ◌+◌, ◌*◌, ◌/◌, ◌-◌, ◌^◌, ℕ, min, None, true, false, not, ◌||◌, ◌↔◌, is_ok, vec_len, IfOk, IfErr, OnOk, OnErr};
+ghost use Rattle.std.specs.Prelude.{IsTrue, ◌≡◌, ◌≢◌, ◌<◌, ◌≤◌, ◌+◌, ◌*◌, ◌/◌, ◌-◌, ◌^◌, ℕ, min, None, true, false};
+ghost use Rattle.std.specs.Prelude.{not, ◌||◌, ◌↔◌, is_ok, vec_len, IfOk, IfErr, OnOk, OnErr};
 ghost use Rattle.sector_model.specs.History.{sector_of, seen};
 ghost use Rattle.sector_model.specs.Bank.{CanCall, AfterCall, after_read, after_write, after_flush};
 ghost use Rattle.sector_model.specs.DeviceFiles.{AreAt, IsWritten, IsSynced};
-ghost use Rattle.sector_model.specs.Files.{is_down, slot_at, panel_of, told_in, IsOpened, IsOver, IsMade, BeginsWith, file_at};
+ghost use Rattle.sector_model.specs.Files.{is_down, slot_at, panel_of, told_in, IsOpened, IsOver, IsMade, BeginsWith};
+ghost use Rattle.sector_model.specs.Files.{file_at};
 
 mod in_memory;
 
@@ -132,7 +134,8 @@ impl<F: DeviceFile + Drop> Slot<F> {
         ensures stays { is_down self.old ≡ true → is_ok result ≡ false }
         ensures sectors { self.new.sectors ≡ self.old.sectors }
         ensures synced { OnOk result (self.new.is_synced ≡ false) }
-        ensures written { IsTrue F.tells → OnOk result (IsWritten (512 * at) 512 from.now (told_in F.told self.old.file) (told_in F.told self.new.file)) }
+        ensures written { IsTrue F.tells → OnOk result
+            (IsWritten (512 * at) 512 from.now (told_in F.told self.old.file) (told_in F.told self.new.file)) }
     {
         let Some(file) = &mut self.file else {
             return Err(Down);
@@ -150,7 +153,8 @@ impl<F: DeviceFile + Drop> Slot<F> {
         ensures sectors { self.new.sectors ≡ self.old.sectors }
         ensures synced { OnOk result (self.new.is_synced ≡ true) }
         ensures idle { self.old.is_synced ≡ true → is_ok result ≡ not (is_down self.old) }
-        ensures safe { IsTrue F.tells → OnOk result (IsSynced (told_in F.told self.old.file) (told_in F.told self.new.file)) }
+        ensures safe { IsTrue F.tells → OnOk result
+            (IsSynced (told_in F.told self.old.file) (told_in F.told self.new.file)) }
     {
         let Some(file) = &mut self.file else {
             return Err(Down);
@@ -205,9 +209,12 @@ impl<F: OpenFile + FileExt + Drop> FileBank<SystemFile<F>> {
         rt: &R,
         folder: &str,
     ) -> Result<FileBank<SystemFile<F>>, Refusal>
-        ensures devices { IfOk result (λ bank. (⟦<FileBank<SystemFile<F>, NoRecord> as Bank>⟧.panel bank).devices ≡ 10) }
+        ensures devices { IfOk result (λ bank.
+            (⟦<FileBank<SystemFile<F>, NoRecord> as Bank>⟧.panel bank).devices ≡ 10) }
         ensures calls { IfOk result (λ bank. (⟦<FileBank<SystemFile<F>, NoRecord> as Bank>⟧.panel bank).calls ≡ 0) }
-        ensures absent { IfOk result (λ bank. (d : ℕ) → (⟦<FileBank<SystemFile<F>, NoRecord> as Bank>⟧.panel bank).down d ≡ true → (⟦<FileBank<SystemFile<F>, NoRecord> as Bank>⟧.panel bank).sectors d ≡ 0) }
+        ensures absent { IfOk result (λ bank. (d : ℕ)
+            → (⟦<FileBank<SystemFile<F>, NoRecord> as Bank>⟧.panel bank).down d ≡ true
+            → (⟦<FileBank<SystemFile<F>, NoRecord> as Bank>⟧.panel bank).sectors d ≡ 0) }
         ensures synced { IfOk result (λ bank. (d : ℕ) → (slot_at bank.slots.items d).is_synced ≡ true) }
         ensures err { IfErr result (λ refusal. refusal ≡ Refusal.Memory) }
     {
@@ -222,7 +229,8 @@ fn slots_over<F: DeviceFile + Drop>(
 ) -> Result<Vec<Slot<F>>, AllocError>
     ensures len { IfOk result (λ slots. vec_len slots ≡ vec_len files) }
     ensures opened { IfOk result (λ slots. (d : ℕ) → IsOpened (slot_at slots.items d)) }
-    ensures made { IsTrue F.tells → IfOk result (λ slots. (d : ℕ) → d < vec_len files → IsMade F.told (file_at files.items d) (slot_at slots.items d)) }
+    ensures made { IsTrue F.tells → IfOk result
+        (λ slots. (d : ℕ) → d < vec_len files → IsMade F.told (file_at files.items d) (slot_at slots.items d)) }
 {
     let mut slots = Vec::with_capacity(alloc, files.len())?;
     for file in files {
@@ -243,7 +251,8 @@ impl<F: DeviceFile + Drop, R: RunRecord + Drop> FileBank<F, R> {
         ensures history { IsTrue F.tells → IfOk result (λ bank. ⟦<FileBank<F, R> as Bank>⟧.history bank ≡ R.run notes) }
         ensures devices { IfOk result (λ bank. (⟦<FileBank<F, R> as Bank>⟧.panel bank).devices ≡ 10) }
         ensures calls { IfOk result (λ bank. (⟦<FileBank<F, R> as Bank>⟧.panel bank).calls ≡ 0) }
-        ensures absent { IfOk result (λ bank. (d : ℕ) → (⟦<FileBank<F, R> as Bank>⟧.panel bank).down d ≡ true → (⟦<FileBank<F, R> as Bank>⟧.panel bank).sectors d ≡ 0) }
+        ensures absent { IfOk result (λ bank. (d : ℕ) → (⟦<FileBank<F, R> as Bank>⟧.panel bank).down d ≡ true
+            → (⟦<FileBank<F, R> as Bank>⟧.panel bank).sectors d ≡ 0) }
         ensures synced { IfOk result (λ bank. (d : ℕ) → (slot_at bank.slots.items d).is_synced ≡ true) }
         ensures err { IfErr result (λ refusal. refusal ≡ Refusal.Memory) }
     {
@@ -283,12 +292,18 @@ impl<F: DeviceFile + Drop, R: RunRecord + Drop> Bank for FileBank<F, R> {
 
     fn read(&mut self, dev: u8, at: u32, to: &mut Sector) -> Result<(), Down>
         requires call { CanCall dev (⟦<FileBank<F, R> as Bank>⟧.panel self.old) }
-        requires within { (⟦<FileBank<F, R> as Bank>⟧.panel self.old).down dev ≡ false → at < (⟦<FileBank<F, R> as Bank>⟧.panel self.old).sectors dev }
-        ensures panel { AfterCall dev (is_ok result) (⟦<FileBank<F, R> as Bank>⟧.panel self.old) (⟦<FileBank<F, R> as Bank>⟧.panel self.new) }
+        requires within { (⟦<FileBank<F, R> as Bank>⟧.panel self.old).down dev ≡ false
+            → at < (⟦<FileBank<F, R> as Bank>⟧.panel self.old).sectors dev }
+        ensures panel { AfterCall dev (is_ok result) (⟦<FileBank<F, R> as Bank>⟧.panel self.old)
+            (⟦<FileBank<F, R> as Bank>⟧.panel self.new) }
         ensures honest { ⟦<FileBank<F, R> as Bank>⟧.honest self.old ↔ ⟦<FileBank<F, R> as Bank>⟧.honest self.new }
-        ensures history { ⟦<FileBank<F, R> as Bank>⟧.honest self.old → ⟦<FileBank<F, R> as Bank>⟧.history self.new ≡ after_read dev (is_ok result) (⟦<FileBank<F, R> as Bank>⟧.history self.old) }
-        ensures bytes { ⟦<FileBank<F, R> as Bank>⟧.honest self.old → OnOk result (to.new ≡ sector_of (seen (⟦<FileBank<F, R> as Bank>⟧.history self.old) dev) at) }
-        ensures synced { (d : ℕ) → (slot_at self.new.slots.items d).is_synced ≡ (slot_at self.old.slots.items d).is_synced }
+        ensures history { ⟦<FileBank<F, R> as Bank>⟧.honest self.old
+            → ⟦<FileBank<F, R> as Bank>⟧.history self.new ≡ after_read dev (is_ok result)
+            (⟦<FileBank<F, R> as Bank>⟧.history self.old) }
+        ensures bytes { ⟦<FileBank<F, R> as Bank>⟧.honest self.old
+            → OnOk result (to.new ≡ sector_of (seen (⟦<FileBank<F, R> as Bank>⟧.history self.old) dev) at) }
+        ensures synced { (d : ℕ) → (slot_at self.new.slots.items d).is_synced ≡
+            (slot_at self.old.slots.items d).is_synced }
     {
         self.calls += 1;
         let slot = &mut self.slots[dev as usize];
@@ -306,12 +321,17 @@ impl<F: DeviceFile + Drop, R: RunRecord + Drop> Bank for FileBank<F, R> {
 
     fn write(&mut self, dev: u8, at: u32, from: &Sector) -> Result<(), Down>
         requires call { CanCall dev (⟦<FileBank<F, R> as Bank>⟧.panel self.old) }
-        requires within { (⟦<FileBank<F, R> as Bank>⟧.panel self.old).down dev ≡ false → at < (⟦<FileBank<F, R> as Bank>⟧.panel self.old).sectors dev }
-        ensures panel { AfterCall dev (is_ok result) (⟦<FileBank<F, R> as Bank>⟧.panel self.old) (⟦<FileBank<F, R> as Bank>⟧.panel self.new) }
+        requires within { (⟦<FileBank<F, R> as Bank>⟧.panel self.old).down dev ≡ false
+            → at < (⟦<FileBank<F, R> as Bank>⟧.panel self.old).sectors dev }
+        ensures panel { AfterCall dev (is_ok result) (⟦<FileBank<F, R> as Bank>⟧.panel self.old)
+            (⟦<FileBank<F, R> as Bank>⟧.panel self.new) }
         ensures honest { ⟦<FileBank<F, R> as Bank>⟧.honest self.old ↔ ⟦<FileBank<F, R> as Bank>⟧.honest self.new }
-        ensures history { ⟦<FileBank<F, R> as Bank>⟧.honest self.old → ⟦<FileBank<F, R> as Bank>⟧.history self.new ≡ after_write dev at from.now (is_ok result) (⟦<FileBank<F, R> as Bank>⟧.history self.old) }
+        ensures history { ⟦<FileBank<F, R> as Bank>⟧.honest self.old
+            → ⟦<FileBank<F, R> as Bank>⟧.history self.new ≡ after_write dev at from.now (is_ok result)
+            (⟦<FileBank<F, R> as Bank>⟧.history self.old) }
         ensures synced { OnOk result ((slot_at self.new.slots.items dev).is_synced ≡ false) }
-        ensures others { (d : ℕ) → d ≢ dev → (slot_at self.new.slots.items d).is_synced ≡ (slot_at self.old.slots.items d).is_synced }
+        ensures others { (d : ℕ) → d ≢ dev
+            → (slot_at self.new.slots.items d).is_synced ≡ (slot_at self.old.slots.items d).is_synced }
     {
         self.calls += 1;
         let slot = &mut self.slots[dev as usize];
@@ -333,14 +353,18 @@ impl<F: DeviceFile + Drop, R: RunRecord + Drop> Bank for FileBank<F, R> {
 
     fn flush(&mut self, dev: u8) -> Result<(), Down>
         requires call { CanCall dev (⟦<FileBank<F, R> as Bank>⟧.panel self.old) }
-        ensures panel { AfterCall dev (is_ok result) (⟦<FileBank<F, R> as Bank>⟧.panel self.old) (⟦<FileBank<F, R> as Bank>⟧.panel self.new) }
+        ensures panel { AfterCall dev (is_ok result) (⟦<FileBank<F, R> as Bank>⟧.panel self.old)
+            (⟦<FileBank<F, R> as Bank>⟧.panel self.new) }
         ensures honest { ⟦<FileBank<F, R> as Bank>⟧.honest self.old ↔ ⟦<FileBank<F, R> as Bank>⟧.honest self.new }
-        ensures history { ⟦<FileBank<F, R> as Bank>⟧.honest self.old → ⟦<FileBank<F, R> as Bank>⟧.history self.new ≡ after_flush dev (is_ok result) (⟦<FileBank<F, R> as Bank>⟧.history self.old) }
+        ensures history { ⟦<FileBank<F, R> as Bank>⟧.honest self.old
+            → ⟦<FileBank<F, R> as Bank>⟧.history self.new ≡ after_flush dev (is_ok result)
+            (⟦<FileBank<F, R> as Bank>⟧.history self.old) }
         // Where nothing was written to the file, it is not called: so the answer is known.
         ensures idle { (slot_at self.old.slots.items dev).is_synced ≡ true
             → is_ok result ≡ not ((⟦<FileBank<F, R> as Bank>⟧.panel self.old).down dev || R.is_full self.old.notes) }
         ensures synced { OnOk result ((slot_at self.new.slots.items dev).is_synced ≡ true) }
-        ensures others { (d : ℕ) → d ≢ dev → (slot_at self.new.slots.items d).is_synced ≡ (slot_at self.old.slots.items d).is_synced }
+        ensures others { (d : ℕ) → d ≢ dev
+            → (slot_at self.new.slots.items d).is_synced ≡ (slot_at self.old.slots.items d).is_synced }
     {
         self.calls += 1;
         let slot = &mut self.slots[dev as usize];

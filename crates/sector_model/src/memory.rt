@@ -1,8 +1,11 @@
 //! A bank in memory, which goes down as a plan says.
-ghost use Rattle.std.specs.Prelude.{◌≡◌, ◌≤◌, ◌<◌, ◌+◌, ◌-◌, ◌^◌, ◌||◌, ℕ, min, [], ◌∷◌, ◌++◌, slice_set, true, false, not, ◌==◌, ◌↔◌, if◌then◌else◌, nat_le, is_ok, length, vec_len, vec_capacity, IfOk, IfErr, OnOk};
+ghost use Rattle.std.specs.Prelude.{◌≡◌, ◌≤◌, ◌<◌, ◌+◌, ◌-◌, ◌^◌, ◌||◌, ℕ, min, [], ◌∷◌, ◌++◌, slice_set, true, false};
+ghost use Rattle.std.specs.Prelude.{not, ◌==◌, ◌↔◌, if◌then◌else◌, nat_le, is_ok, length, vec_len, vec_capacity, IfOk};
+ghost use Rattle.std.specs.Prelude.{IfErr, OnOk};
 ghost use Rattle.sector_model.specs.History.{Began, After, disk_of, sector_of, seen};
 ghost use Rattle.sector_model.specs.Bank.{Panel, CanCall, AfterCall, IsTrueTo, after_read, after_write, after_flush};
-ghost use Rattle.sector_model.specs.Memory.{run_of, slots_of, contents_of, down_at, IsReplayed, IsInOrder, ups, IsFaultOf, sectors_in, AreSectors, AreCopies, AreAbsences};
+ghost use Rattle.sector_model.specs.Memory.{run_of, slots_of, contents_of, down_at, IsReplayed, IsInOrder, ups};
+ghost use Rattle.sector_model.specs.Memory.{IsFaultOf, sectors_in, AreSectors, AreCopies, AreAbsences};
 ghost use Rattle.sector_model.specs.MemoryLaw.{replayed_is_true};
 ghost use Rattle.sector_model.specs.Plans.{fails_at};
 ghost use Rattle.std.proofs.Common.{sym};
@@ -182,10 +185,12 @@ impl MemBank {
         requires slot { dev < vec_len self.old.down }
         requires within { at < length (contents_of self.old.disks.items dev) }
         ensures run { run_of (slots_of self.new.start.items) self.new.log.items self.new.calls
-            ≡ After (Event.Wrote dev at value.now) (run_of (slots_of self.old.start.items) self.old.log.items self.old.calls) }
+            ≡ After (Event.Wrote dev at value.now)
+            (run_of (slots_of self.old.start.items) self.old.log.items self.old.calls) }
         ensures calls { self.new.calls ≡ self.old.calls + 1 }
         ensures down { self.new.down ≡ self.old.down }
-        ensures sizes { (d : ℕ) → length (contents_of self.new.disks.items d) ≡ length (contents_of self.old.disks.items d) }
+        ensures sizes { (d : ℕ) → length (contents_of self.new.disks.items d) ≡ length
+            (contents_of self.old.disks.items d) }
         ensures plan { self.new.plan ≡ self.old.plan }
         ensures room { self.new.room + 1 ≡ self.old.room }
     {
@@ -207,9 +212,17 @@ impl Bank for MemBank {
 
     ghost history = { λ m. run_of (slots_of m.start.items) m.log.items m.calls };
 
-    ghost panel = { λ m. record { devices = vec_len m.down; sectors = λ d. min (length (contents_of m.disks.items d)) (2 ^ 32 - 1); down = λ d. down_at m.down.items d; calls = m.calls } };
+    ghost panel = { λ m. record {
+      devices = vec_len m.down;
+      sectors =
+          λ d. min (length (contents_of m.disks.items d)) (2 ^ 32 - 1);
+      down = λ d. down_at m.down.items d;
+      calls =
+          m.calls;
+    } };
 
-    ghost true_to = { λ m _. replayed_is_true m.start.items m.log.items m.calls m.disks.items m.down.items (vec_len m.down) (sym (m.down.ok.0)) m.replayed };
+    ghost true_to = { λ m _. replayed_is_true m.start.items m.log.items m.calls m.disks.items m.down.items
+        (vec_len m.down) (sym (m.down.ok.0)) m.replayed };
 
     fn devices(&self) -> u8 {
         self.down.len() as u8
@@ -230,12 +243,19 @@ impl Bank for MemBank {
 
     fn read(&mut self, dev: u8, at: u32, to: &mut Sector) -> Result<(), Down>
         requires call { CanCall dev (⟦<MemBank as Bank>⟧.panel self.old) }
-        requires within { (⟦<MemBank as Bank>⟧.panel self.old).down dev ≡ false → at < (⟦<MemBank as Bank>⟧.panel self.old).sectors dev }
-        ensures panel { AfterCall dev (is_ok result) (⟦<MemBank as Bank>⟧.panel self.old) (⟦<MemBank as Bank>⟧.panel self.new) }
+        requires within { (⟦<MemBank as Bank>⟧.panel self.old).down dev ≡ false
+            → at < (⟦<MemBank as Bank>⟧.panel self.old).sectors dev }
+        ensures panel { AfterCall dev (is_ok result) (⟦<MemBank as Bank>⟧.panel self.old)
+            (⟦<MemBank as Bank>⟧.panel self.new) }
         ensures honest { ⟦<MemBank as Bank>⟧.honest self.old ↔ ⟦<MemBank as Bank>⟧.honest self.new }
-        ensures history { ⟦<MemBank as Bank>⟧.honest self.old → ⟦<MemBank as Bank>⟧.history self.new ≡ after_read dev (is_ok result) (⟦<MemBank as Bank>⟧.history self.old) }
-        ensures bytes { ⟦<MemBank as Bank>⟧.honest self.old → OnOk result (to.new ≡ sector_of (seen (⟦<MemBank as Bank>⟧.history self.old) dev) at) }
-        ensures cause { is_ok result ≡ not ((⟦<MemBank as Bank>⟧.panel self.old).down dev || fails_at self.old.plan dev (⟦<MemBank as Bank>⟧.panel self.old).calls) }
+        ensures history { ⟦<MemBank as Bank>⟧.honest self.old
+            → ⟦<MemBank as Bank>⟧.history self.new ≡ after_read dev (is_ok result)
+            (⟦<MemBank as Bank>⟧.history self.old) }
+        ensures bytes { ⟦<MemBank as Bank>⟧.honest self.old
+            → OnOk result (to.new ≡ sector_of (seen (⟦<MemBank as Bank>⟧.history self.old) dev) at) }
+        ensures cause { is_ok result ≡ not
+            ((⟦<MemBank as Bank>⟧.panel self.old).down dev
+            || fails_at self.old.plan dev (⟦<MemBank as Bank>⟧.panel self.old).calls) }
         ensures plan { self.new.plan ≡ self.old.plan }
         ensures room { self.new.room ≡ self.old.room }
     {
@@ -255,11 +275,17 @@ impl Bank for MemBank {
 
     fn write(&mut self, dev: u8, at: u32, from: &Sector) -> Result<(), Down>
         requires call { CanCall dev (⟦<MemBank as Bank>⟧.panel self.old) }
-        requires within { (⟦<MemBank as Bank>⟧.panel self.old).down dev ≡ false → at < (⟦<MemBank as Bank>⟧.panel self.old).sectors dev }
-        ensures panel { AfterCall dev (is_ok result) (⟦<MemBank as Bank>⟧.panel self.old) (⟦<MemBank as Bank>⟧.panel self.new) }
+        requires within { (⟦<MemBank as Bank>⟧.panel self.old).down dev ≡ false
+            → at < (⟦<MemBank as Bank>⟧.panel self.old).sectors dev }
+        ensures panel { AfterCall dev (is_ok result) (⟦<MemBank as Bank>⟧.panel self.old)
+            (⟦<MemBank as Bank>⟧.panel self.new) }
         ensures honest { ⟦<MemBank as Bank>⟧.honest self.old ↔ ⟦<MemBank as Bank>⟧.honest self.new }
-        ensures history { ⟦<MemBank as Bank>⟧.honest self.old → ⟦<MemBank as Bank>⟧.history self.new ≡ after_write dev at from.now (is_ok result) (⟦<MemBank as Bank>⟧.history self.old) }
-        ensures cause { is_ok result ≡ not ((⟦<MemBank as Bank>⟧.panel self.old).down dev || (self.old.room == 0 || fails_at self.old.plan dev (⟦<MemBank as Bank>⟧.panel self.old).calls)) }
+        ensures history { ⟦<MemBank as Bank>⟧.honest self.old
+            → ⟦<MemBank as Bank>⟧.history self.new ≡ after_write dev at from.now (is_ok result)
+            (⟦<MemBank as Bank>⟧.history self.old) }
+        ensures cause { is_ok result ≡ not
+            ((⟦<MemBank as Bank>⟧.panel self.old).down dev
+            || (self.old.room == 0 || fails_at self.old.plan dev (⟦<MemBank as Bank>⟧.panel self.old).calls)) }
         ensures plan { self.new.plan ≡ self.old.plan }
         ensures room { self.old.room ≡ self.new.room + (if is_ok result then 1 else 0) }
     {
@@ -286,10 +312,15 @@ impl Bank for MemBank {
 
     fn flush(&mut self, dev: u8) -> Result<(), Down>
         requires call { CanCall dev (⟦<MemBank as Bank>⟧.panel self.old) }
-        ensures panel { AfterCall dev (is_ok result) (⟦<MemBank as Bank>⟧.panel self.old) (⟦<MemBank as Bank>⟧.panel self.new) }
+        ensures panel { AfterCall dev (is_ok result) (⟦<MemBank as Bank>⟧.panel self.old)
+            (⟦<MemBank as Bank>⟧.panel self.new) }
         ensures honest { ⟦<MemBank as Bank>⟧.honest self.old ↔ ⟦<MemBank as Bank>⟧.honest self.new }
-        ensures history { ⟦<MemBank as Bank>⟧.honest self.old → ⟦<MemBank as Bank>⟧.history self.new ≡ after_flush dev (is_ok result) (⟦<MemBank as Bank>⟧.history self.old) }
-        ensures cause { is_ok result ≡ not ((⟦<MemBank as Bank>⟧.panel self.old).down dev || (self.old.room == 0 || fails_at self.old.plan dev (⟦<MemBank as Bank>⟧.panel self.old).calls)) }
+        ensures history { ⟦<MemBank as Bank>⟧.honest self.old
+            → ⟦<MemBank as Bank>⟧.history self.new ≡ after_flush dev (is_ok result)
+            (⟦<MemBank as Bank>⟧.history self.old) }
+        ensures cause { is_ok result ≡ not
+            ((⟦<MemBank as Bank>⟧.panel self.old).down dev
+            || (self.old.room == 0 || fails_at self.old.plan dev (⟦<MemBank as Bank>⟧.panel self.old).calls)) }
         ensures plan { self.new.plan ≡ self.old.plan }
         ensures room { self.old.room ≡ self.new.room + (if is_ok result then 1 else 0) }
     {

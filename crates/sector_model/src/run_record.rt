@@ -29,14 +29,16 @@ pub trait RunRecord {
         requires up { IsTrue tells → is_down (run self.old) dev ≡ false }
         requires within { IsTrue tells → at < length (seen (run self.old) dev) }
         ensures room { result ≡ not (is_full self.old) }
-        ensures noted { IsTrue tells → run self.new ≡ (if result then After (Wrote dev at value.now) (run self.old) else run self.old) };
+        ensures noted { IsTrue tells → run
+            self.new ≡ (if result then After (Wrote dev at value.now) (run self.old) else run self.old) };
 
     /// Notes a flush that was answered. Where there is no room nothing is noted, and the answer is no.
     fn note_flush(&mut self, dev: u8) -> bool
         requires calls { IsTrue tells → calls_of (run self.old) < GREATEST_COUNT }
         requires up { IsTrue tells → is_down (run self.old) dev ≡ false }
         ensures room { result ≡ not (is_full self.old) }
-        ensures noted { IsTrue tells → run self.new ≡ (if result then After (Flushed dev) (run self.old) else run self.old) };
+        ensures noted { IsTrue tells → run
+            self.new ≡ (if result then After (Flushed dev) (run self.old) else run self.old) };
 
     /// Notes a read or a flush at which the device went down.
     fn note_failure(&mut self, dev: u8)

@@ -12,7 +12,8 @@ use Rattle.rebuild.specs.Rebuilding.{Complete, Position}
 use Rattle.volume_table.specs.SetReplies.{Devices, set_reply}
 use Rattle.volume_table.specs.Stands.{StoreView}
 use Rattle.volume_table.specs.StoreCalls.{Applies, EndsStore, GoesThrough, IsListed, refusals_of, set_of}
-use Rattle.volume_table.specs.VolumeStep.{Command, Create, Done, Event, Extend, Fail, Names, OnSet, OnVolumes, Progressed, Read, RebuildStep, Refused, Remove, Rename, Replace, Reply, Scrub, Scrubbed, SetCommand, Upgrade, Write, first_refusal, or_refused}
+use Rattle.volume_table.specs.VolumeStep.{Command, Create, Done, Event, Extend, Fail, Names, OnSet, OnVolumes, Progressed, Read, RebuildStep, Refused, Remove}
+use Rattle.volume_table.specs.VolumeStep.{Rename, Replace, Reply, Scrub, Scrubbed, SetCommand, Upgrade, Write, first_refusal, or_refused}
 use Rattle.volume_table.proofs.RunChains.{applies_for}
 use Rattle.report.specs.Replies.{reply_text}
 use Rattle.set_commands.specs.Serving.{AppliesOn, FailsOn, IsEventEnd, IsOpened, IsOwnEnd, IsTellEnd, RefusesOn, ReplacesOn, ScrubsOn, UpgradesOn, event_text}
@@ -27,7 +28,8 @@ fail_refused false true refusal is = inr (cc)
 fail_refused false false refusal is = absurd (cc)
 
 -- by whether the slot is not missing, and whether its device is unusable
-replace_refused : (there unusable : Bool) (refusal : Refusal) → Refused refusal ≡ or_refused (first_refusal ((there, NotMissing) ∷ (unusable, NotUsable) ∷ [])) Done
+replace_refused : (there unusable : Bool) (refusal : Refusal)
+    → Refused refusal ≡ or_refused (first_refusal ((there, NotMissing) ∷ (unusable, NotUsable) ∷ [])) Done
     → (refusal ≡ NotMissing) ⊎ (refusal ≡ NotUsable)
 replace_refused true unusable refusal is = inl (cc)
 replace_refused false true refusal is = inr (cc)
@@ -35,7 +37,8 @@ replace_refused false false refusal is = absurd (cc)
 
 -- by whether a slot is rebuilding, and whether all its rows are done
 step_refused : (rebuilding last : Bool) (refusal : Refusal) (there : ℕ)
-    → Refused refusal ≡ or_refused (first_refusal ((not rebuilding, NothingToRebuild) ∷ [])) (cond last (Progressed Complete) (Progressed (Position there))) → refusal ≡ NothingToRebuild
+    → Refused refusal ≡ or_refused (first_refusal ((not rebuilding, NothingToRebuild) ∷ [])) (cond last (Progressed Complete) (Progressed (Position there)))
+    → refusal ≡ NothingToRebuild
 step_refused false last refusal there is = cc
 step_refused true true refusal there is = absurd (cc)
 step_refused true false refusal there is = absurd (cc)
@@ -46,11 +49,13 @@ scrub_refused : (partial : Bool) (refusal : Refusal) (rows bad : ℕ) (first : O
 scrub_refused true refusal rows bad first is = cc
 scrub_refused false refusal rows bad first is = absurd (cc)
 
-through_refused : (honest : Type 0) (event : Event) (refusal : Refusal) (old new : StoreView) → ¬ EndsIt refusal → GoesThrough honest event old new (Refused refusal)
+through_refused : (honest : Type 0) (event : Event) (refusal : Refusal) (old new : StoreView) → ¬ EndsIt refusal
+    → GoesThrough honest event old new (Refused refusal)
     → IsOwnEnd event refusal
 through_refused honest (OnSet (Fail slot)) refusal old new goes through = let left = through.set_left goes in fail_refused _ _ refusal left.left.replied
 through_refused honest (OnSet (Replace slot)) refusal old new goes through = let left = through.set_left goes in replace_refused _ _ refusal left.left.replied
-through_refused honest (OnSet (RebuildStep rows)) refusal old new goes through = let left = through.set_left goes in step_refused _ _ refusal _ left.left.replied
+through_refused honest (OnSet (RebuildStep rows)) refusal old new goes through = let left =
+    through.set_left goes in step_refused _ _ refusal _ left.left.replied
 through_refused honest (OnSet Scrub) refusal old new goes through = let left = through.set_left goes in scrub_refused _ refusal _ _ _ left.left.replied
 through_refused honest (OnVolumes command) refusal old new goes through = elim through.listed [
   | inl own ↦ own
@@ -88,7 +93,8 @@ own_uncut (OnSet Scrub) refusal own is = cc
 
 -- ---- over a store that was opened on a bank
 
-module _ (honest then : Type 0) (so : honest → then) (id : List ℕ) (bank : BankView) (first last : StoreView) (opened : IsOpened honest id bank first) (event : Event)
+module _ (honest then : Type 0) (so : honest → then) (id : List ℕ) (bank : BankView) (first last : StoreView) (opened : IsOpened honest id bank first)
+    (event : Event)
     (answered : Reply) (applies : Applies then event first last answered) where
   pub applied_on : (reply : Reply) (rows : ℕ) (IsWritten : List ℕ → Type 0) → reply ≡ answered → ((refusal : Refusal) → reply ≢ Refused refusal)
       → rows ≡ row_count last.array.table → IsWritten (event_text rows reply) → AppliesOn honest id event bank IsWritten
@@ -106,7 +112,13 @@ module _ (honest then : Type 0) (so : honest → then) (id : List ℕ) (bank : B
   refuses refusal is = subst (λ (r : Reply). Applies then event first last r) is applies
 
   pub refused_on : (refusal : Refusal) → answered ≡ Refused refusal → RefusesOn honest id event bank refusal
-  refused_on refusal is = record { first = first; last = last; opened = opened; comes = applies_for then honest event first last (Refused refusal) so (refuses refusal is) }
+  refused_on refusal is = record {
+    first = first;
+    last = last;
+    opened = opened;
+    comes =
+        applies_for then honest event first last (Refused refusal) so (refuses refusal is);
+  }
 
   pub event_end : (refusal : Refusal) → answered ≡ Refused refusal → IsEventEnd event refusal
   event_end refusal is = elim (event_refused then event refusal first last (opened.opens.going first refl) (refuses refusal is)) [
@@ -126,7 +138,8 @@ goes_on : (reply : Reply) → ((refusal : Refusal) → reply ≢ Refused refusal
 goes_on (Refused refusal) done = λ ends. done refusal refl
 goes_on reply done = λ ends. ends
 
-replied : (honest : Type 0) (id : List ℕ) (command : SetCommand) (bank : BankView) (IsWritten : List ℕ → Type 0) (does : AppliesOn honest id (OnSet command) bank IsWritten)
+replied : (honest : Type 0) (id : List ℕ) (command : SetCommand) (bank : BankView) (IsWritten : List ℕ → Type 0)
+    (does : AppliesOn honest id (OnSet command) bank IsWritten)
     → (devices : Devices) × (does.reply ≡ set_reply devices command (set_of does.first.array.table))
 replied honest id command bank IsWritten does =
     let left = (does.applies.going (does.opened.opens.going does.first refl)).set_left (goes_on does.reply does.done) in
@@ -144,7 +157,8 @@ replace_done true unusable reply is done = absurd (done NotMissing is)
 replace_done false true reply is done = absurd (done NotUsable is)
 replace_done false false reply is done = is
 
-scrub_done : (partial : Bool) (reply : Reply) (rows bad : ℕ) (first : Option ℕ) → reply ≡ or_refused (first_refusal ((partial, Incomplete) ∷ [])) (Scrubbed rows bad first)
+scrub_done : (partial : Bool) (reply : Reply) (rows bad : ℕ) (first : Option ℕ)
+    → reply ≡ or_refused (first_refusal ((partial, Incomplete) ∷ [])) (Scrubbed rows bad first)
     → ((refusal : Refusal) → reply ≢ Refused refusal) → reply ≡ Scrubbed rows bad first
 scrub_done true reply rows bad first is done = absurd (done Incomplete is)
 scrub_done false reply rows bad first is done = is
@@ -158,15 +172,28 @@ module _ (honest : Type 0) (id : List ℕ) (bank : BankView) (IsWritten : List �
   pub failed_by : (slot : ℕ) → AppliesOn honest id (OnSet (Fail slot)) bank IsWritten → FailsOn honest id slot bank (Ok tt) × IsWritten (reply_text Done)
   failed_by slot does =
       let is : does.reply ≡ Done = fail_done _ _ does.reply (replied honest id (Fail slot) bank IsWritten does).1 does.done in (
-        record { first = does.first; last = does.last; opened = does.opened; comes = subst (λ (r : Reply). Applies honest (OnSet (Fail slot)) does.first does.last r) is does.applies },
+        record {
+          first = does.first;
+          last = does.last;
+          opened = does.opened;
+          comes =
+              subst (λ (r : Reply). Applies honest (OnSet (Fail slot)) does.first does.last r) is does.applies;
+        },
         subst (λ (r : Reply). IsWritten (event_text (row_count does.last.array.table) r)) is does.written,
       )
 
   -- a slot was given a device
-  pub replaced_by : (slot : ℕ) → AppliesOn honest id (OnSet (Replace slot)) bank IsWritten → ReplacesOn honest id slot bank (Ok tt) × IsWritten (reply_text Done)
+  pub replaced_by : (slot : ℕ) → AppliesOn honest id (OnSet (Replace slot)) bank IsWritten → ReplacesOn honest id slot bank (Ok tt)
+      × IsWritten (reply_text Done)
   replaced_by slot does =
       let is : does.reply ≡ Done = replace_done _ _ does.reply (replied honest id (Replace slot) bank IsWritten does).1 does.done in (
-        record { first = does.first; last = does.last; opened = does.opened; comes = subst (λ (r : Reply). Applies honest (OnSet (Replace slot)) does.first does.last r) is does.applies },
+        record {
+          first = does.first;
+          last = does.last;
+          opened = does.opened;
+          comes =
+              subst (λ (r : Reply). Applies honest (OnSet (Replace slot)) does.first does.last r) is does.applies;
+        },
         subst (λ (r : Reply). IsWritten (event_text (row_count does.last.array.table) r)) is does.written,
       )
 
@@ -190,7 +217,13 @@ module _ (honest : Type 0) (id : List ℕ) (bank : BankView) (IsWritten : List �
   pub upgraded_by : AppliesOn honest id (OnVolumes Upgrade) bank IsWritten → UpgradesOn honest id bank (Ok tt) × IsWritten (reply_text Done)
   upgraded_by does =
       let is : does.reply ≡ Done = upgrade_done does.reply (does.applies.going (does.opened.opens.going does.first refl)).listed does.done in (
-        record { first = does.first; last = does.last; opened = does.opened; comes = subst (λ (r : Reply). Applies honest (OnVolumes Upgrade) does.first does.last r) is does.applies },
+        record {
+          first = does.first;
+          last = does.last;
+          opened = does.opened;
+          comes =
+              subst (λ (r : Reply). Applies honest (OnVolumes Upgrade) does.first does.last r) is does.applies;
+        },
         subst (λ (r : Reply). IsWritten (event_text (row_count does.last.array.table) r)) is does.written,
       )
 

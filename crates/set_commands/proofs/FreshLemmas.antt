@@ -1,5 +1,6 @@
 -- A set that was just made in memory, and a script over it.
-use Rattle.std.proofs.Common.{◌≡◌, ◌≢◌, ◌⊎◌, inl, inr, ℕ, ◌+◌, ◌≤◌, List, [], ◌∷◌, length, map, replicate, Option, Some, None, Result, Ok, Err, is_none, refl, sym, ap, subst, subst₂, ◌∙◌, arith}
+use Rattle.std.proofs.Common.{◌≡◌, ◌≢◌, ◌⊎◌, inl, inr, ℕ, ◌+◌, ◌≤◌, List, [], ◌∷◌, length, map, replicate, Option, Some, None, Result, Ok, Err, is_none, refl}
+use Rattle.std.proofs.Common.{sym, ap, subst, subst₂, ◌∙◌, arith}
 use Rattle.std.specs.Prelude.{IfErr, OnOk, cond, is_ok}
 use Rattle.std.proofs.Props.{props}
 use Rattle.std.proofs.Math.Logic.{∥∥₁_elim, ∥∥₁_map}
@@ -60,7 +61,8 @@ quiet_beyond id panel history slots began five = subst (λ (h : History). IsQuie
 }
 
 -- what stands in five slots, by their devices
-pub fresh_slots : (a b c d e : Disk) (slots : List (Option Disk)) → slots ≡ Some a ∷ Some b ∷ Some c ∷ Some d ∷ Some e ∷ [] → a.items ≡ zeros 264 → b.items ≡ zeros 264 → c.items ≡ zeros 264
+pub fresh_slots : (a b c d e : Disk) (slots : List (Option Disk)) → slots ≡ Some a ∷ Some b ∷ Some c ∷ Some d ∷ Some e ∷ [] → a.items ≡ zeros 264
+    → b.items ≡ zeros 264 → c.items ≡ zeros 264
     → d.items ≡ zeros 520 → e.items ≡ zeros 520 → map sectors_in slots ≡ fresh_devices
 fresh_slots a b c d e slots is first second third fourth fifth =
     ap (map sectors_in) is
@@ -72,7 +74,8 @@ fresh_slots a b c d e slots is first second third fourth fifth =
 
 -- ---- the set is made
 
-pub made_fresh : (id : List ℕ) (geometry : Geometry) (bank : BankView) (array : ArrayView) → id ≡ fresh_id → geometry.members ≡ 3 → geometry.chunk ≡ 8 → geometry.stripes ≡ 32
+pub made_fresh : (id : List ℕ) (geometry : Geometry) (bank : BankView) (array : ArrayView) → id ≡ fresh_id → geometry.members ≡ 3 → geometry.chunk ≡ 8
+    → geometry.stripes ≡ 32
     → IsQuietBeyond id 5 bank → Makes (Unit {0}) id geometry bank (recovery.Opened array) → IsMadeFresh array
 made_fresh id geometry bank array is_id members chunk stripes quiet makes = record {
   of_id = (makes.first array refl).of_id ∙ is_id;
@@ -90,7 +93,8 @@ made_fresh id geometry bank array is_id members chunk stripes quiet makes = reco
     five members is = omega (arith, is)
 
 -- the bank has enough slots, so that it is refused for two reasons alone
-make_refused_for : (geometry : Geometry) (panel : Panel) (refusal : Refusal) → geometry.members ≡ 3 → panel.devices ≡ 5 → IsNoMake geometry panel refusal → IsFreshRefusal refusal
+make_refused_for : (geometry : Geometry) (panel : Panel) (refusal : Refusal) → geometry.members ≡ 3 → panel.devices ≡ 5 → IsNoMake geometry panel refusal
+    → IsFreshRefusal refusal
 make_refused_for geometry panel BadGeometry members five why = absurd (omega (arith, members, five, why))
 make_refused_for geometry panel NotUsable members five why = inr (inl refl)
 make_refused_for geometry panel Worn members five why = inr (inr tt)
@@ -113,7 +117,8 @@ opened_fresh array store fresh opens = ∥∥₁_map (fresh_set_shows_none array
   where
     by_shown : Shows (extents_in array.table.geometry) (zeros_of array.table.geometry) no_volumes → HasNoVolumes store
     by_shown shows =
-        let after : IsSettledAfter None store no_volumes = opens.settled tt None (zeros_of array.table.geometry) no_volumes fresh.rests shows store refl in record {
+        let after : IsSettledAfter None store no_volumes =
+        opens.settled tt None (zeros_of array.table.geometry) no_volumes fresh.rests shows store refl in record {
           of_id = (opens.goes_on store refl).not_older.same_id ∙ fresh.of_id;
           lost = after.lost;
           settled = after.settled;
@@ -122,28 +127,34 @@ opened_fresh array store fresh opens = ∥∥₁_map (fresh_set_shows_none array
         }
 
 -- its zeros are a table, of no volume
-open_refused_for : (array : ArrayView) (bank : BankView) (refusal : Refusal) → IsMadeFresh array → IsNoOpening (Unit {0}) array bank refusal → IsFreshRefusal refusal
+open_refused_for : (array : ArrayView) (bank : BankView) (refusal : Refusal) → IsMadeFresh array → IsNoOpening (Unit {0}) array bank refusal
+    → IsFreshRefusal refusal
 open_refused_for array bank BadTable fresh why =
-    absurd (∥∥₁_elim (fresh_set_shows_none array.table.geometry) (hlevel props) (λ shows. why.0 tt None (zeros_of array.table.geometry) no_volumes fresh.rests shows))
+    absurd (∥∥₁_elim (fresh_set_shows_none array.table.geometry) (hlevel props)
+    (λ shows. why.0 tt None (zeros_of array.table.geometry) no_volumes fresh.rests shows))
 open_refused_for array bank TwoLost fresh why = inr (inr tt)
 open_refused_for array bank Worn fresh why = inr (inr tt)
 open_refused_for array bank refusal fresh why = absurd why
 
-pub open_refused : (array : ArrayView) (bank : BankView) (refusal : Refusal) → IsMadeFresh array → Opens (Unit {0}) array (Returned bank refusal) → IsFreshRefusal refusal
+pub open_refused : (array : ArrayView) (bank : BankView) (refusal : Refusal) → IsMadeFresh array → Opens (Unit {0}) array (Returned bank refusal)
+    → IsFreshRefusal refusal
 open_refused array bank refusal fresh opens = open_refused_for array bank refusal fresh (opens.cause bank refusal refl)
 
 -- ---- a script over it
 
-pub runs_fresh : (script : List ℕ) (first last : StoreView) (was is : Streams) → was.remaining ≡ Some script → HasRun (Unit {0}) first last was is → ∥ HasNoVolumes first ∥₁
+pub runs_fresh : (script : List ℕ) (first last : StoreView) (was is : Streams) → was.remaining ≡ Some script → HasRun (Unit {0}) first last was is
+    → ∥ HasNoVolumes first ∥₁
     → ∥ RunsFresh script was.contents is.contents ∥₁
 runs_fresh script first last was is told ran none = ∥∥₁_map none by_none
   where
     by_none : HasNoVolumes first → RunsFresh script was.contents is.contents
     by_none none =
-        let ends : EndsSettled ran.lines ran.replies first last no_volumes = (script_keeps_volumes ran.lines ran.replies first last ran.serves none.lost no_volumes none.settled).1 in record {
+        let ends : EndsSettled ran.lines ran.replies first last no_volumes =
+        (script_keeps_volumes ran.lines ran.replies first last ran.serves none.lost no_volumes none.settled).1 in record {
           replies = ran.replies;
           after = ends.after;
-          runs = subst₂ (λ (extents : ℕ) (lines : List (List ℕ)). Runs extents lines no_volumes ran.replies ends.after) none.extents (sym (ran.read script told).all) ends.runs;
+          runs = subst₂ (λ (extents : ℕ) (lines : List (List ℕ)). Runs extents lines no_volumes ran.replies ends.after) none.extents
+              (sym (ran.read script told).all) ends.runs;
           written = ran.written;
         }
 
@@ -199,7 +210,8 @@ early_is_memory refusal (inr (inl fault)) early = absurd (not_read_fault (subst 
 early_is_memory refusal (inr (inr (inl fault))) early = absurd (not_write_fault (subst IsBefore fault early))
 early_is_memory refusal (inr (inr (inr ends))) early = absurd (not_an_end refusal early ends)
 
-pub unchanged_if_early : (result : Result (Unit {0}) Refusal) (Same : Type 0) → IfErr result IsScriptRefusal → (result ≡ Err Memory → Same) → IfErr result (λ refusal. IsBefore refusal → Same)
+pub unchanged_if_early : (result : Result (Unit {0}) Refusal) (Same : Type 0) → IfErr result IsScriptRefusal → (result ≡ Err Memory → Same)
+    → IfErr result (λ refusal. IsBefore refusal → Same)
 unchanged_if_early (Ok done) Same err same = tt
 unchanged_if_early (Err refusal) Same err same = λ early. same (ap (λ (r : Refusal). Err r) (early_is_memory refusal err early))
 

@@ -1,5 +1,6 @@
 -- What inspecting sets tells, one by one.
-use Rattle.std.proofs.Common.{◌≡◌, ◌≢◌, inl, inr, refl, sym, ◌∙◌, ap, subst, arith, ℕ, zero, suc, ◌+◌, ◌-◌, Bool, true, false, ◌||◌, List, [], ◌∷◌, ◌++◌, Option, Some, None, Ok}
+use Rattle.std.proofs.Common.{◌≡◌, ◌≢◌, inl, inr, refl, sym, ◌∙◌, ap, subst, arith, ℕ, zero, suc, ◌+◌, ◌-◌, Bool, true, false, ◌||◌, List, [], ◌∷◌, ◌++◌}
+use Rattle.std.proofs.Common.{Option, Some, None, Ok}
 use Rattle.std.proofs.lemmas.List.{append_assoc, append-nil}
 use Rattle.serde_json.specs.Data.{Data}
 use Rattle.serde_json.specs.View.{items_of}
@@ -36,7 +37,8 @@ module _ (honest still : Type 0) (goes_on : honest → still) where
     last = lasts_by honest still goes_on new examined.table examined.last is.last;
   }
 
-  pub examines_still : (id : List ℕ) (old new : BankView) (answer : Result (Option Examined) Refusal) → Examines still id old new answer → Examines honest id old new answer
+  pub examines_still : (id : List ℕ) (old new : BankView) (answer : Result (Option Examined) Refusal) → Examines still id old new answer
+      → Examines honest id old new answer
   examines_still id old new answer is = record {
     later = is.later;
     reads = λ fair. is.reads (goes_on fair);
@@ -56,7 +58,8 @@ module _ (honest still : Type 0) (goes_on : honest → still) where
     cause = is.cause;
   }
 
-  pub at_still : (id : List ℕ) (json : Bool) (old new : BankView) (text : List ℕ) → InspectsOne still id json old new text → InspectsOne honest id json old new text
+  pub at_still : (id : List ℕ) (json : Bool) (old new : BankView) (text : List ℕ) → InspectsOne still id json old new text
+      → InspectsOne honest id json old new text
   at_still id json old new text is = record { found = is.found; examines = examines_still id old new (Ok is.found) is.examines; told = is.told }
 
   pub above_still : (json : Bool) (most : ℕ) (above : Option (List ℕ)) (old new : BankView) (text : List ℕ) → InspectsAbove still json most above old new text
@@ -121,7 +124,8 @@ module _ (honest : Type 0) (json : Bool) where
   none_above (suc most) above old new some finds = inl (finds, refl)
 
   pub one_more : (most less : ℕ) (above : Option (List ℕ)) (id : List ℕ) (old found seen new : BankView) (first rest : List ℕ) → most ≢ 0 → less ≡ most - 1
-      → FindsIdAbove honest above old found (Ok (Some id)) → InspectsOne honest id json found seen first → InspectsAbove honest json less (Some id) seen new rest
+      → FindsIdAbove honest above old found (Ok (Some id)) → InspectsOne honest id json found seen first
+      → InspectsAbove honest json less (Some id) seen new rest
       → InspectsAbove honest json most above old new (first ++ rest)
   one_more zero less above id old found seen new first rest some is finds inspections goes_on = absurd (some refl)
   one_more (suc most) less above id old found seen new first rest some is finds inspections goes_on = inr (record {
@@ -148,7 +152,8 @@ module _ (honest : Type 0) where
   health_none_above zero above old new was some finds = absurd (some refl)
   health_none_above (suc most) above old new was some finds = inl (finds, refl)
 
-  pub health_one_more : (most less : ℕ) (above : Option (List ℕ)) (id : List ℕ) (old found seen new : BankView) (was mid is : Health) → most ≢ 0 → less ≡ most - 1
+  pub health_one_more : (most less : ℕ) (above : Option (List ℕ)) (id : List ℕ) (old found seen new : BankView) (was mid is : Health) → most ≢ 0
+      → less ≡ most - 1
       → FindsIdAbove honest above old found (Ok (Some id)) → HealthAt honest id found seen was mid → HealthAbove honest less (Some id) seen new mid is
       → HealthAbove honest most above old new was is
   health_one_more zero less above id old found seen new was mid is some fewer finds inspections goes_on = absurd (some refl)
@@ -175,7 +180,8 @@ inspection_slot_no_float examined slot =
 inspection_slots_no_float : (examined : Examined) (slots : ℕ) → items_have_float (items_of (inspection_slots_json examined slots)) ≡ false
 inspection_slots_no_float examined zero = refl
 inspection_slots_no_float examined (suc slot) =
-    items_no_float (inspection_slots_json examined slot) (inspection_slot_json examined slot) (inspection_slots_no_float examined slot) (inspection_slot_no_float examined slot)
+    items_no_float (inspection_slots_json examined slot) (inspection_slot_json examined slot) (inspection_slots_no_float examined slot)
+    (inspection_slot_no_float examined slot)
 
 inspection_no_float : (status : Status) (examined : Examined) → has_float (inspection_json status examined) ≡ false
 inspection_no_float status examined = ap (λ (b : Bool). b || false) (inspection_slots_no_float examined (examined.table.geometry.members + 2))
@@ -186,7 +192,8 @@ pub json_inspection : (examined : Examined) (json : Bool) (value : Data) (text :
     → IsInspectionText json examined (text ++ 10 ∷ [])
 json_inspection examined json value text is same written status its =
     let value_is = same status its in
-    let whole : text ≡ compact_text (inspection_json status examined) = written (ap has_float value_is ∙ inspection_no_float status examined) ∙ ap compact_text value_is in
+    let whole : text ≡ compact_text (inspection_json status examined) = written (ap has_float value_is ∙ inspection_no_float status examined)
+    ∙ ap compact_text value_is in
     ap (λ (t : List ℕ). t ++ 10 ∷ []) whole ∙ ap (λ (b : Bool). inspection_told b status examined) (sym is)
 
 -- lines

@@ -47,19 +47,22 @@ read_refused honest name at count kept places old new refusal is as_many applies
 ]
 
 -- a write of the blocks that are kept is answered as one of all blocks is
-pub write_answered : (honest : Type 0) (name : List ℕ) (at : ℕ) (blocks kept : List Block) (old new : StoreView) (answer : Answer) → kept ≡ take KEPT_BLOCKS blocks
+pub write_answered : (honest : Type 0) (name : List ℕ) (at : ℕ) (blocks kept : List Block) (old new : StoreView) (answer : Answer)
+    → kept ≡ take KEPT_BLOCKS blocks
     → OnOk answer (length kept ≤ MOST_BLOCKS_AT_ONCE) → Applies honest (OnVolumes (Write name at kept)) old new (done_reply answer)
     → Applies honest (OnVolumes (Write name at blocks)) old new (done_reply answer)
 write_answered honest name at blocks kept old new (Ok done) is few applies =
     let short : length blocks ≤ KEPT_BLOCKS = omega (arith, ap length is, length-take KEPT_BLOCKS blocks, few) in
     subst (λ (those : List Block). Applies honest (OnVolumes (Write name at those)) old new Done) (is ∙ take_all KEPT_BLOCKS blocks short) applies
 write_answered honest name at blocks kept old new (Err refusal) is few applies = elim (small_or_many (length blocks)) [
-  | inl small ↦ subst (λ (those : List Block). Applies honest (OnVolumes (Write name at those)) old new (Refused refusal)) (is ∙ take_all KEPT_BLOCKS blocks (omega (arith, small))) applies
+  | inl small ↦ subst (λ (those : List Block). Applies honest (OnVolumes (Write name at those)) old new (Refused refusal))
+      (is ∙ take_all KEPT_BLOCKS blocks (omega (arith, small))) applies
   | inr many ↦ writes_too_many honest name at blocks kept old new refusal many (omega (arith, ap length is, length-take KEPT_BLOCKS blocks, many)) applies
 ]
 
 -- a line that says a command is answered as the store answers that
-pub command_answered : (honest : Type 0) (line : List ℕ) (command : Command) (old new : StoreView) (reply : Reply) → length line ≤ LONGEST_LINE → Says line command
+pub command_answered : (honest : Type 0) (line : List ℕ) (command : Command) (old new : StoreView) (reply : Reply) → length line ≤ LONGEST_LINE
+    → Says line command
     → Applies honest (OnVolumes command) old new reply → Answers honest line old new reply
 command_answered honest line command old new reply short says applies = inl (command, record { short = short; says = says; applies = applies })
 
@@ -106,7 +109,8 @@ write_of name at blocks (Write n a all) is =
 
 -- a line that is a write is answered as the store answers the write of the blocks that are kept
 pub write_line_answered : (honest : Type 0) (line name : List ℕ) (at : ℕ) (blocks : List Block) (command : Command) (old new : StoreView) (answer : Answer)
-    → length line ≤ LONGEST_LINE → Says line command → OnVolumes (Write name at blocks) ≡ OnVolumes (kept command) → OnOk answer (length blocks ≤ MOST_BLOCKS_AT_ONCE)
+    → length line ≤ LONGEST_LINE → Says line command → OnVolumes (Write name at blocks) ≡ OnVolumes (kept command)
+    → OnOk answer (length blocks ≤ MOST_BLOCKS_AT_ONCE)
     → Applies honest (OnVolumes (Write name at blocks)) old new (done_reply answer) → Answers honest line old new (done_reply answer)
 write_line_answered honest line name at blocks command old new answer short says is few applies =
     let of = write_of name at blocks command is in
@@ -118,14 +122,16 @@ write_line_answered honest line name at blocks command old new answer short says
 pub line_done : (honest : Type 0) (line : List ℕ) (old new : StoreView) (was is : Option (List ℕ)) (outcome : Outcome) (buffer : List Block) (result : Answer)
     → OnOk result ((held : List Block) → ¬ EndsStore (reply_in outcome held)) → Answers honest line old new (reply_in outcome buffer)
     → Appends was is (reply_text (reply_in outcome buffer)) → OnOk result (LineIsDone honest line old new was is)
-line_done honest line old new was is outcome buffer (Ok done) goes answers written = record { reply = reply_in outcome buffer; answers = answers; goes = goes buffer; written = written }
+line_done honest line old new was is outcome buffer (Ok done) goes answers written =
+    record { reply = reply_in outcome buffer; answers = answers; goes = goes buffer; written = written }
 line_done honest line old new was is outcome buffer (Err refusal) goes answers written = tt
 
 -- one that ended it
 pub line_last : (honest : Type 0) (line : List ℕ) (old new : StoreView) (was is : Option (List ℕ)) (outcome : Outcome) (buffer : List Block) (result : Answer)
     → IfErr result (λ refusal. EndsIt refusal × ((held : List Block) → reply_in outcome held ≡ Refused refusal))
     → Answers honest line old new (reply_in outcome buffer)
-    → Appends was is (reply_text (reply_in outcome buffer)) → (refusal : Refusal) → result ≡ Err refusal → EndsIt refusal → LineIsLast honest line old new refusal was is
+    → Appends was is (reply_text (reply_in outcome buffer)) → (refusal : Refusal) → result ≡ Err refusal → EndsIt refusal
+    → LineIsLast honest line old new refusal was is
 line_last honest line old new was is outcome buffer result ended answers written refusal err ends =
     let of : EndsIt refusal × ((held : List Block) → reply_in outcome held ≡ Refused refusal) =
     subst (λ (r : Answer). IfErr r (λ refusal. EndsIt refusal × ((held : List Block) → reply_in outcome held ≡ Refused refusal))) err ended in

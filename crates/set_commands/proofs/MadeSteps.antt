@@ -1,5 +1,6 @@
 -- What steps of a rebuild come to, one after another.
-use Rattle.std.proofs.Common.{◌≡◌, ◌≢◌, ◌⊎◌, inl, inr, ℕ, ◌+◌, ◌*◌, ◌<◌, ◌≤◌, max, Bool, true, false, cond, not, ◌==◌, [], ◌∷◌, Option, Some, None, Result, Ok, Err, refl, sym, ap, subst, ◌∙◌, arith}
+use Rattle.std.proofs.Common.{◌≡◌, ◌≢◌, ◌⊎◌, inl, inr, ℕ, ◌+◌, ◌*◌, ◌<◌, ◌≤◌, max, Bool, true, false, cond, not, ◌==◌, [], ◌∷◌, Option, Some, None, Result, Ok}
+use Rattle.std.proofs.Common.{Err, refl, sym, ap, subst, ◌∙◌, arith}
 use Rattle.std.specs.Prelude.{unwrap_or}
 use Rattle.std.proofs.lemmas.Bool.{cases_lt, eqb-false}
 use Rattle.sector_model.specs.declared.refusal.Refusal.{Refusal}
@@ -67,7 +68,8 @@ pub record IsStepOn (position : ℕ) (old new : StoreView) : Type 0 where
 
 -- what a step answers, by whether a member is rebuilding still, and whether the last row is reached
 answer_by_case : (rebuilding last : Bool) (position there : ℕ)
-    → Progressed (Position position) ≡ or_refused (first_refusal ((not rebuilding, NothingToRebuild) ∷ [])) (cond last (Progressed Complete) (Progressed (Position there)))
+    → Progressed (Position position) ≡ or_refused (first_refusal ((not rebuilding, NothingToRebuild) ∷ []))
+    (cond last (Progressed Complete) (Progressed (Position there)))
     → (rebuilding ≡ true) × (last ≡ false) × (position ≡ there)
 answer_by_case false last position there is = absurd (cc)
 answer_by_case true true position there is = absurd (cc)
@@ -81,8 +83,10 @@ left_position devices was rebuilding last is_rebuilding is_last still more =
     let there = stepped devices.rows 64 was.position in
     let states = with_faults devices.faults was.states in
     let goes_on : set_after devices (OnSet (RebuildStep 64)) was ≡ settled devices (record { states = was.states; position = there }) =
-    ap (λ (b : Bool). settled devices (set_or_same (cond (not b) (Some NothingToRebuild) None) (changed_set devices.rows (RebuildStep 64) was) was)) (is_rebuilding ∙ still)
-    ∙ ap (λ (b : Bool). settled devices (cond b (record { states = rebuilt was.states; position = 0 }) (record { states = was.states; position = there }))) (is_last ∙ more) in
+    ap (λ (b : Bool). settled devices (set_or_same (cond (not b) (Some NothingToRebuild) None) (changed_set devices.rows (RebuildStep 64) was) was))
+    (is_rebuilding ∙ still)
+    ∙ ap (λ (b : Bool). settled devices (cond b (record { states = rebuilt was.states; position = 0 }) (record { states = was.states; position = there })))
+    (is_last ∙ more) in
     ap (λ (set : SetState). set.position) goes_on ∙ ap (λ (b : Bool). cond b there 0) (is_rebuilding ∙ still)
 
 -- a step of 64 rows that does not reach the last one
@@ -93,7 +97,8 @@ not_reached rows there was within is apart = by_order (cases_lt (was + 64) rows)
     by_order (inl more) = (omega (arith, is, more), omega (arith, is, more))
     by_order (inr near) = absurd (apart (omega (arith, within, is, near)))
 
-step_through : (honest : Type 0) (position : ℕ) (old new : StoreView) → GoesThrough honest (OnSet (RebuildStep 64)) old new (Progressed (Position position)) → IsStepOn position old new
+step_through : (honest : Type 0) (position : ℕ) (old new : StoreView) → GoesThrough honest (OnSet (RebuildStep 64)) old new (Progressed (Position position))
+    → IsStepOn position old new
 step_through honest position old new through =
     let left = through.set_left (λ ends. ends) in
     let devices = left.devices in
@@ -103,7 +108,8 @@ step_through honest position old new through =
     let case = answer_by_case (has_rebuilding states) (there == devices.rows) position there left.left.replied in
     let apart : there ≢ devices.rows = eqb-false there devices.rows case.1 in
     let before : old.array.table.position ≤ devices.rows = omega (arith, position_within old.array.table, left.are.rows) in
-    let after : new.array.table.position ≡ there = ap (λ (set : SetState). set.position) left.left.leaves ∙ left_position devices was _ _ refl refl case.0 case.1 in
+    let after : new.array.table.position ≡ there = ap (λ (set : SetState). set.position) left.left.leaves
+    ∙ left_position devices was _ _ refl refl case.0 case.1 in
     let geometry : new.array.table.geometry ≡ old.array.table.geometry = through.goes_on.not_older.same_geometry in
     let is : position ≡ there = case.2 in
     let rows : devices.rows ≡ row_count old.array.table = left.are.rows in
@@ -121,7 +127,8 @@ one_on honest position old new rebuilds = by_end old.ended refl
   where
     by_end : (ended : Option Refusal) → old.ended ≡ ended → IsStepOn position old new
     by_end None going = step_through honest position old new (rebuilds.going going)
-    by_end (Some refusal) ended = let never : Progressed (Position position) ≡ Refused refusal = (rebuilds.ended refusal ended).refused refusal ended in absurd (cc)
+    by_end (Some refusal) ended = let never : Progressed (Position position) ≡ Refused refusal =
+        (rebuilds.ended refusal ended).refused refusal ended in absurd (cc)
 
 -- ---- steps
 
@@ -138,7 +145,8 @@ steps_on honest made old new (then_made before position mid more steps rebuilds)
     record { far = omega (arith, more, those.far, step.there, step.further); rows = step.rows ∙ those.rows }
 
 -- where one more is answered with a position, fewer than the rows were made before
-pub fewer_than_rows : (honest : Type 0) (before position : ℕ) (old mid new : StoreView) → AreStepsOn before old mid → RebuildsRows honest 64 mid new (Ok (Position position))
+pub fewer_than_rows : (honest : Type 0) (before position : ℕ) (old mid new : StoreView) → AreStepsOn before old mid
+    → RebuildsRows honest 64 mid new (Ok (Position position))
     → before + 1 < row_count old.array.table
 fewer_than_rows honest before position old mid new those rebuilds =
     let step = one_on honest position mid new rebuilds in
@@ -152,12 +160,14 @@ open_after honest made old new going (then_made before position mid more steps r
 
 -- what a step can be refused with
 step_refused : (rebuilding last : Bool) (refusal : Refusal) (there : ℕ)
-    → Refused refusal ≡ or_refused (first_refusal ((not rebuilding, NothingToRebuild) ∷ [])) (cond last (Progressed Complete) (Progressed (Position there))) → refusal ≡ NothingToRebuild
+    → Refused refusal ≡ or_refused (first_refusal ((not rebuilding, NothingToRebuild) ∷ [])) (cond last (Progressed Complete) (Progressed (Position there)))
+    → refusal ≡ NothingToRebuild
 step_refused false last refusal there is = cc
 step_refused true true refusal there is = absurd (cc)
 step_refused true false refusal there is = absurd (cc)
 
-through_refused : (honest : Type 0) (refusal : Refusal) (old new : StoreView) → ¬ EndsIt refusal → GoesThrough honest (OnSet (RebuildStep 64)) old new (Refused refusal)
+through_refused : (honest : Type 0) (refusal : Refusal) (old new : StoreView) → ¬ EndsIt refusal
+    → GoesThrough honest (OnSet (RebuildStep 64)) old new (Refused refusal)
     → refusal ≡ NothingToRebuild
 through_refused honest refusal old new goes through = let left = through.set_left goes in step_refused _ _ refusal _ left.left.replied
 
@@ -167,7 +177,8 @@ one_refused honest TwoLost old new going rebuilds = inl tt
 one_refused honest Worn old new going rebuilds = inl tt
 one_refused honest refusal old new going rebuilds = inr (through_refused honest refusal old new (λ ends. ends) (rebuilds.going going))
 
-pub rebuild_refused : (honest : Type 0) (steps : Option ℕ) (refusal : Refusal) (old new : StoreView) → old.ended ≡ None → Rebuilds honest steps old new (Err refusal)
+pub rebuild_refused : (honest : Type 0) (steps : Option ℕ) (refusal : Refusal) (old new : StoreView) → old.ended ≡ None
+    → Rebuilds honest steps old new (Err refusal)
     → EndsIt refusal ⊎ (refusal ≡ NothingToRebuild)
 rebuild_refused honest steps refusal old new going rebuilds =
     one_refused honest refusal rebuilds.mid new (open_after honest rebuilds.before old rebuilds.mid going rebuilds.steps_before) rebuilds.last
@@ -175,7 +186,8 @@ rebuild_refused honest steps refusal old new going rebuilds =
 -- ---- how a rebuild ends
 
 -- at a step before the last one
-pub ends_early : (honest other : Type 0) (steps : Option ℕ) (rows most before : ℕ) (old mid new : StoreView) (answer : Result Progress Refusal) → most ≡ unwrap_or steps rows
+pub ends_early : (honest other : Type 0) (steps : Option ℕ) (rows most before : ℕ) (old mid new : StoreView) (answer : Result Progress Refusal)
+    → most ≡ unwrap_or steps rows
     → (other → honest) → before + 1 < most → Steps other before old mid → RebuildsRows honest 64 mid new answer
     → ((position : ℕ) → answer ≢ Ok (Position position)) → Rebuilds other steps old new answer
 ends_early honest other steps rows most before old mid new answer is so more those rebuilds ends = record {
@@ -188,8 +200,10 @@ ends_early honest other steps rows most before old mid new answer is so more tho
 }
 
 -- at the last one
-pub ends_last : (honest other : Type 0) (steps : Option ℕ) (rows most before : ℕ) (old mid new : StoreView) (answer : Result Progress Refusal) → most ≡ unwrap_or steps rows
-    → rows ≡ row_count old.array.table → (other → honest) → before + 1 ≡ max most 1 → Steps other before old mid → RebuildsRows honest 64 mid new answer → Rebuilds other steps old new answer
+pub ends_last : (honest other : Type 0) (steps : Option ℕ) (rows most before : ℕ) (old mid new : StoreView) (answer : Result Progress Refusal)
+    → most ≡ unwrap_or steps rows
+    → rows ≡ row_count old.array.table → (other → honest) → before + 1 ≡ max most 1 → Steps other before old mid → RebuildsRows honest 64 mid new answer
+    → Rebuilds other steps old new answer
 ends_last honest other steps rows most before old mid new answer is all_rows so last those rebuilds = record {
   before = before;
   mid = mid;
@@ -199,11 +213,13 @@ ends_last honest other steps rows most before old mid new answer is all_rows so 
   all_made = λ position is_position. all_made position is_position steps refl;
 }
   where
-    all_made : (position : ℕ) → answer ≡ Ok (Position position) → (given : Option ℕ) → steps ≡ given → (number : ℕ) × (steps ≡ Some number) × (before + 1 ≡ max number 1)
+    all_made : (position : ℕ) → answer ≡ Ok (Position position) → (given : Option ℕ) → steps ≡ given → (number : ℕ) × (steps ≡ Some number)
+        × (before + 1 ≡ max number 1)
     all_made position is_position (Some number) given =
         (number, given, last ∙ ap (λ (n : ℕ). max n 1) (is ∙ ap (λ (o : Option ℕ). unwrap_or o rows) given))
     all_made position is_position None none =
-        let fewer = fewer_than_rows honest before position old mid new (steps_on other before old mid those) (subst (RebuildsRows honest 64 mid new) is_position rebuilds) in
+        let fewer = fewer_than_rows honest before position old mid new (steps_on other before old mid those)
+        (subst (RebuildsRows honest 64 mid new) is_position rebuilds) in
         absurd (omega (arith, fewer, last, all_rows, is ∙ ap (λ (o : Option ℕ). unwrap_or o rows) none))
 
 -- a refusal is no position

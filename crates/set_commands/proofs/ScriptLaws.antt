@@ -18,7 +18,8 @@ Keeps line old new reply lost volumes = (after : VolumeMap) × StandsInLine line
     × (¬ EndsStore reply → IsRightReply (extents_for_store old) line volumes reply × IsSettledAfter lost new after)
 
 -- a store at which nothing is done keeps its volumes, as one does that refuses a command at once
-idle : (store : StoreView) (lost : Option Lost) (volumes : VolumeMap) → IsSettledOn store lost volumes → GoesThrough (Unit {0}) (OnVolumes (Create [] 0)) store store (Refused BadName)
+idle : (store : StoreView) (lost : Option Lost) (volumes : VolumeMap) → IsSettledOn store lost volumes
+    → GoesThrough (Unit {0}) (OnVolumes (Create [] 0)) store store (Refused BadName)
 idle store lost volumes rests =
     (refused_at_once (Unit {0}) (Create [] 0) store BadName rests.going (0, omega arith, refl) (λ ends. ends) (λ sectors those shown. refl)).going rests.going
 
@@ -49,10 +50,12 @@ last_line_stands line old new reply (inl (command, done)) lost volumes rests = d
 last_line_stands line old new reply (inr refused) lost volumes rests = refused_line line old new reply refused lost volumes rests
 
 -- a set has as many extents after a line
-same_extents : (line : List ℕ) (old new : StoreView) (reply : Reply) → Answers (Unit {0}) line old new reply → (lost : Option Lost) (volumes : VolumeMap) → IsSettledOn old lost volumes
+same_extents : (line : List ℕ) (old new : StoreView) (reply : Reply) → Answers (Unit {0}) line old new reply → (lost : Option Lost) (volumes : VolumeMap)
+    → IsSettledOn old lost volumes
     → extents_for_store new ≡ extents_for_store old
 same_extents line old new reply (inl (command, done)) lost volumes rests =
-    let through : GoesThrough (Unit {0}) (OnVolumes command) old new reply = done.applies.going rests.going in ap extents_in through.goes_on.not_older.same_geometry
+    let through : GoesThrough (Unit {0}) (OnVolumes command) old new reply =
+    done.applies.going rests.going in ap extents_in through.goes_on.not_older.same_geometry
 same_extents line old new reply (inr refused) lost volumes rests = ap extents_for_store refused.same
 
 pub script_keeps_volumes : (lines : List (List ℕ)) (replies : List Reply) (old new : StoreView) → (serves : Serves (Unit {0}) lines replies old new)
@@ -89,7 +92,8 @@ skipped line lines [] bad are = (bad, are)
 skipped line lines (event ∷ events) bad are = inr (bad, are)
 
 -- a line is a step of a run, or none
-one_more : (line : List ℕ) (lines : List (List ℕ)) (old mid new : StoreView) (reply : Reply) → Answers (Unit {0}) line old mid reply → ¬ EndsStore reply → IsRunOf lines mid new
+one_more : (line : List ℕ) (lines : List (List ℕ)) (old mid new : StoreView) (reply : Reply) → Answers (Unit {0}) line old mid reply → ¬ EndsStore reply
+    → IsRunOf lines mid new
     → IsRunOf (line ∷ lines) old new
 one_more line lines old mid new reply (inl (command, done)) goes run = record {
   events = OnVolumes command ∷ run.events;

@@ -1,5 +1,6 @@
 -- A script is answered line by line.
-use Rattle.std.proofs.Common.{◌+◌, ◌≡◌, ◌⊎◌, inl, inr, ℕ, ◌<◌, ◌≤◌, List, [], ◌∷◌, ◌++◌, append_assoc, append-nil, length, take, refl, sym, ◌∙◌, ap, subst, arith, Option, Some, None, Bool, true, false, Result, Ok, Err}
+use Rattle.std.proofs.Common.{◌+◌, ◌≡◌, ◌⊎◌, inl, inr, ℕ, ◌<◌, ◌≤◌, List, [], ◌∷◌, ◌++◌, append_assoc, append-nil, length, take, refl, sym, ◌∙◌, ap, subst}
+use Rattle.std.proofs.Common.{arith, Option, Some, None, Bool, true, false, Result, Ok, Err}
 use Rattle.std.specs.Prelude.{IfSome}
 use Rattle.std.proofs.lemmas.List.{take_all, length-take}
 use Rattle.std.proofs.lemmas.Grind.{flat_map-append}
@@ -15,15 +16,18 @@ use Rattle.volume_table.specs.VolumeStep.{OnVolumes, Refused, Reply}
 use Rattle.report.specs.Grammar.{IsBadLine, Says}
 use Rattle.report.specs.Lines.{GivesLine, HasNoLine, StopsInLine}
 use Rattle.report.specs.Replies.{refusal_line, reply_text}
-use Rattle.set_commands.specs.Run.{AreAllOf, AreReadOf, AreReadWhole, HasAnswered, HasCome, HasRun, IsScriptRefusal, LineIsCut, LineIsDone, LineIsLast, StoppedByStore, StoppedReading, StoppedWriting, Streams, streams}
+use Rattle.set_commands.specs.Run.{AreAllOf, AreReadOf, AreReadWhole, HasAnswered, HasCome, HasRun, IsScriptRefusal, LineIsCut, LineIsDone, LineIsLast}
+use Rattle.set_commands.specs.Run.{StoppedByStore, StoppedReading, StoppedWriting, Streams, streams}
 use Rattle.report.specs.Script.{Answers, Serves, lines_of, none_read, texts_of, then_read}
 use Rattle.report.specs.declared.lines.TheConstants.{LONGEST_LINE}
 
 -- one line more
-serves_more : {honest : Type 0} {lines : List (List ℕ)} {replies : List Reply} {old mid new : StoreView} → Serves honest lines replies old mid → (line : List ℕ) (reply : Reply)
+serves_more : {honest : Type 0} {lines : List (List ℕ)} {replies : List Reply} {old mid new : StoreView} → Serves honest lines replies old mid
+    → (line : List ℕ) (reply : Reply)
     → Answers honest line mid new reply → ¬ EndsStore reply → Serves honest (lines ++ line ∷ []) (replies ++ reply ∷ []) old new
 serves_more none_read line reply answers goes = then_read _ line reply answers goes none_read
-serves_more (then_read next first told answered on rest) line reply answers goes = then_read next first told answered on (serves_more rest line reply answers goes)
+serves_more (then_read next first told answered on rest) line reply answers goes =
+    then_read next first told answered on (serves_more rest line reply answers goes)
 
 texts_more : (replies : List Reply) (reply : Reply) → texts_of (replies ++ reply ∷ []) ≡ texts_of replies ++ reply_text reply
 texts_more replies reply = flat_map-append reply_text replies (reply ∷ []) ∙ ap (λ (text : List ℕ). texts_of replies ++ text) (append-nil (reply_text reply))
@@ -46,7 +50,8 @@ whole_line honest line kept old new reply is (inl answered) =
     let short : length line ≤ LONGEST_LINE = omega (arith, ap length is, length-take (LONGEST_LINE + 1) line, answered.1.short) in
     let same : kept ≡ line = is ∙ take_all (LONGEST_LINE + 1) line (omega (arith, short)) in
     subst (λ (l : List ℕ). Answers honest l old new reply) same (inl answered)
-whole_line honest line kept old new reply is (inr refused) = inr record { bad = bad_whole line kept is refused.bad; answer = refused.answer; same = refused.same }
+whole_line honest line kept old new reply is (inr refused) =
+    inr record { bad = bad_whole line kept is refused.bad; answer = refused.answer; same = refused.same }
 
 -- A line was read. Of a reader that tells its bytes it is the next of the script, of which the first 65,536 bytes are kept; of another it is what is kept.
 pub record LineRead (remaining remaining' : Option (List ℕ)) (kept : List ℕ) : Type 0 where
@@ -54,7 +59,8 @@ pub record LineRead (remaining remaining' : Option (List ℕ)) (kept : List ℕ)
   pub kept_of : (kept ≡ take (LONGEST_LINE + 1) line) ⊎ (kept ≡ line)
   pub read : (script : List ℕ) → remaining ≡ Some script → (rest : List ℕ) × (lines_of script ≡ line ∷ lines_of rest) × (remaining' ≡ Some rest)
 
-pub line_read : (remaining remaining' : Option (List ℕ)) (kept : List ℕ) → IfSome remaining (λ script. GivesLine script remaining' kept) → LineRead remaining remaining' kept
+pub line_read : (remaining remaining' : Option (List ℕ)) (kept : List ℕ) → IfSome remaining (λ script. GivesLine script remaining' kept)
+    → LineRead remaining remaining' kept
 line_read None remaining' kept given = record { line = kept; kept_of = inr refl; read = λ script is. absurd (cc) }
 line_read (Some script) remaining' kept gives = record {
   line = gives.line;
@@ -63,7 +69,8 @@ line_read (Some script) remaining' kept gives = record {
 }
 
 -- the whole line is answered as what was kept of it
-answered_whole : (honest : Type 0) {remaining remaining' : Option (List ℕ)} {kept : List ℕ} (read : LineRead remaining remaining' kept) (old new : StoreView) (reply : Reply)
+answered_whole : (honest : Type 0) {remaining remaining' : Option (List ℕ)} {kept : List ℕ} (read : LineRead remaining remaining' kept) (old new : StoreView)
+    (reply : Reply)
     → Answers honest kept old new reply → Answers honest read.line old new reply
 answered_whole honest read old new reply answers = elim read.kept_of [
   | inl first ↦ whole_line honest read.line _ old new reply first answers
@@ -78,7 +85,8 @@ answers_for honest other line old new reply so (inl (command, is)) = inl
 answers_for honest other line old new reply so (inr refused) = inr refused
 
 -- before the first line
-pub come_first : (honest : Type 0) (store : StoreView) (remaining contents : Option (List ℕ)) → HasCome honest store store (streams remaining contents) (streams remaining contents)
+pub come_first : (honest : Type 0) (store : StoreView) (remaining contents : Option (List ℕ))
+    → HasCome honest store store (streams remaining contents) (streams remaining contents)
 come_first honest store remaining contents = record {
   lines = [];
   replies = [];
@@ -92,7 +100,8 @@ told : (P : List ℕ → Type 0) (remaining : Option (List ℕ)) (left : List �
 told P remaining left is some = subst (λ (r : Option (List ℕ)). IfSome r P) is some
 
 -- the lines that were read, and one more
-read_more : (script : List ℕ) (lines : List (List ℕ)) {remaining remaining' : Option (List ℕ)} {kept : List ℕ} (read : LineRead remaining remaining' kept) → AreReadOf script lines remaining
+read_more : (script : List ℕ) (lines : List (List ℕ)) {remaining remaining' : Option (List ℕ)} {kept : List ℕ} (read : LineRead remaining remaining' kept)
+    → AreReadOf script lines remaining
     → AreReadOf script (lines ++ read.line ∷ []) remaining'
 read_more script lines read was =
     let next = read.read was.left was.remains in record {
@@ -103,7 +112,8 @@ read_more script lines read was =
 
 -- one line more was answered
 pub come_more : (honest other : Type 0) (old mid new : StoreView) (start : Streams) (remaining remaining' contents contents' : Option (List ℕ)) (kept : List ℕ)
-    → (other → honest) → HasCome other old mid start (streams remaining contents) → LineRead remaining remaining' kept → LineIsDone honest kept mid new contents contents'
+    → (other → honest) → HasCome other old mid start (streams remaining contents) → LineRead remaining remaining' kept
+    → LineIsDone honest kept mid new contents contents'
     → HasCome other old new start (streams remaining' contents')
 come_more honest other old mid new start remaining remaining' contents contents' kept so came read is = record {
   lines = came.lines ++ read.line ∷ [];
@@ -161,7 +171,8 @@ come_too_far honest old new start remaining contents came = come_then honest old
 
 -- the writer failed
 pub come_cut : (honest other : Type 0) (old mid new : StoreView) (start : Streams) (remaining remaining' contents contents' : Option (List ℕ)) (kept : List ℕ)
-    → (other → honest) → HasCome other old mid start (streams remaining contents) → LineRead remaining remaining' kept → LineIsCut honest kept mid new contents contents'
+    → (other → honest) → HasCome other old mid start (streams remaining contents) → LineRead remaining remaining' kept
+    → LineIsCut honest kept mid new contents contents'
     → StoppedWriting other old new start (streams remaining' contents')
 come_cut honest other old mid new start remaining remaining' contents contents' kept so came read is = record {
   lines = came.lines;
@@ -178,8 +189,10 @@ come_cut honest other old mid new start remaining remaining' contents contents' 
 }
 
 -- the store ended
-pub come_ended : (honest other : Type 0) (refusal : Refusal) (old mid new : StoreView) (start : Streams) (remaining remaining' contents contents' : Option (List ℕ)) (kept : List ℕ)
-    → (other → honest) → HasCome other old mid start (streams remaining contents) → LineRead remaining remaining' kept → LineIsLast honest kept mid new refusal contents contents'
+pub come_ended : (honest other : Type 0) (refusal : Refusal) (old mid new : StoreView) (start : Streams)
+    (remaining remaining' contents contents' : Option (List ℕ)) (kept : List ℕ)
+    → (other → honest) → HasCome other old mid start (streams remaining contents) → LineRead remaining remaining' kept
+    → LineIsLast honest kept mid new refusal contents contents'
     → StoppedByStore other refusal old new start (streams remaining' contents')
 come_ended honest other refusal old mid new start remaining remaining' contents contents' kept so came read is = record {
   lines = came.lines;

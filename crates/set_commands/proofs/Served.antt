@@ -1,5 +1,6 @@
 -- What the commands over a set on a bank come to, from what their calls do.
-use Rattle.std.proofs.Common.{◌≡◌, ◌≢◌, ◌⊎◌, inl, inr, ℕ, zero, suc, ◌+◌, Bool, true, false, ◌||◌, List, [], ◌∷◌, ◌++◌, Option, Result, Ok, Err, refl, sym, ap, subst, ◌∙◌}
+use Rattle.std.proofs.Common.{◌≡◌, ◌≢◌, ◌⊎◌, inl, inr, ℕ, zero, suc, ◌+◌, Bool, true, false, ◌||◌, List, [], ◌∷◌, ◌++◌, Option, Result, Ok, Err, refl, sym, ap}
+use Rattle.std.proofs.Common.{subst, ◌∙◌}
 use Rattle.std.specs.Prelude.{IfErr, OnErr, OnOk}
 use Rattle.std.specs.Io.KnownBytes.{Appends}
 use Rattle.sector_model.specs.declared.refusal.Refusal.{Refusal}
@@ -19,15 +20,18 @@ use Rattle.report.specs.Report.{slot_json, slots_json, status_json}
 use Rattle.volume_table.proofs.RunChains.{applies_for}
 use Rattle.set_commands.specs.Run.{AreAllOf, AreReadWhole, HasAnswered, HasRun, IsScriptRefusal, StoppedByStore, StoppedReading, StoppedWriting, Streams}
 use Rattle.report.specs.Script.{Answers, Serves, none_read, then_read}
-use Rattle.set_commands.specs.Serving.{IsEnd, IsNotOpened, IsOpened, IsOpeningRefusal, IsTellEnd, LosesOn, RunsOn, ServesOn, StatusOn, TellsOn, TellsPartOn, told_text}
+use Rattle.set_commands.specs.Serving.{IsEnd, IsNotOpened, IsOpened, IsOpeningRefusal, IsTellEnd, LosesOn, RunsOn, ServesOn, StatusOn, TellsOn, TellsPartOn}
+use Rattle.set_commands.specs.Serving.{told_text}
 use Rattle.report.specs.Written.{AppendsPart}
 
 -- ---- a bank that is honest before a call is so in it
 
-stays_for : (honest other : Type 0) (old new : ArrayView) (ended : Type 0) → (other → honest) → StaysButForFailures honest old new ended → StaysButForFailures other old new ended
+stays_for : (honest other : Type 0) (old new : ArrayView) (ended : Type 0) → (other → honest) → StaysButForFailures honest old new ended
+    → StaysButForFailures other old new ended
 stays_for honest other old new ended so stays = record { table = stays.table; failure = λ fair. stays.failure (so fair) }
 
-given_up_for : (honest other : Type 0) (old : ArrayView) (back : BankView) (refusal : Refusal) → (other → honest) → WasGivenUp honest old back refusal → WasGivenUp other old back refusal
+given_up_for : (honest other : Type 0) (old : ArrayView) (back : BankView) (refusal : Refusal) → (other → honest) → WasGivenUp honest old back refusal
+    → WasGivenUp other old back refusal
 given_up_for honest other old back refusal so given = record {
   array = given.array;
   panel = given.panel;
@@ -37,7 +41,8 @@ given_up_for honest other old back refusal so given = record {
   ends = given.ends;
 }
 
-no_opening_for : (honest other : Type 0) (old : ArrayView) (back : BankView) (refusal : Refusal) → (other → honest) → IsNoOpening honest old back refusal → IsNoOpening other old back refusal
+no_opening_for : (honest other : Type 0) (old : ArrayView) (back : BankView) (refusal : Refusal) → (other → honest) → IsNoOpening honest old back refusal
+    → IsNoOpening other old back refusal
 no_opening_for honest other old back BadTable so why = ((λ fair. why.0 (so fair)), (λ fair. why.1 (so fair)))
 no_opening_for honest other old back TwoLost so why = given_up_for honest other old back TwoLost so why
 no_opening_for honest other old back Worn so why = given_up_for honest other old back Worn so why
@@ -56,7 +61,8 @@ opens_for honest other old outcome so opens = record {
   cause = λ back refusal is. no_opening_for honest other old back refusal so (opens.cause back refusal is);
 }
 
-answers_for : (honest other : Type 0) (line : List ℕ) (old new : StoreView) (reply : Reply) → (other → honest) → Answers honest line old new reply → Answers other line old new reply
+answers_for : (honest other : Type 0) (line : List ℕ) (old new : StoreView) (reply : Reply) → (other → honest) → Answers honest line old new reply
+    → Answers other line old new reply
 answers_for honest other line old new reply so (inl (command, is)) =
     inl (command, record { short = is.short; says = is.says; applies = applies_for honest other _ old new reply so is.applies })
 answers_for honest other line old new reply so (inr none) = inr none
@@ -67,7 +73,8 @@ serves_for honest other lines replies old new so none_read = none_read
 serves_for honest other lines replies old new so (then_read mid line reply answers goes serves) =
     then_read mid line reply (answers_for honest other line old mid reply so answers) goes (serves_for honest other _ _ mid new so serves)
 
-answered_for : (honest other : Type 0) (first last : StoreView) (was is : Streams) (AreRead : (script : List ℕ) (lines : List (List ℕ)) (remaining : Option (List ℕ)) → Type 0)
+answered_for : (honest other : Type 0) (first last : StoreView) (was is : Streams)
+    (AreRead : (script : List ℕ) (lines : List (List ℕ)) (remaining : Option (List ℕ)) → Type 0)
     → (other → honest) → HasAnswered honest first last was is AreRead → HasAnswered other first last was is AreRead
 answered_for honest other first last was is AreRead so answered = record {
   lines = answered.lines;
@@ -93,7 +100,8 @@ writing_for honest other first last was is so stopped = record {
   read = stopped.read;
 }
 
-pub loss_for : (honest other : Type 0) (refusal : Refusal) (first last : StoreView) (was is : Streams) → (other → honest) → StoppedByStore honest refusal first last was is
+pub loss_for : (honest other : Type 0) (refusal : Refusal) (first last : StoreView) (was is : Streams) → (other → honest)
+    → StoppedByStore honest refusal first last was is
     → StoppedByStore other refusal first last was is
 loss_for honest other refusal first last was is so stopped = record {
   lines = stopped.lines;
@@ -114,7 +122,8 @@ assembly_refused TwoLost is = inr (inr tt)
 assembly_refused Worn is = inr (inr tt)
 assembly_refused refusal is = absurd is
 
-pub opening_refused : (honest : Type 0) (array : ArrayView) (back : BankView) (refusal : Refusal) → IsNoOpening honest array back refusal → IsOpeningRefusal refusal
+pub opening_refused : (honest : Type 0) (array : ArrayView) (back : BankView) (refusal : Refusal) → IsNoOpening honest array back refusal
+    → IsOpeningRefusal refusal
 opening_refused honest array back BadTable why = inr (inl refl)
 opening_refused honest array back TwoLost why = inr (inr tt)
 opening_refused honest array back Worn why = inr (inr tt)
@@ -167,19 +176,22 @@ module _ (honest then : Type 0) (so : honest → then) (id : List ℕ) (bank : B
   on : (Comes : StoreView → StoreView → Type 0) → Comes first last → ServesOn honest id bank Comes
   on Comes comes = record { first = first; last = last; opened = opened; comes = comes }
 
-  pub served_ran : (was is : Streams) (result : Result (Unit {0}) Refusal) → OnOk result (HasRun then first last was is) → OnOk result (RunsOn honest id bank was is)
+  pub served_ran : (was is : Streams) (result : Result (Unit {0}) Refusal) → OnOk result (HasRun then first last was is)
+      → OnOk result (RunsOn honest id bank was is)
   served_ran was is (Ok done) ran = on (λ f l. HasRun honest f l was is) (answered_for then honest first last was is AreAllOf so ran)
   served_ran was is (Err refusal) ran = tt
 
   pub served_until_read : (was is : Streams) (result : Result (Unit {0}) Refusal) → (result ≡ Err ReadFault → StoppedReading then first last was is)
       → IfErr result (λ refusal. refusal ≡ ReadFault → ServesOn honest id bank (λ f l. StoppedReading honest f l was is))
   served_until_read was is (Ok done) stopped = tt
-  served_until_read was is (Err refusal) stopped = λ fault. on (λ f l. StoppedReading honest f l was is) (answered_for then honest first last was is AreReadWhole so (stopped (ap Err fault)))
+  served_until_read was is (Err refusal) stopped = λ fault. on (λ f l. StoppedReading honest f l was is)
+      (answered_for then honest first last was is AreReadWhole so (stopped (ap Err fault)))
 
   pub served_until_write : (was is : Streams) (result : Result (Unit {0}) Refusal) → (result ≡ Err WriteFault → StoppedWriting then first last was is)
       → IfErr result (λ refusal. refusal ≡ WriteFault → ServesOn honest id bank (λ f l. StoppedWriting honest f l was is))
   served_until_write was is (Ok done) stopped = tt
-  served_until_write was is (Err refusal) stopped = λ fault. on (λ f l. StoppedWriting honest f l was is) (writing_for then honest first last was is so (stopped (ap Err fault)))
+  served_until_write was is (Err refusal) stopped = λ fault. on (λ f l. StoppedWriting honest f l was is)
+      (writing_for then honest first last was is so (stopped (ap Err fault)))
 
   pub served_until_loss : (was is : Streams) (Same : Type 0) (result : Result (Unit {0}) Refusal)
       → ((refusal : Refusal) → result ≡ Err refusal → EndsIt refusal → StoppedByStore then refusal first last was is)
@@ -191,7 +203,8 @@ module _ (honest then : Type 0) (so : honest → then) (id : List ℕ) (bank : B
 -- ---- a status is told
 
 -- a store that was just opened tells its status
-pub status_told : (honest : Type 0) (id : List ℕ) (bank : BankView) (store : StoreView) (refusal : Refusal) → IsOpened honest id bank store → TellsStatus store (Err refusal) → ⊥
+pub status_told : (honest : Type 0) (id : List ℕ) (bank : BankView) (store : StoreView) (refusal : Refusal) → IsOpened honest id bank store
+    → TellsStatus store (Err refusal) → ⊥
 status_told honest id bank store refusal opened tells = tells.going (opened.opens.going store refl)
 
 -- ---- what was written
@@ -200,7 +213,8 @@ pub done_then : (result : Result (Unit {0}) Refusal) (P : Type 0) → P → OnOk
 done_then (Ok done) P is = is
 done_then (Err refusal) P is = tt
 
-pub only_cut : (result : Result (Unit {0}) Refusal) (P : Refusal → Type 0) → IfErr result (λ refusal. refusal ≡ WriteFault) → IfErr result (λ refusal. refusal ≢ WriteFault → P refusal)
+pub only_cut : (result : Result (Unit {0}) Refusal) (P : Refusal → Type 0) → IfErr result (λ refusal. refusal ≡ WriteFault)
+    → IfErr result (λ refusal. refusal ≢ WriteFault → P refusal)
 only_cut (Ok done) P kind = tt
 only_cut (Err refusal) P kind = λ other. absurd (other kind)
 
@@ -212,16 +226,18 @@ cut_then (Err refusal) P Q is part = λ cut. (is, part)
 abbrev IsUntold : (Same : Type 0) (old new : Option (List ℕ)) → List ℕ → Refusal → Type 0
 IsUntold Same old new text refusal = ((refusal ≡ Memory) × Same) ⊎ ((refusal ≡ WriteFault) × AppendsPart old new text)
 
-module _ (honest : Type 0) (id : List ℕ) (bank : BankView) (json : Bool) (was is : Option (List ℕ)) (status : Status) (told : StatusOn honest id bank status) where
-  pub tells_on : (result : Result (Unit {0}) Refusal) → OnOk result (Appends was is (told_text json status)) → OnOk result (TellsOn honest id bank json was is)
-  tells_on (Ok done) written = record { status = status; told = told; written = written }
-  tells_on (Err refusal) written = tt
+module _ (honest : Type 0) (id : List ℕ) (bank : BankView) (json : Bool) (was is : Option (List ℕ)) (status : Status) (told : StatusOn honest id bank status)
+  where
+    pub tells_on : (result : Result (Unit {0}) Refusal) → OnOk result (Appends was is (told_text json status))
+        → OnOk result (TellsOn honest id bank json was is)
+    tells_on (Ok done) written = record { status = status; told = told; written = written }
+    tells_on (Err refusal) written = tt
 
-  pub tells_part_on : (Same : Type 0) (result : Result (Unit {0}) Refusal) → IfErr result (IsUntold Same was is (told_text json status))
-      → IfErr result (λ refusal. refusal ≡ WriteFault → TellsPartOn honest id bank json was is)
-  tells_part_on Same (Ok done) err = tt
-  tells_part_on Same (Err refusal) (inl memory) = λ cut. absurd (let never : Memory ≡ WriteFault = sym memory.0 ∙ cut in cc)
-  tells_part_on Same (Err refusal) (inr cut) = λ is. record { status = status; told = told; written = cut.1 }
+    pub tells_part_on : (Same : Type 0) (result : Result (Unit {0}) Refusal) → IfErr result (IsUntold Same was is (told_text json status))
+        → IfErr result (λ refusal. refusal ≡ WriteFault → TellsPartOn honest id bank json was is)
+    tells_part_on Same (Ok done) err = tt
+    tells_part_on Same (Err refusal) (inl memory) = λ cut. absurd (let never : Memory ≡ WriteFault = sym memory.0 ∙ cut in cc)
+    tells_part_on Same (Err refusal) (inr cut) = λ is. record { status = status; told = told; written = cut.1 }
 
 pub untold_for : (Same : Type 0) (old new : Option (List ℕ)) (text : List ℕ) (result : Result (Unit {0}) Refusal) (P : Refusal → Type 0)
     → IfErr result (IsUntold Same old new text) → IfErr result (λ refusal. refusal ≢ Memory → refusal ≢ WriteFault → P refusal)
@@ -229,7 +245,8 @@ untold_for Same old new text (Ok done) P err = tt
 untold_for Same old new text (Err refusal) P (inl memory) = λ some other. absurd (some memory.0)
 untold_for Same old new text (Err refusal) P (inr cut) = λ some other. absurd (other cut.0)
 
-pub untold_end : (Same : Type 0) (old new : Option (List ℕ)) (text : List ℕ) (result : Result (Unit {0}) Refusal) → IfErr result (IsUntold Same old new text) → IfErr result IsTellEnd
+pub untold_end : (Same : Type 0) (old new : Option (List ℕ)) (text : List ℕ) (result : Result (Unit {0}) Refusal) → IfErr result (IsUntold Same old new text)
+    → IfErr result IsTellEnd
 untold_end Same old new text (Ok done) err = tt
 untold_end Same old new text (Err refusal) (inl memory) = inl (inl memory.0)
 untold_end Same old new text (Err refusal) (inr cut) = inr (inl cut.0)
@@ -240,7 +257,8 @@ untold_same Same old new text (Ok done) err = tt
 untold_same Same old new text (Err refusal) (inl memory) = λ other. memory.1
 untold_same Same old new text (Err refusal) (inr cut) = λ other. absurd (other cut.0)
 
-pub untold_by : (Same : Type 0) (old new : Option (List ℕ)) (text : List ℕ) (result : Result (Unit {0}) Refusal) → IfErr result (λ refusal. refusal ≡ WriteFault)
+pub untold_by : (Same : Type 0) (old new : Option (List ℕ)) (text : List ℕ) (result : Result (Unit {0}) Refusal)
+    → IfErr result (λ refusal. refusal ≡ WriteFault)
     → OnErr result (AppendsPart old new text) → IfErr result (IsUntold Same old new text)
 untold_by Same old new text (Ok done) kind part = tt
 untold_by Same old new text (Err refusal) kind part = inr (kind, part)
@@ -248,12 +266,14 @@ untold_by Same old new text (Err refusal) kind part = inr (kind, part)
 -- ---- the text of a status
 
 -- items at the end of which there is one more
-pub items_no_float : (items : List Data) (last : Data) → items_have_float (items_of items) ≡ false → has_float last ≡ false → items_have_float (items_of (items ++ last ∷ [])) ≡ false
+pub items_no_float : (items : List Data) (last : Data) → items_have_float (items_of items) ≡ false → has_float last ≡ false
+    → items_have_float (items_of (items ++ last ∷ [])) ≡ false
 items_no_float [] last none is = ap (λ (b : Bool). b || false) is
 items_no_float (item ∷ items) last none is = by_first (has_float item) none (λ rest. items_no_float items last rest is)
   where
     by_first : (b : Bool) → (b || items_have_float (items_of items)) ≡ false
-        → (items_have_float (items_of items) ≡ false → items_have_float (items_of (items ++ last ∷ [])) ≡ false) → (b || items_have_float (items_of (items ++ last ∷ []))) ≡ false
+        → (items_have_float (items_of items) ≡ false → items_have_float (items_of (items ++ last ∷ [])) ≡ false)
+        → (b || items_have_float (items_of (items ++ last ∷ []))) ≡ false
     by_first true none rest = none
     by_first false none rest = rest none
 
@@ -265,7 +285,8 @@ no_float : (status : Status) → has_float (status_json status) ≡ false
 no_float status = ap (λ (b : Bool). b || false) (slots_no_float status (status.members + 2))
 
 -- the text of the value, and the newline after it
-pub json_told : (status : Status) (json : Bool) (value : Data) (text pushed : List ℕ) → json ≡ true → value ≡ status_json status → (has_float value ≡ false → text ≡ compact_text value)
+pub json_told : (status : Status) (json : Bool) (value : Data) (text pushed : List ℕ) → json ≡ true → value ≡ status_json status
+    → (has_float value ≡ false → text ≡ compact_text value)
     → pushed ≡ text ++ 10 ∷ [] → pushed ≡ told_text json status
 json_told status json value text pushed is same written beyond =
     let whole : text ≡ compact_text (status_json status) = written (ap has_float same ∙ no_float status) ∙ ap compact_text same in

@@ -34,7 +34,8 @@ module _ (honest then : Type 0) (so : honest → then) (id : List ℕ) (bank : B
   }
 
   pub rebuild_stopped : (steps : Option ℕ) (refusal : Refusal) → Rebuilds then steps first last (Err refusal) → StopsRebuildingOn honest id steps bank refusal
-  rebuild_stopped steps refusal rebuilds = on (λ f l. Rebuilds honest steps f l (Err refusal)) (rebuilds_for then honest steps first last (Err refusal) so rebuilds)
+  rebuild_stopped steps refusal rebuilds = on (λ f l. Rebuilds honest steps f l (Err refusal))
+      (rebuilds_for then honest steps first last (Err refusal) so rebuilds)
 
   pub rebuild_end : (steps : Option ℕ) (refusal : Refusal) → Rebuilds then steps first last (Err refusal) → IsRebuildEnd refusal
   rebuild_end steps refusal rebuilds = elim (rebuild_refused then steps refusal first last going rebuilds) [

@@ -69,7 +69,8 @@ pub record AreReadWhole (script : List ℕ) (lines : List (List ℕ)) (remaining
   pub stopped : StopsInLine left remaining
 
 -- Lines were answered, and their replies written. Of a reader that tells its bytes they are read so from the script, with so much left.
-pub record HasAnswered (honest : Type 0) (old new : StoreView) (was is : Streams) (AreRead : (script : List ℕ) (lines : List (List ℕ)) (remaining : Option (List ℕ)) → Type 0) : Type 0 where
+pub record HasAnswered (honest : Type 0) (old new : StoreView) (was is : Streams)
+    (AreRead : (script : List ℕ) (lines : List (List ℕ)) (remaining : Option (List ℕ)) → Type 0) : Type 0 where
   pub lines : List (List ℕ)
   pub replies : List Reply
   pub serves : Serves honest lines replies old new

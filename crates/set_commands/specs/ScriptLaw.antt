@@ -18,13 +18,15 @@ Leaves extents line old new = ((command : Command) × (length line ≤ LONGEST_L
 
 -- the volume machine answers a line so, but that there may be no memory for a list
 abbrev pub IsRightReply : (extents : ℕ) (line : List ℕ) → VolumeMap → Reply → Type 0
-IsRightReply extents line volumes reply = ((command : Command) × (length line ≤ LONGEST_LINE) × Says line command × ((reply ≡ reply_to extents command volumes) ⊎ LacksMemory command reply))
+IsRightReply extents line volumes reply = ((command : Command) × (length line ≤ LONGEST_LINE) × Says line command
+    × ((reply ≡ reply_to extents command volumes) ⊎ LacksMemory command reply))
     ⊎ (IsBadLine line × (reply ≡ Refused BadLine))
 
 -- These lines are answered by the volume machine one after another, and leave these volumes.
 abbrev pub Runs : (extents : ℕ) → List (List ℕ) → VolumeMap → List Reply → VolumeMap → Type 0
 Runs extents [] old [] new = new ≡ old
-Runs extents (line ∷ lines) old (reply ∷ replies) new = (mid : VolumeMap) × Leaves extents line old mid × IsRightReply extents line old reply × Runs extents lines mid replies new
+Runs extents (line ∷ lines) old (reply ∷ replies) new = (mid : VolumeMap) × Leaves extents line old mid × IsRightReply extents line old reply
+    × Runs extents lines mid replies new
 Runs extents [] old (reply ∷ replies) new = ⊥
 Runs extents (line ∷ lines) old [] new = ⊥
 
@@ -43,7 +45,8 @@ pub record KeepsInLine (line : List ℕ) (old new : StoreView) (reply : Reply) (
   pub settled : IsSettledOn new left after
 
 -- so it is for each line of a script
-abbrev pub KeepsVolumes : {lines : List (List ℕ)} {replies : List Reply} {old new : StoreView} → Serves (Unit {0}) lines replies old new → Option Lost → VolumeMap → Type 0
+abbrev pub KeepsVolumes : {lines : List (List ℕ)} {replies : List Reply} {old new : StoreView} → Serves (Unit {0}) lines replies old new → Option Lost
+    → VolumeMap → Type 0
 KeepsVolumes none_read lost volumes = Unit {0}
 KeepsVolumes (then_read {old = old} mid line reply answers goes rest) lost volumes =
     (keeps : KeepsInLine line old mid reply lost volumes) × KeepsVolumes rest keeps.left keeps.after

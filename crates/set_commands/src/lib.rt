@@ -1,4 +1,5 @@
-//! What the program's commands do with the set on a bank of devices, scripts over a store of volumes, and a bank that shows how far a command is.
+//! What the program's commands do with the set on a bank of devices, scripts over a store of volumes, and a bank that
+//! shows how far a command is.
 #![tactic(auto)]
 
 mod law;

@@ -26,10 +26,12 @@ pub enum Left {
 
 /// A runtime that can show how far a command is.
 pub trait Meter {
-    /// The milliseconds since an arbitrary start, which stays the same. `None` where nobody watches, or no clock tells the time: nothing is shown then.
+    /// The milliseconds since an arbitrary start, which stays the same. `None` where nobody watches, or no clock tells
+    /// the time: nothing is shown then.
     fn millis(&self) -> Option<u64>;
 
-    /// Shows that so many percent are done, 0 to 100, and about how much time is left, where that can be told, in place of what was shown before.
+    /// Shows that so many percent are done, 0 to 100, and about how much time is left, where that can be told, in place
+    /// of what was shown before.
     fn show(&self, percent: u8, left: Option<Left>);
 
     /// Takes away what was shown.
@@ -48,8 +50,8 @@ pub fn percent(done: u64, total: u64) -> u8
     part as u8
 }
 
-/// The time that is left, in the unit of the time in which so much of a total was done, where the rest goes on alike; at most 2^64 - 1. `None` where
-/// nothing is done yet.
+/// The time that is left, in the unit of the time in which so much of a total was done, where the rest goes on alike;
+/// at most 2^64 - 1. `None` where nothing is done yet.
 pub fn time_left(elapsed: u64, done: u64, total: u64) -> Option<u64>
     ensures none { IsNone result ↔ (done ≡ 0) }
     ensures some { IfSome result (λ left. left ≡ time_left_of elapsed done total) }

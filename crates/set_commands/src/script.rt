@@ -10,7 +10,8 @@ ghost use Rattle.volume_table.specs.VolumeStep.{OnVolumes, Read, Refused};
 ghost use Rattle.volume_table.specs.Volumes.{Block};
 ghost use Rattle.volume_table.specs.OpenStore.{store_view};
 ghost use Rattle.report.specs.Replies.{reply_text};
-ghost use Rattle.set_commands.specs.Run.{HasRun, IsScriptRefusal, LineIsCut, LineIsDone, LineIsLast, StoppedByStore, StoppedReading, StoppedWriting, reply_in, streams};
+ghost use Rattle.set_commands.specs.Run.{HasRun, IsScriptRefusal, LineIsCut, LineIsDone, LineIsLast, StoppedByStore};
+ghost use Rattle.set_commands.specs.Run.{StoppedReading, StoppedWriting, reply_in, streams};
 ghost use Rattle.report.specs.Script.{Answers};
 ghost use Rattle.report.specs.Written.{AppendsPart, reply_of};
 
@@ -73,7 +74,8 @@ fn serve<B: Bank>(
     }
 }
 
-// Reads blocks into the buffer, as many as it holds at most: one more than a read may have, so that a longer one is refused as that one is.
+// Reads blocks into the buffer, as many as it holds at most: one more than a read may have, so that a longer one is
+// refused as that one is.
 fn serve_read<B: Bank>(
     store: &mut Store<B>,
     name: &[u8],
@@ -133,8 +135,10 @@ fn write_outcome<W: Write>(
     outcome: &Outcome,
     buffer: &[Sector; KEPT_BLOCKS],
 ) -> Result<(), Refusal>
-    ensures ok { OnOk result (Appends (W.contents writer.old) (W.contents writer.new) (reply_text (reply_in outcome.now buffer.now))) }
-    ensures part { OnErr result (AppendsPart (W.contents writer.old) (W.contents writer.new) (reply_text (reply_in outcome.now buffer.now))) }
+    ensures ok { OnOk result (Appends (W.contents writer.old) (W.contents writer.new)
+        (reply_text (reply_in outcome.now buffer.now))) }
+    ensures part { OnErr result (AppendsPart (W.contents writer.old) (W.contents writer.new)
+        (reply_text (reply_in outcome.now buffer.now))) }
     ensures kind { IfErr result (λ refusal. refusal ≡ Refusal.WriteFault) }
 {
     write_reply(writer, &answer_of(outcome, buffer))
@@ -143,7 +147,8 @@ fn write_outcome<W: Write>(
 // The refusal that ended the store, where the line came to one.
 fn ending(outcome: &Outcome) -> Result<(), Refusal>
     ensures going { OnOk result ((buffer : List Block) → ¬ EndsStore (reply_in outcome.now buffer)) }
-    ensures ended { IfErr result (λ refusal. EndsIt refusal × ((buffer : List Block) → reply_in outcome.now buffer ≡ Refused refusal)) }
+    ensures ended { IfErr result (λ refusal. EndsIt refusal
+        × ((buffer : List Block) → reply_in outcome.now buffer ≡ Refused refusal)) }
 {
     match outcome {
         Outcome::Refused(Refusal::TwoLost) => Err(Refusal::TwoLost),
@@ -152,12 +157,13 @@ fn ending(outcome: &Outcome) -> Result<(), Refusal>
     }
 }
 
-/// Runs a script over a store: each line is done and its reply written, before the next line is read. A line that is no command is answered
-/// `refused 20 BadLine`, and the script goes on.
+/// Runs a script over a store: each line is done and its reply written, before the next line is read. A line that is no
+/// command is answered `refused 20 BadLine`, and the script goes on.
 ///
-/// `Memory` where the buffers could not be made, with nothing read and nothing done. `ReadFault` where the reader fails, or the script has more than
-/// 2^63 bytes; `WriteFault` where the writer fails, with the last command done and a beginning of its reply written. `TwoLost` and `Worn` end the
-/// store; they are written as a reply before they are returned. The writer is not flushed.
+/// `Memory` where the buffers could not be made, with nothing read and nothing done. `ReadFault` where the reader
+/// fails, or the script has more than 2^63 bytes; `WriteFault` where the writer fails, with the last command done and a
+/// beginning of its reply written. `TwoLost` and `Worn` end the store; they are written as a reply before they are
+/// returned. The writer is not flushed.
 pub fn run_script<R: BufRead, W: Write, B: Bank>(
     alloc: Global,
     reader: &mut R,
@@ -179,7 +185,8 @@ pub fn run_script<R: BufRead, W: Write, B: Bank>(
         (streams (R.remaining reader.old) (W.contents writer.old))
         (streams (R.remaining reader.new) (W.contents writer.new)) }
     ensures err { IfErr result IsScriptRefusal }
-    ensures memory { result ≡ Err Refusal.Memory → (store.new ≡ store.old) × (reader.new ≡ reader.old) × (writer.new ≡ writer.old) }
+    ensures memory { result ≡ Err Refusal.Memory → (store.new ≡ store.old) × (reader.new ≡ reader.old)
+        × (writer.new ≡ writer.old) }
 {
     let mut line = Vec::with_capacity(alloc, LONGEST_LINE + 1)?;
     let mut kept = [[0; 512]; KEPT_BLOCKS];

@@ -8,7 +8,8 @@ ghost use Rattle.recovery.specs.SeenBank.{bank_seen};
 ghost use Rattle.volume_table.specs.OpenStore.{store_view};
 ghost use Rattle.set_commands.specs.Run.{StoppedReading, StoppedWriting, streams};
 ghost use Rattle.set_commands.specs.Healths.{HealthOn};
-ghost use Rattle.set_commands.specs.Serving.{IsEarly, IsEnd, IsNotOpened, IsOpened, IsOpeningRefusal, IsTellEnd, LosesOn, RunsOn, ServesOn, TellsOn, TellsPartOn, told_text};
+ghost use Rattle.set_commands.specs.Serving.{IsEarly, IsEnd, IsNotOpened, IsOpened, IsOpeningRefusal, IsTellEnd};
+ghost use Rattle.set_commands.specs.Serving.{LosesOn, RunsOn, ServesOn, TellsOn, TellsPartOn, told_text};
 ghost use Rattle.report.specs.Written.{AppendsPart};
 
 mod applying;
@@ -34,8 +35,9 @@ use volume_table::{Status, Store};
 
 /// Assembles the set of this id on a bank of devices, and opens its volumes. `entry` is where the set holds entries.
 ///
-/// `NoSet` where no superblock of this id counts, `BadTable` where the first 11 logical sectors are no table of volumes of version 1 and the first 25 none of
-/// version 2, `TwoLost` and `Worn` as `assemble` and `Store::open` say. The bank is given up then.
+/// `NoSet` where no superblock of this id counts, `BadTable` where the first 11 logical sectors are no table of volumes
+/// of version 1 and the first 25 none of version 2, `TwoLost` and `Worn` as `assemble` and `Store::open` say. The bank
+/// is given up then.
 pub fn open_on<B: Bank + Drop>(bank: B, entry: Entry, id: [u8; 16]) -> Result<Store<B>, Refusal>
     ensures honest { IfOk result (λ store. B.honest bank ↔ IsHonest store.array) }
     ensures opened { IfOk result (λ store. IsOpened (B.honest bank) id (bank_seen B.Bank bank) (store_view store)) }
@@ -85,8 +87,8 @@ pub fn serve_on<R: BufRead, W: Write, B: Bank + Drop>(
     run_script(alloc, reader, out, &mut store)
 }
 
-/// Writes what the set of this id tells of itself: as lines of text, or as JSON in one line; and says how well it is. Refused as `open_on` is, with `Memory`, and with `WriteFault`,
-/// where a beginning of the text may be written.
+/// Writes what the set of this id tells of itself: as lines of text, or as JSON in one line; and says how well it is.
+/// Refused as `open_on` is, with `Memory`, and with `WriteFault`, where a beginning of the text may be written.
 pub fn tell_on<W: Write, B: Bank + Drop>(
     alloc: Global,
     bank: B,
@@ -121,7 +123,8 @@ fn write_status<W: Write>(
 ) -> Result<(), Refusal>
     ensures ok { OnOk result (Appends (W.contents out.old) (W.contents out.new) (told_text json status.now)) }
     ensures err { IfErr result (λ refusal. ((refusal ≡ Refusal.Memory) × (out.new ≡ out.old))
-        ⊎ ((refusal ≡ Refusal.WriteFault) × AppendsPart (W.contents out.old) (W.contents out.new) (told_text json status.now))) }
+        ⊎ ((refusal ≡ Refusal.WriteFault)
+        × AppendsPart (W.contents out.old) (W.contents out.new) (told_text json status.now))) }
 {
     if json {
         let mut text = to_json(alloc, status)?.to_string(alloc)?;

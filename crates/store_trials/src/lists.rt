@@ -9,7 +9,8 @@ type Logical = [Sector; 192];
 
 // The record of the volume `a` of 65 blocks.
 const RECORD: &[u8] =
-    b"\x01\x61\x00\x00\x00\x00\x00\x00\x00\x00\x00\x00\x00\x00\x00\x00\x00\x00\x00\x00\x00\x00\x00\x00\x00\x00\x00\x00\x41\x00\x00\x00";
+    b"\x01\x61\x00\x00\x00\x00\x00\x00\x00\x00\x00\x00\x00\x00\x00\x00\x00\x00\x00\x00\
+      \x00\x00\x00\x00\x00\x00\x00\x00\x41\x00\x00\x00";
 
 // Extent 0 is at place 1 of the volume of record 0, and extent 1 at place 0.
 const ENTRIES: &[u8] = b"\x01\x00\x01\x00\x01\x00\x00\x00";
@@ -107,8 +108,8 @@ fn list_of_version_2(rt: HostRuntime) {
     same(&rt, blocks_in_volume(&logical, 2, b"b"), None);
 }
 
-// Twenty-four sectors are too few, and the set has one extent alone; the records and extents are those of version 1 after the sector 0 of version 2, or
-// the other way round; and there is no version 3.
+// Twenty-four sectors are too few, and the set has one extent alone; the records and extents are those of version 1
+// after the sector 0 of version 2, or the other way round; and there is no version 3.
 #[test]
 fn lists_without_table_of_version_2(rt: HostRuntime) {
     let logical = one_volume_of_version_2();

@@ -1,4 +1,5 @@
-//! Stores over sets in memory, for tests: sets that are made, crashed and assembled again, and the steps that tests take on their stores.
+//! Stores over sets in memory, for tests: sets that are made, crashed and assembled again, and the steps that tests
+//! take on their stores.
 
 use crate::testing::{all, front, same};
 use array_io::Array;
@@ -100,7 +101,8 @@ pub(crate) enum Step<'a> {
     Do(Call<'a>, Answer<'a>),
     /// So does the event of a call.
     Apply(Call<'a>, Answer<'a>),
-    /// A call answers so, and makes so many reads (with what failed), writes with flushes, and entries. For sets of 3 members and 256 rows.
+    /// A call answers so, and makes so many reads (with what failed), writes with flushes, and entries. For sets of 3
+    /// members and 256 rows.
     Makes(Call<'a>, Answer<'a>, [u64; 3]),
     /// The store lists these volumes and no other, and reads their blocks so, one by one.
     Holds(Volumes<'a>),
@@ -126,7 +128,8 @@ pub(crate) enum Step<'a> {
     Ended(Refusal),
 }
 
-/// Takes these steps on a store, one after another. What fails names its step by its number, of which the first is given.
+/// Takes these steps on a store, one after another. What fails names its step by its number, of which the first is
+/// given.
 pub(crate) fn check_from(
     rt: &(impl Abort + AllocGlobal),
     store: &mut TestStore,
@@ -344,8 +347,8 @@ pub(crate) fn unlike_block(
     None
 }
 
-/// Where a store shows other volumes than these: the place of a volume, and the number of a block of it; after the last volume where it lists
-/// others.
+/// Where a store shows other volumes than these: the place of a volume, and the number of a block of it; after the last
+/// volume where it lists others.
 pub(crate) fn unlike(
     rt: &(impl Abort + AllocGlobal),
     store: &mut TestStore,
@@ -461,7 +464,8 @@ pub(crate) fn version_of(rt: &impl Abort, store: &TestStore) -> u8 {
     store.status().expect(rt, "the status is told").version
 }
 
-/// Asks that this slot of a store's set is missing and each other one in sync, all of them where it is none of the set's.
+/// Asks that this slot of a store's set is missing and each other one in sync, all of them where it is none of the
+/// set's.
 pub(crate) fn check_missing(rt: &impl Abort, store: &TestStore, number: usize, missing: usize) {
     for slot in 0..store.array.table.geometry.members as usize + 2 {
         let state = if slot == missing {
@@ -474,8 +478,8 @@ pub(crate) fn check_missing(rt: &impl Abort, store: &TestStore, number: usize, m
     }
 }
 
-// How many calls were made, how many writes and flushes there still is room for, and the number of the last entry, as the seals of both journals of
-// set A have it; 0 where there is none.
+// How many calls were made, how many writes and flushes there still is room for, and the number of the last entry, as
+// the seals of both journals of set A have it; 0 where there is none.
 fn counts(rt: &(impl Abort + AllocGlobal), bank: &MemBank) -> (u64, u64, u64) {
     let image = image_now(rt, bank);
     assert!(rt; image.slots.len() == 5);

@@ -32,17 +32,20 @@ is_placed members seal row member place found = by_row (place_in seal.rows.items
         record { i = i; within = at.0; row_is = at.1; held = held; place_is = sym place_is }
     by_held i false there held found = absurd (cc)
 
-    by_row : (o : Option ℕ) → place_in seal.rows.items row ≡ o → option_and_then (λ i. body_place members seal i member) o ≡ Some place → IsPlaced members seal row member place
+    by_row : (o : Option ℕ) → place_in seal.rows.items row ≡ o → option_and_then (λ i. body_place members seal i member) o ≡ Some place
+        → IsPlaced members seal row member place
     by_row None there found = absurd (cc)
     by_row (Some i) there found = by_held i (holds members seal.form i member) there refl found
 
 -- a body has at most 256 sectors
-pub part_below : (members : ℕ) (form : Form) (count i member : ℕ) → members ≤ MOST_MEMBERS → count ≤ ENTRY_ROWS → i < count → member < members → holds members form i member ≡ true
+pub part_below : (members : ℕ) (form : Form) (count i member : ℕ) → members ≤ MOST_MEMBERS → count ≤ ENTRY_ROWS → i < count → member < members
+    → holds members form i member ≡ true
     → rank members form i member < BODY_SECTORS
 part_below members form count i member few most within below held =
     omega (arith, rank_before members form i member count held below within, before_few members form count few most)
 
-pub in_own_half : (members : ℕ) (seal : Seal) (row member place : ℕ) → members ≤ MOST_MEMBERS → member < members → place_by_seal members seal row member ≡ Some place
+pub in_own_half : (members : ℕ) (seal : Seal) (row member place : ℕ) → members ≤ MOST_MEMBERS → member < members
+    → place_by_seal members seal row member ≡ Some place
     → (body_start seal.number ≤ place) × (place < body_start seal.number + BODY_SECTORS)
 in_own_half members seal row member place few below found =
     let at = is_placed members seal row member place found in
@@ -57,7 +60,8 @@ bodies_within members seal row member place few below found =
 
 -- two bodies with one sector are in one half
 pub halves_apart : (members : ℕ) (first second : Seal) (row member row' member' place : ℕ) → members ≤ MOST_MEMBERS → member < members → member' < members
-    → place_by_seal members first row member ≡ Some place → place_by_seal members second row' member' ≡ Some place → first.number % HALVES ≡ second.number % HALVES
+    → place_by_seal members first row member ≡ Some place → place_by_seal members second row' member' ≡ Some place
+    → first.number % HALVES ≡ second.number % HALVES
 halves_apart members first second row member row' member' place few below below' found found' =
     let here = in_own_half members first row member place few below found in
     let there = in_own_half members second row' member' place few below' found' in
@@ -80,7 +84,8 @@ place_held members seal row i member there held =
     ∙ ap (λ (b : Bool). cond b (Some (body_start seal.number + rank members seal.form i member)) None) held
 
 -- there is none of one that is not held, or of a row that the seal lacks
-pub place_lacking : (members : ℕ) (seal : Seal) (row i member : ℕ) → place_in seal.rows.items row ≡ Some i → holds members seal.form i member ≡ false → place_by_seal members seal row member ≡ None
+pub place_lacking : (members : ℕ) (seal : Seal) (row i member : ℕ) → place_in seal.rows.items row ≡ Some i → holds members seal.form i member ≡ false
+    → place_by_seal members seal row member ≡ None
 place_lacking members seal row i member there held =
     ap (option_and_then (λ k. body_place members seal k member)) there
     ∙ ap (λ (b : Bool). cond b (Some (body_start seal.number + rank members seal.form i member)) None) held
@@ -93,6 +98,7 @@ pub whole_rows : (members : ℕ) (seal : Seal) (i member : ℕ) → seal.form �
     → place_by_seal members seal (row_at seal.rows.items i) member ≡ Some (body_start seal.number + i * members + member)
 whole_rows members seal i member whole within below =
     let held : holds members seal.form i member ≡ true = ap (λ (f : Form). holds members f i member) whole ∙ lt-ltb member members below in
-    let rank_is : rank members seal.form i member ≡ i * members + member = ap (λ (f : Form). rank members f i member) whole ∙ rank_whole members i member (omega arith) in
+    let rank_is : rank members seal.form i member ≡ i * members + member = ap (λ (f : Form). rank members f i member) whole
+    ∙ rank_whole members i member (omega arith) in
     place_held members seal (row_at seal.rows.items i) i member (place_of_row seal.rows.items i seal.allowed.rising within) held
     ∙ ap Some (omega (arith, rank_is))

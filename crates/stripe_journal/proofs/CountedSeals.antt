@@ -1,5 +1,6 @@
 -- Which seals count in a journal of an image, and which of them is the last.
-use Rattle.std.proofs.Common.{◌≡◌, ◌≢◌, ◌↔◌, ◌⊎◌, Bool, IsTrue, inl, inr, ℕ, ◌+◌, ◌%◌, ◌≤◌, List, [], length, refl, subst, sym, ap, ◌∙◌, arith, Option, Some, None}
+use Rattle.std.proofs.Common.{◌≡◌, ◌≢◌, ◌↔◌, ◌⊎◌, Bool, IsTrue, inl, inr, ℕ, ◌+◌, ◌%◌, ◌≤◌, List, [], length, refl, subst, sym, ap, ◌∙◌, arith, Option, Some}
+use Rattle.std.proofs.Common.{None}
 use Rattle.std.specs.Prelude.{IfSome, IsNone}
 use Rattle.std.proofs.lemmas.Bool.{cases_lt, cases_eq, cond_below, cond_above}
 use Rattle.std.proofs.lemmas.List.{get_or_past}
@@ -16,7 +17,8 @@ abbrev Content : Type 0
 Content = Option (List Bytes)
 
 -- a seal belongs in a place where its rows and what its entry holds fit the set
-pub belongs_by : (id : List ℕ) (geometry : Geometry) (place : ℕ) (seal : Seal) (b : Bool) → seal.id ≡ id → seal.number % HALVES ≡ place → (rows : List ℕ) → rows ≡ seal.rows.items
+pub belongs_by : (id : List ℕ) (geometry : Geometry) (place : ℕ) (seal : Seal) (b : Bool) → seal.id ≡ id → seal.number % HALVES ≡ place → (rows : List ℕ)
+    → rows ≡ seal.rows.items
     → IsTrue b ↔ (AreBelow geometry rows × RowsHold geometry seal.form rows) → IsTrue b ↔ Belongs id geometry place seal
 belongs_by id geometry place seal b of_set own_place rows same fits =
     let there : IsTrue b ↔ (AreBelow geometry seal.rows.items × RowsHold geometry seal.form seal.rows.items) =
@@ -36,16 +38,19 @@ one_seal first second long same =
     one_spelled (seal_sector first) first second full refl same
 
 -- the seal that a sector of a journal was found to spell
-pub counted_there : (id : List ℕ) (geometry : Geometry) (place : ℕ) (content : Content) (sector : Bytes) (seal : Seal) → sector ≡ sector_of (disk_of content) (FIRST_SEAL + place)
+pub counted_there : (id : List ℕ) (geometry : Geometry) (place : ℕ) (content : Content) (sector : Bytes) (seal : Seal)
+    → sector ≡ sector_of (disk_of content) (FIRST_SEAL + place)
     → sector ≡ seal_sector seal → Belongs id geometry place seal → Counts id geometry content place seal
 counted_there id geometry place content sector seal is spells belongs = record { stands = sym is ∙ spells; belongs = belongs }
 
-pub none_counted_there : (id : List ℕ) (geometry : Geometry) (place : ℕ) (content : Content) (sector : Bytes) → sector ≡ sector_of (disk_of content) (FIRST_SEAL + place)
+pub none_counted_there : (id : List ℕ) (geometry : Geometry) (place : ℕ) (content : Content) (sector : Bytes)
+    → sector ≡ sector_of (disk_of content) (FIRST_SEAL + place)
     → ((seal : Seal) → sector ≡ seal_sector seal → ¬ Belongs id geometry place seal) → CountsNone id geometry content place
 none_counted_there id geometry place content sector is none seal counts = none seal (is ∙ counts.stands) counts.belongs
 
 -- no seal counts after the last sector
-pub none_beyond_last : (id : List ℕ) (geometry : Geometry) (place : ℕ) (disk : List Bytes) → length disk ≤ FIRST_SEAL + place → CountsNone id geometry (Some disk) place
+pub none_beyond_last : (id : List ℕ) (geometry : Geometry) (place : ℕ) (disk : List Bytes) → length disk ≤ FIRST_SEAL + place
+    → CountsNone id geometry (Some disk) place
 none_beyond_last id geometry place disk past seal counts = nothing_spells seal (sym (get_or_past disk (FIRST_SEAL + place) [] past) ∙ counts.stands)
 
 -- nor where there is no device
@@ -139,8 +144,10 @@ last_is id geometry content even odd found long some_even none_even some_odd non
     subst (λ (o : Option Seal). IsLastSealed id geometry content o) (sym is) (last_of_two id geometry content even odd long
     (counted_at id geometry content 0 even some_even none_even) (counted_at id geometry content 1 odd some_odd none_odd))
 
-found_at : (id : List ℕ) (geometry : Geometry) (place : ℕ) (content : Content) (sector : Bytes) (found : Option Seal) → sector ≡ sector_of (disk_of content) (FIRST_SEAL + place)
-    → IfSome found (λ s. (sector ≡ seal_sector s) × Belongs id geometry place s) → (IsNone found → (s : Seal) → sector ≡ seal_sector s → ¬ Belongs id geometry place s)
+found_at : (id : List ℕ) (geometry : Geometry) (place : ℕ) (content : Content) (sector : Bytes) (found : Option Seal)
+    → sector ≡ sector_of (disk_of content) (FIRST_SEAL + place)
+    → IfSome found (λ s. (sector ≡ seal_sector s) × Belongs id geometry place s)
+    → (IsNone found → (s : Seal) → sector ≡ seal_sector s → ¬ Belongs id geometry place s)
     → CountedAt id geometry content place found
 found_at id geometry place content sector None is some none = none_counted_there id geometry place content sector is (none refl)
 found_at id geometry place content sector (Some s) is some none = counted_there id geometry place content sector s is some.0 some.1

@@ -1,9 +1,11 @@
 -- An entry's sectors, by row and member, and its body.
-use Rattle.std.proofs.Common.{◌≡◌, ◌≢◌, inl, inr, Bool, true, false, cond, ℕ, zero, suc, ◌+◌, ◌-◌, ◌*◌, ◌<◌, ◌≤◌, List, [], ◌∷◌, ◌++◌, length, drop, get_or, map, refl, sym, subst, ap, ◌∙◌, arith}
+use Rattle.std.proofs.Common.{◌≡◌, ◌≢◌, inl, inr, Bool, true, false, cond, ℕ, zero, suc, ◌+◌, ◌-◌, ◌*◌, ◌<◌, ◌≤◌, List, [], ◌∷◌, ◌++◌, length, drop, get_or}
+use Rattle.std.proofs.Common.{map, refl, sym, subst, ap, ◌∙◌, arith}
 use Rattle.std.specs.Prelude.{Err, Ok, filter}
 use Rattle.std.specs.List.{flat_map, range_with_len}
 use Rattle.std.proofs.lemmas.Bool.{cases_eq}
-use Rattle.std.proofs.lemmas.List.{flat_map_more, length-append, get_or-take, get_or-drop, get_or-set_same, get_or-set_other, get_or_append_left, get_or-append-add, get_or_at, map-append}
+use Rattle.std.proofs.lemmas.List.{flat_map_more, length-append, get_or-take, get_or-drop, get_or-set_same, get_or-set_other, get_or_append_left}
+use Rattle.std.proofs.lemmas.List.{get_or-append-add, get_or_at, map-append}
 use Rattle.std.proofs.lemmas.List.Elements.{filter-append}
 use Rattle.layout_map.specs.declared.sizes.TheConstants.{ENTRY_ROWS, JOURNAL_SECTORS, MOST_MEMBERS}
 use Rattle.sector_model.specs.declared.sector.Stop.{Stop}
@@ -17,7 +19,8 @@ use Rattle.stripe_journal.specs.Forms.{count_held, has_bit, held_before, held_me
 use Rattle.stripe_journal.proofs.Masks.{before_few, count_beyond, rank_before}
 
 -- writes of one list of values after another
-pub writes_both : (device at : ℕ) (first second : List Bytes) → writes_from device at (first ++ second) ≡ writes_from device at first ++ writes_from device (at + length first) second
+pub writes_both : (device at : ℕ) (first second : List Bytes) → writes_from device at (first ++ second) ≡ writes_from device at first
+    ++ writes_from device (at + length first) second
 writes_both device at [] second = ap (λ (n : ℕ). writes_from device n second) (none at)
   where
     none : (at : ℕ) → at ≡ at + 0
@@ -42,12 +45,14 @@ range_more a (suc n) = ap (λ (ks : List ℕ). a ∷ ks) (range_more (a + 1) n) 
 
 -- the sectors of the members that are held
 
-values_more : (value : ℕ → Bytes) (members : List ℕ) (n : ℕ) (b : Bool) → map value (members ++ cond b (n ∷ []) []) ≡ map value members ++ cond b (value n ∷ []) []
+values_more : (value : ℕ → Bytes) (members : List ℕ) (n : ℕ) (b : Bool) → map value (members ++ cond b (n ∷ []) []) ≡ map value members
+    ++ cond b (value n ∷ []) []
 values_more value members n true = map-append value members (n ∷ [])
 values_more value members n false = map-append value members []
 
 -- with one member more
-values_next : (held : ℕ → Bool) (value : ℕ → Bytes) (n : ℕ) → map value (held_members (suc n) held) ≡ map value (held_members n held) ++ cond (held n) (value n ∷ []) []
+values_next : (held : ℕ → Bool) (value : ℕ → Bytes) (n : ℕ) → map value (held_members (suc n) held) ≡ map value (held_members n held)
+    ++ cond (held n) (value n ∷ []) []
 values_next held value n =
     ap (λ (ks : List ℕ). map value (filter held ks)) (range_more 0 n ∙ ap (λ (k : ℕ). range_with_len 0 n ++ k ∷ []) (zero-add n))
     ∙ ap (map value) (filter-append held (range_with_len 0 n) (n ∷ []))
@@ -64,10 +69,12 @@ length_more values value false = length-append values []
 pub length-held : (held : ℕ → Bool) (value : ℕ → Bytes) (n : ℕ) → length (map value (held_members n held)) ≡ count_held held n
 length-held held value zero = refl
 length-held held value (suc n) =
-    ap length (values_next held value n) ∙ length_more (map value (held_members n held)) (value n) (held n) ∙ ap (λ (k : ℕ). k + cond (held n) 1 0) (length-held held value n)
+    ap length (values_next held value n) ∙ length_more (map value (held_members n held)) (value n) (held n)
+    ∙ ap (λ (k : ℕ). k + cond (held n) 1 0) (length-held held value n)
 
 -- and that of a member stands after those of the members below it
-pub value_at : (held : ℕ → Bool) (value : ℕ → Bytes) (n member : ℕ) → held member ≡ true → member < n → get_or (map value (held_members n held)) (count_held held member) [] ≡ value member
+pub value_at : (held : ℕ → Bool) (value : ℕ → Bytes) (n member : ℕ) → held member ≡ true → member < n
+    → get_or (map value (held_members n held)) (count_held held member) [] ≡ value member
 value_at held value zero member is within = absurd (omega (arith, within))
 value_at held value (suc n) member is within =
     let before = map value (held_members n held) in
@@ -90,7 +97,9 @@ abbrev pub held_from : (members mask : ℕ) (row : List Bytes) (member : ℕ) �
 held_from members mask row member = map (λ k. get_or row k []) (filter (has_bit mask) (range_with_len member (members - member)))
 
 held_next : (members mask : ℕ) (row : List Bytes) (member : ℕ) → member < members
-    → held_from members mask row member ≡ map (λ k. get_or row k []) (cond (has_bit mask member) (member ∷ filter (has_bit mask) (range_with_len (member + 1) (members - (member + 1)))) (filter (has_bit mask) (range_with_len (member + 1) (members - (member + 1)))))
+    → held_from members mask row member ≡ map (λ k. get_or row k [])
+    (cond (has_bit mask member) (member ∷ filter (has_bit mask) (range_with_len (member + 1) (members - (member + 1))))
+    (filter (has_bit mask) (range_with_len (member + 1) (members - (member + 1)))))
 held_next members mask row member within =
     let more : members - member ≡ suc (members - (member + 1)) = omega arith in
     ap (λ (k : ℕ). map (λ k. get_or row k []) (filter (has_bit mask) (range_with_len member k))) more
@@ -109,23 +118,29 @@ held_later members mask row member within is =
 
 -- the writes of what a row holds, from one member on
 
-pub held_then : (device at members mask : ℕ) (row : List Bytes) (member : ℕ) (value : Bytes) {answered : Bool} {old mid new : History} (done : Unit {0}) (after : Panel) → member < members → has_bit mask member ≡ true
+pub held_then : (device at members mask : ℕ) (row : List Bytes) (member : ℕ) (value : Bytes) {answered : Bool} {old mid new : History} (done : Unit {0})
+    (after : Panel) → member < members → has_bit mask member ≡ true
     → value ≡ get_or row member [] → mid ≡ after_try (after_write device at value) (Ok done) old → after.down device ≡ false → IsTrueTo after mid
-    → Made (writes_from device (at + 1) (held_from members mask row (member + 1))) answered mid new → Made (writes_from device at (held_from members mask row member)) answered old new
+    → Made (writes_from device (at + 1) (held_from members mask row (member + 1))) answered mid new
+    → Made (writes_from device at (held_from members mask row member)) answered old new
 held_then device at members mask row member value {answered = answered} {old = old} {mid = mid} {new = new} done after within held is write up is_true rest =
     let first = subst (λ (v : Bytes). mid ≡ after_try (after_write device at v) (Ok done) old) is write in
     subst (λ (values : List Bytes). Made (writes_from device at values) answered old new) (sym (held_first members mask row member within held))
     (made_then (Write device at (get_or row member [])) done after first up is_true rest)
 
-pub held_short : (device at members mask : ℕ) (row : List Bytes) (member : ℕ) (value : Bytes) {old new : History} (stop : Stop) → member < members → has_bit mask member ≡ true
-    → value ≡ get_or row member [] → new ≡ after_try (after_write device at value) (Err stop) old → Made (writes_from device at (held_from members mask row member)) false old new
+pub held_short : (device at members mask : ℕ) (row : List Bytes) (member : ℕ) (value : Bytes) {old new : History} (stop : Stop) → member < members
+    → has_bit mask member ≡ true
+    → value ≡ get_or row member [] → new ≡ after_try (after_write device at value) (Err stop) old
+    → Made (writes_from device at (held_from members mask row member)) false old new
 held_short device at members mask row member value {old = old} {new = new} stop within held is write =
     let first = subst (λ (v : Bytes). new ≡ after_try (after_write device at v) (Err stop) old) is write in
     subst (λ (values : List Bytes). Made (writes_from device at values) false old new) (sym (held_first members mask row member within held))
     (made_stop (Write device at (get_or row member [])) stop first)
 
-pub lacking_then : (device at members mask : ℕ) (row : List Bytes) (member : ℕ) {answered : Bool} {old new : History} → member < members → has_bit mask member ≡ false
-    → Made (writes_from device at (held_from members mask row (member + 1))) answered old new → Made (writes_from device at (held_from members mask row member)) answered old new
+pub lacking_then : (device at members mask : ℕ) (row : List Bytes) (member : ℕ) {answered : Bool} {old new : History} → member < members
+    → has_bit mask member ≡ false
+    → Made (writes_from device at (held_from members mask row (member + 1))) answered old new
+    → Made (writes_from device at (held_from members mask row member)) answered old new
 lacking_then device at members mask row member {answered = answered} {old = old} {new = new} within lacking rest =
     subst (λ (values : List Bytes). Made (writes_from device at values) answered old new) (sym (held_later members mask row member within lacking)) rest
 
@@ -147,7 +162,8 @@ body_next members entry i n within =
 
 -- the writes of the body from one row on: the row's, and those of the rows after it
 row_writes : (device at next members : ℕ) (entry : Entry) (i n : ℕ) → i < n → next ≡ at + count_held (holds members (form_of entry) i) members
-    → writes_from device at (body_from members entry i n) ≡ writes_from device at (row_held members entry i) ++ writes_from device next (body_from members entry (i + 1) n)
+    → writes_from device at (body_from members entry i n) ≡ writes_from device at (row_held members entry i)
+    ++ writes_from device next (body_from members entry (i + 1) n)
 row_writes device at next members entry i n within next_is =
     let row = row_held members entry i in
     let rest = body_from members entry (i + 1) n in
@@ -156,7 +172,8 @@ row_writes device at next members entry i n within next_is =
     ∙ writes_both device at row rest
     ∙ ap (λ (m : ℕ). writes_from device at row ++ writes_from device m rest) beyond
 
-pub row_then : (device at next members : ℕ) (entry : Entry) (i n : ℕ) {answered : Bool} {old mid new : History} → i < n → next ≡ at + count_held (holds members (form_of entry) i) members
+pub row_then : (device at next members : ℕ) (entry : Entry) (i n : ℕ) {answered : Bool} {old mid new : History} → i < n
+    → next ≡ at + count_held (holds members (form_of entry) i) members
     → Made (writes_from device at (row_held members entry i)) true old mid → Made (writes_from device next (body_from members entry (i + 1) n)) answered mid new
     → Made (writes_from device at (body_from members entry i n)) answered old new
 row_then device at next members entry i n {answered = answered} {old = old} {new = new} within next_is row rest =
@@ -171,7 +188,8 @@ row_short device at members entry i n {old = old} {new = new} within row =
 
 -- a sector of an entry, written and read
 
-pub sector_there : (entry : Entry) (i member : ℕ) (value : Bytes) → i < ENTRY_ROWS → member < MOST_MEMBERS → sector_at (with_sector entry i member value) i member ≡ value
+pub sector_there : (entry : Entry) (i member : ℕ) (value : Bytes) → i < ENTRY_ROWS → member < MOST_MEMBERS
+    → sector_at (with_sector entry i member value) i member ≡ value
 sector_there entry i member value below within =
     get_or-set_same entry.sectors.items (MOST_MEMBERS * i + member) value [] (omega (arith, entry.whole, entry.sectors.ok.0))
 
@@ -186,7 +204,8 @@ numbers_stay entry i member value = refl
 
 -- the sectors of a row, member by member
 pub row_member : (entry : Entry) (i member : ℕ) → member < MOST_MEMBERS → get_or (row_of entry i) member [] ≡ sector_at entry i member
-row_member entry i member within = get_or-take MOST_MEMBERS (drop (MOST_MEMBERS * i) entry.sectors.items) member [] within ∙ get_or-drop (MOST_MEMBERS * i) entry.sectors.items member []
+row_member entry i member within = get_or-take MOST_MEMBERS (drop (MOST_MEMBERS * i) entry.sectors.items) member [] within
+    ∙ get_or-drop (MOST_MEMBERS * i) entry.sectors.items member []
 
 -- lists, one after another
 lists_next : (f : ℕ → List Bytes) (n : ℕ) → flat_map f (range_with_len 0 (suc n)) ≡ flat_map f (range_with_len 0 n) ++ f n
@@ -198,7 +217,8 @@ lists_next f n =
 
 -- the body of an entry, up to a row
 
-length-rows : (members : ℕ) (entry : Entry) (n : ℕ) → length (flat_map (λ i. row_held members entry i) (range_with_len 0 n)) ≡ held_before members (form_of entry) n
+length-rows : (members : ℕ) (entry : Entry) (n : ℕ) → length (flat_map (λ i. row_held members entry i) (range_with_len 0 n)) ≡ held_before members
+    (form_of entry) n
 length-rows members entry zero = refl
 length-rows members entry (suc n) =
     let before = flat_map (λ i. row_held members entry i) (range_with_len 0 n) in
@@ -206,7 +226,8 @@ length-rows members entry (suc n) =
     ∙ omega (arith, length-rows members entry n, length-row members entry n)
 
 rows_at : (members : ℕ) (entry : Entry) (n i member : ℕ) → i < n → member < members → holds members (form_of entry) i member ≡ true
-    → get_or (flat_map (λ i. row_held members entry i) (range_with_len 0 n)) (rank members (form_of entry) i member) [] ≡ get_or (row_held members entry i) (count_held (holds members (form_of entry) i) member) []
+    → get_or (flat_map (λ i. row_held members entry i) (range_with_len 0 n)) (rank members (form_of entry) i member) [] ≡ get_or (row_held members entry i)
+    (count_held (holds members (form_of entry) i) member) []
 rows_at members entry zero i member below within held = absurd (omega (arith, below))
 rows_at members entry (suc n) i member below within held =
     let before = flat_map (λ i. row_held members entry i) (range_with_len 0 n) in
@@ -229,7 +250,8 @@ rows_at members entry (suc n) i member below within held =
 pub length-body : (members : ℕ) (entry : Entry) → length (body_of members entry) ≡ held_before members (form_of entry) (length (numbers_of entry))
 length-body members entry = length-rows members entry (length (numbers_of entry))
 
-pub body_at : (members : ℕ) (entry : Entry) (i member : ℕ) → members ≤ MOST_MEMBERS → i < length (numbers_of entry) → member < members → holds members (form_of entry) i member ≡ true
+pub body_at : (members : ℕ) (entry : Entry) (i member : ℕ) → members ≤ MOST_MEMBERS → i < length (numbers_of entry) → member < members
+    → holds members (form_of entry) i member ≡ true
     → get_or (body_of members entry) (rank members (form_of entry) i member) [] ≡ sector_at entry i member
 body_at members entry i member few below within held =
     rows_at members entry (length (numbers_of entry)) i member below within held
@@ -237,9 +259,11 @@ body_at members entry i member few below within held =
     ∙ row_member entry i member (omega (arith, few, within))
 
 -- what reads of the journal give there once it is written
-pub body_seen : (device members number : ℕ) (entry : Entry) (h : History) (i member : ℕ) → members ≤ MOST_MEMBERS → i < length (numbers_of entry) → member < members
+pub body_seen : (device members number : ℕ) (entry : Entry) (h : History) (i member : ℕ) → members ≤ MOST_MEMBERS → i < length (numbers_of entry)
+    → member < members
     → holds members (form_of entry) i member ≡ true → JOURNAL_SECTORS ≤ length (seen h device)
-    → sector_of (seen (after_all (writes_from device (body_start number) (body_of members entry)) h) device) (body_start number + rank members (form_of entry) i member) ≡ sector_at entry i member
+    → sector_of (seen (after_all (writes_from device (body_start number) (body_of members entry)) h) device)
+    (body_start number + rank members (form_of entry) i member) ≡ sector_at entry i member
 body_seen device members number entry h i member few below within held room =
     let body = body_of members entry in
     let count = length (numbers_of entry) in

@@ -1,5 +1,6 @@
 -- What a seal may say of the sectors that its entry holds, as tests.
-use Rattle.std.proofs.Common.{◌≡◌, ◌↔◌, ℕ, ◌+◌, ◌-◌, ◌<◌, ◌≤◌, Bool, true, false, List, length, take, drop, get_or, IsTrue, inl, inr, sym, subst, ap, ◌∙◌, arith}
+use Rattle.std.proofs.Common.{◌≡◌, ◌↔◌, ℕ, ◌+◌, ◌-◌, ◌<◌, ◌≤◌, Bool, true, false, List, length, take, drop, get_or, IsTrue, inl, inr, sym, subst, ap, ◌∙◌}
+use Rattle.std.proofs.Common.{arith}
 use Rattle.std.specs.Prelude.{count_ones}
 use Rattle.std.proofs.lemmas.Bool.{cases_lt, false≢true}
 use Rattle.std.proofs.lemmas.List.{get_or-drop, get_or-take, get_or_past, length-drop, length-take, length-take-le}
@@ -28,7 +29,8 @@ back masks count are i within =
     let below : i < ENTRY_ROWS - count = omega (arith, length-take (ENTRY_ROWS - count) (drop count masks)) in
     get_or-take (ENTRY_ROWS - count) (drop count masks) i 0 below ∙ get_or-drop count masks i 0 ∙ are.rest (count + i) (omega arith)
 
-both : (masks : List ℕ) (count : ℕ) → length masks ≡ ENTRY_ROWS → ((i : ℕ) → mask_at masks i < 256) → count ≤ ENTRY_ROWS → HoldTwo (take count masks) → AreZero (beyond masks count) → AreMasks masks count
+both : (masks : List ℕ) (count : ℕ) → length masks ≡ ENTRY_ROWS → ((i : ℕ) → mask_at masks i < 256) → count ≤ ENTRY_ROWS → HoldTwo (take count masks)
+    → AreZero (beyond masks count) → AreMasks masks count
 both masks count long bytes few two zero = record {
   long = long;
   bytes = bytes;
@@ -38,8 +40,10 @@ both masks count long bytes few two zero = record {
     | inl within ↦
         let at : count + (i - count) ≡ i = omega (arith, past_rows) in
         let there : i - count < ENTRY_ROWS - count = omega (arith, past_rows, within) in
-        let full : length (beyond masks count) ≡ ENTRY_ROWS - count = length-take-le (ENTRY_ROWS - count) (drop count masks) (omega (arith, length-drop count masks, long)) in
-        ap (λ (k : ℕ). get_or masks k 0) (sym at) ∙ sym (get_or-drop count masks (i - count) 0) ∙ sym (get_or-take (ENTRY_ROWS - count) (drop count masks) (i - count) 0 there)
+        let full : length (beyond masks count) ≡ ENTRY_ROWS - count =
+        length-take-le (ENTRY_ROWS - count) (drop count masks) (omega (arith, length-drop count masks, long)) in
+        ap (λ (k : ℕ). get_or masks k 0) (sym at) ∙ sym (get_or-drop count masks (i - count) 0)
+        ∙ sym (get_or-take (ENTRY_ROWS - count) (drop count masks) (i - count) 0 there)
         ∙ zero (i - count) (omega (arith, full, there))
     | inr past ↦ get_or_past masks i 0 (omega (arith, long, past))
   ];
@@ -54,8 +58,12 @@ masks_by masks count two zero long bytes few is_two holds is_zero = (
 )
 
 -- a mask of a row has not
-pub no_masks_by : (masks : List ℕ) (count : ℕ) (two : Bool) → count ≤ ENTRY_ROWS → IsTrue two ↔ HoldTwo (take count masks) → two ≡ false → IsTrue two ↔ AreMasks masks count
-no_masks_by masks count two few is_two lacks = (λ holds. absurd (false≢true (sym lacks ∙ holds)), λ are. absurd (false≢true (sym lacks ∙ is_two.1 (front masks count few are))))
+pub no_masks_by : (masks : List ℕ) (count : ℕ) (two : Bool) → count ≤ ENTRY_ROWS → IsTrue two ↔ HoldTwo (take count masks) → two ≡ false → IsTrue two
+    ↔ AreMasks masks count
+no_masks_by masks count two few is_two lacks = (
+  λ holds. absurd (false≢true (sym lacks ∙ holds)),
+  λ are. absurd (false≢true (sym lacks ∙ is_two.1 (front masks count few are))),
+)
 
 -- masks with two bits for each row are a seal's
 pub formed_by : (masks : List ℕ) (count : ℕ) → length masks ≡ ENTRY_ROWS → ((i : ℕ) → mask_at masks i < 256) → ((i : ℕ) → count ≤ i → mask_at masks i ≡ 0)

@@ -24,17 +24,20 @@ count_agrees one other (suc n) same =
     ap (λ (k : ℕ). k + cond (one n) 1 0) (count_agrees one other n (λ m below. same m (omega (arith, below))))
     ∙ ap (λ (b : Bool). count_held other n + cond b 1 0) (same n (omega arith))
 
-before_agrees : (members : ℕ) (one other : Form) (i : ℕ) → ((k m : ℕ) → k < i → m < members → holds members one k m ≡ holds members other k m) → held_before members one i ≡ held_before members other i
+before_agrees : (members : ℕ) (one other : Form) (i : ℕ) → ((k m : ℕ) → k < i → m < members → holds members one k m ≡ holds members other k m)
+    → held_before members one i ≡ held_before members other i
 before_agrees members one other zero same = refl
 before_agrees members one other (suc i) same =
     ap (λ (k : ℕ). k + count_held (holds members one i) members) (before_agrees members one other i (λ k m below. same k m (omega (arith, below))))
     ∙ ap (λ (n : ℕ). held_before members other i + n) (count_agrees (holds members one i) (holds members other i) members (λ m. same i m (omega arith)))
 
-rank_agrees : (members : ℕ) (one other : Form) (i member : ℕ) → ((k m : ℕ) → k ≤ i → m < members → holds members one k m ≡ holds members other k m) → member ≤ members
+rank_agrees : (members : ℕ) (one other : Form) (i member : ℕ) → ((k m : ℕ) → k ≤ i → m < members → holds members one k m ≡ holds members other k m)
+    → member ≤ members
     → rank members one i member ≡ rank members other i member
 rank_agrees members one other i member same within =
     ap (λ (k : ℕ). k + count_held (holds members one i) member) (before_agrees members one other i (λ k m below. same k m (omega (arith, below))))
-    ∙ ap (λ (n : ℕ). held_before members other i + n) (count_agrees (holds members one i) (holds members other i) member (λ m below. same i m (omega arith) (omega (arith, below, within))))
+    ∙ ap (λ (n : ℕ). held_before members other i + n) (count_agrees (holds members one i) (holds members other i) member
+    (λ m below. same i m (omega arith) (omega (arith, below, within))))
 
 -- an entry in memory has the rows of a seal, and holds of them what the seal's entry holds
 pub record IsEntryOf (members : ℕ) (seal : Seal) (entry : Entry) : Type 0 where
@@ -52,16 +55,20 @@ module _ (members : ℕ) (seal : Seal) (entry : Entry) (few : members ≤ MOST_M
       ∙ before_agrees members (form_of entry) seal.form (length seal.rows.items) (λ k m below within. is.held k m below within)
 
   pub rank_of_seal : (i member : ℕ) → i < length seal.rows.items → member < members → rank members (form_of entry) i member ≡ rank members seal.form i member
-  rank_of_seal i member below within = rank_agrees members (form_of entry) seal.form i member (λ k m upto inside. is.held k m (omega (arith, upto, below)) inside) (omega (arith, within))
+  rank_of_seal i member below within = rank_agrees members (form_of entry) seal.form i member
+      (λ k m upto inside. is.held k m (omega (arith, upto, below)) inside) (omega (arith, within))
 
   -- and where it stands the entry on the journal has its sectors, and no other
-  pub sector_of_entry : (disk : List Bytes) → ((k : ℕ) → k < length (body_of members entry) → sector_of disk (body_start seal.number + k) ≡ get_or (body_of members entry) k [])
+  pub sector_of_entry : (disk : List Bytes) → ((k : ℕ) → k < length (body_of members entry)
+      → sector_of disk (body_start seal.number + k) ≡ get_or (body_of members entry) k [])
       → (i member : ℕ) → i < length seal.rows.items → member < members
       → sector_in members (Some disk) seal (row_at seal.rows.items i) member ≡ cond (holds members seal.form i member) (Some (sector_at entry i member)) None
   sector_of_entry disk stands i member below within = by_bit (holds members seal.form i member) refl
     where
-      by_bit : (b : Bool) → holds members seal.form i member ≡ b → sector_in members (Some disk) seal (row_at seal.rows.items i) member ≡ cond b (Some (sector_at entry i member)) None
-      by_bit false lacking = sector_lacking members (Some disk) seal (row_at seal.rows.items i) i member (place_of_row seal.rows.items i seal.allowed.rising below) lacking
+      by_bit : (b : Bool) → holds members seal.form i member ≡ b
+          → sector_in members (Some disk) seal (row_at seal.rows.items i) member ≡ cond b (Some (sector_at entry i member)) None
+      by_bit false lacking = sector_lacking members (Some disk) seal (row_at seal.rows.items i) i member
+          (place_of_row seal.rows.items i seal.allowed.rising below) lacking
       by_bit true held =
           let of_entry : holds members (form_of entry) i member ≡ true = is.held i member below within ∙ held in
           let same : rank members (form_of entry) i member ≡ rank members seal.form i member = rank_of_seal i member below within in
@@ -71,10 +78,12 @@ module _ (members : ℕ) (seal : Seal) (entry : Entry) (few : members ≤ MOST_M
           stands (rank members seal.form i member) inside
           ∙ ap (λ (k : ℕ). get_or (body_of members entry) k []) (sym same)
           ∙ body_at members entry i member few (omega (arith, count_is, below)) within of_entry in
-          sector_held members (Some disk) seal (row_at seal.rows.items i) i member (place_of_row seal.rows.items i seal.allowed.rising below) held ∙ ap Some sector
+          sector_held members (Some disk) seal (row_at seal.rows.items i) i member (place_of_row seal.rows.items i seal.allowed.rising below) held
+          ∙ ap Some sector
 
 -- what is written of an entry stands where the seal with its rows and its form says
-pub bodies_in_place : (members : ℕ) (seal : Seal) (entry : Entry) (i member k : ℕ) → members ≤ MOST_MEMBERS → numbers_of entry ≡ seal.rows.items → form_of entry ≡ seal.form
+pub bodies_in_place : (members : ℕ) (seal : Seal) (entry : Entry) (i member k : ℕ) → members ≤ MOST_MEMBERS → numbers_of entry ≡ seal.rows.items
+    → form_of entry ≡ seal.form
     → i < length seal.rows.items → member < members → place_by_seal members seal (row_at seal.rows.items i) member ≡ Some (body_start seal.number + k)
     → get_or (body_of members entry) k [] ≡ sector_at entry i member
 bodies_in_place members seal entry i member k few rows form below within found = by_bit (holds members seal.form i member) refl

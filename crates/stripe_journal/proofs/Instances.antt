@@ -37,7 +37,8 @@ no_member = refl
 
 -- an entry that holds the parity and a member's sector fits a set, whatever member is lost; one without the parity does not
 
-without_parity : (geometry : Geometry) (row member : ℕ) (held : ℕ → Bool) → IsParityOf geometry.members geometry.chunk row member → held member ≡ false → ¬ HoldsRow geometry row held
+without_parity : (geometry : Geometry) (row member : ℕ) (held : ℕ → Bool) → IsParityOf geometry.members geometry.chunk row member → held member ≡ false
+    → ¬ HoldsRow geometry row held
 without_parity geometry row member held parity lacking fits = false≢true (sym lacking ∙ fits.has_parity member parity)
 
 -- nor does one with a member that the set lacks

@@ -16,7 +16,8 @@ greatest_is_one id geometry content a b long a_is b_is =
     one_counted id geometry content a_is.place a b long a_is.counted (subst (λ (p : ℕ). Counts id geometry content p b) place b_is.counted)
 
 -- where no seal counts there is no greatest
-pub none_is_greatest : (id : List ℕ) (geometry : Geometry) (content : Option (List Bytes)) (seal : Seal) → IsLastSealed id geometry content None → ¬ IsGreatest id geometry content seal
+pub none_is_greatest : (id : List ℕ) (geometry : Geometry) (content : Option (List Bytes)) (seal : Seal) → IsLastSealed id geometry content None
+    → ¬ IsGreatest id geometry content seal
 none_is_greatest id geometry content seal none is = none is.place seal is.counted
 
 -- a journal has one last seal, or none

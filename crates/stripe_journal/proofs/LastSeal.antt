@@ -1,5 +1,6 @@
 -- Every journal has a last seal, or none.
-use Rattle.std.proofs.Common.{◌≡◌, ◌≢◌, ◌⊎◌, inl, inr, ℕ, zero, suc, ◌+◌, ◌-◌, ◌%◌, ◌^◌, ◌<◌, ◌≤◌, true, false, List, [], ◌∷◌, length, take, drop, get_or, Option, Some, None, refl, sym, ◌∙◌, ap, subst, arith}
+use Rattle.std.proofs.Common.{◌≡◌, ◌≢◌, ◌⊎◌, inl, inr, ℕ, zero, suc, ◌+◌, ◌-◌, ◌%◌, ◌^◌, ◌<◌, ◌≤◌, true, false, List, [], ◌∷◌, length, take, drop, get_or}
+use Rattle.std.proofs.Common.{Option, Some, None, refl, sym, ◌∙◌, ap, subst, arith}
 use Rattle.std.specs.Prelude.{IfSome, IsNone, count_ones}
 use Rattle.std.proofs.lemmas.List.{get_or_past}
 use Rattle.std.proofs.lemmas.Bool.{cases_Bool, cases_eq, cases_lt, false≢true, lt-ltb, ltb-true}
@@ -178,7 +179,8 @@ whole_holds geometry row i = record {
 rows_or_not : (geometry : Geometry) (form : Form) (rows : List ℕ) → IsForm form (length rows) → RowsHold geometry form rows ⊎ ¬ RowsHold geometry form rows
 rows_or_not geometry Whole rows formed = inl (λ i within. whole_holds geometry (row_at rows i) i)
 rows_or_not geometry (Held masks) rows formed =
-    each_or_not (λ i. HoldsRow geometry (row_at rows i) (has_bit (mask_at masks i))) (λ i. mask_or_not geometry (row_at rows i) (mask_at masks i) ((formed masks refl).bytes i)) (length rows)
+    each_or_not (λ i. HoldsRow geometry (row_at rows i) (has_bit (mask_at masks i)))
+    (λ i. mask_or_not geometry (row_at rows i) (mask_at masks i) ((formed masks refl).bytes i)) (length rows)
 
 -- What counts in a place of a journal is read of the sector that stands there.
 module _ (id : List ℕ) (geometry : Geometry) (place : ℕ) (content : Option (List Bytes)) (long : length id ≡ 16) where
@@ -245,7 +247,10 @@ module _ (id : List ℕ) (geometry : Geometry) (place : ℕ) (content : Option (
             | inl here ↦ elim (all_below items (rows_of geometry.chunk geometry.stripes) (length items)) [
               | inr not_all ↦ inr (λ seal counts. not_all
                   (subst (AreBelow geometry) (says seal counts).2 counts.belongs.below))
-              | inl below ↦ inl (read_seal allowed formed, record { stands = spelled; belongs = record { of_set = refl; own_place = here; below = below; held = held } })
+              | inl below ↦ inl (
+                read_seal allowed formed,
+                record { stands = spelled; belongs = record { of_set = refl; own_place = here; below = below; held = held } },
+              )
             ]
           ]
         ]
@@ -265,13 +270,15 @@ if_some : (id : List ℕ) (geometry : Geometry) (place : ℕ) (content : Option 
 if_some id geometry place content None none = tt
 if_some id geometry place content (Some seal) counts = counts
 
-if_none : (id : List ℕ) (geometry : Geometry) (place : ℕ) (content : Option (List Bytes)) (found : Option Seal) → CountedAt id geometry content place found → IsNone found
+if_none : (id : List ℕ) (geometry : Geometry) (place : ℕ) (content : Option (List Bytes)) (found : Option Seal) → CountedAt id geometry content place found
+    → IsNone found
     → CountsNone id geometry content place
 if_none id geometry place content None none is = none
 if_none id geometry place content (Some seal) counts is = let no : true ≡ false = is in cc
 
 -- A journal has a last seal, or none.
-pub has_last_seal : (id : List ℕ) (geometry : Geometry) (content : Option (List Bytes)) → length id ≡ 16 → (last : Option Seal) × IsLastSealed id geometry content last
+pub has_last_seal : (id : List ℕ) (geometry : Geometry) (content : Option (List Bytes)) → length id ≡ 16 → (last : Option Seal)
+    × IsLastSealed id geometry content last
 has_last_seal id geometry content long =
     let even = seal_there id geometry 0 content long in
     let odd = seal_there id geometry 1 content long in (

@@ -1,5 +1,6 @@
 -- Bits of masks, and how many sectors rows hold.
-use Rattle.std.proofs.Common.{◌≡◌, ◌≢◌, ◌↔◌, IsTrue, inl, inr, ℕ, zero, suc, ◌+◌, ◌-◌, ◌*◌, ◌/◌, ◌%◌, ◌^◌, ◌<◌, ◌≤◌, Bool, true, false, cond, ◌==◌, nat_lt, replicate, get_or, add-one, refl, sym, subst, ap, ◌∙◌, arith}
+use Rattle.std.proofs.Common.{◌≡◌, ◌≢◌, ◌↔◌, IsTrue, inl, inr, ℕ, zero, suc, ◌+◌, ◌-◌, ◌*◌, ◌/◌, ◌%◌, ◌^◌, ◌<◌, ◌≤◌, Bool, true, false, cond, ◌==◌, nat_lt}
+use Rattle.std.proofs.Common.{replicate, get_or, add-one, refl, sym, subst, ap, ◌∙◌, arith}
 use Rattle.std.proofs.lemmas.List.{get_or-replicate, get_or_past, length-replicate}
 use Rattle.std.proofs.lemmas.Nat.{leading_top, mul-le, pow_pos}
 use Rattle.std.proofs.Math.Nat.{div-eq_of_lt, div-eq_of_lt-le, div-lt_iff_lt-mul, pow-le-pow_right, pow-suc, zero-div}
@@ -19,7 +20,8 @@ full_masks : agree_below full_mask_row (λ fewer. true) 8 ≡ true
 unfolding full_mask_row
 full_masks = refl
 
-pub full_mask : (members member : ℕ) → 1 ≤ members → members ≤ MOST_MEMBERS → member < MOST_MEMBERS → has_bit (255 / 2 ^ (8 - members)) member ≡ nat_lt member members
+pub full_mask : (members member : ℕ) → 1 ≤ members → members ≤ MOST_MEMBERS → member < MOST_MEMBERS
+    → has_bit (255 / 2 ^ (8 - members)) member ≡ nat_lt member members
 unfolding full_mask_row
 full_mask members member least most within =
     let back : 8 - (8 - members) ≡ members = omega arith in
@@ -76,7 +78,8 @@ bit_high mask n byte some low = elim (cases_eq mask 0) [
 ]
 
 -- the mask of a row, by the tests of its bits
-pub fits_by : (geometry : Geometry) (row number mask wide parity : ℕ) (b : Bool) → number ≡ row → wide ≡ mask → IsParityOf geometry.members geometry.chunk number parity
+pub fits_by : (geometry : Geometry) (row number mask wide parity : ℕ) (b : Bool) → number ≡ row → wide ≡ mask
+    → IsParityOf geometry.members geometry.chunk number parity
     → ((m : ℕ) → IsParityOf geometry.members geometry.chunk number m → m ≡ parity)
     → wide / 2 ^ geometry.members ≡ 0 → b ≡ has_bit mask parity → IsTrue b ↔ HoldsRow geometry row (has_bit mask)
 fits_by geometry row number mask wide parity b row_is same is_parity only none is = (
@@ -87,7 +90,8 @@ fits_by geometry row number mask wide parity b row_is same is_parity only none i
   λ fits. is ∙ fits.has_parity parity (subst (λ (r : ℕ). IsParityOf geometry.members geometry.chunk r parity) row_is is_parity),
 )
 
-pub fits_not : (geometry : Geometry) (row mask wide : ℕ) → wide ≡ mask → mask < 256 → wide / 2 ^ geometry.members ≢ 0 → IsTrue (wide / 2 ^ geometry.members == 0) ↔ HoldsRow geometry row (has_bit mask)
+pub fits_not : (geometry : Geometry) (row mask wide : ℕ) → wide ≡ mask → mask < 256 → wide / 2 ^ geometry.members ≢ 0
+    → IsTrue (wide / 2 ^ geometry.members == 0) ↔ HoldsRow geometry row (has_bit mask)
 fits_not geometry row mask wide same byte some = (
   λ none. absurd (some (eqb-true (wide / 2 ^ geometry.members) 0 none)),
   λ fits. absurd (bit_high mask geometry.members byte (λ none. some (ap (λ (k : ℕ). k / 2 ^ geometry.members) same ∙ none)) fits.of_set),
@@ -120,7 +124,8 @@ count_over held n is = ap (count_held held) (add-one n) ∙ count_same held n is
 
 -- more members hold no less
 pub count_grows : (held : ℕ → Bool) (m n : ℕ) → m ≤ n → count_held held m ≤ count_held held n
-count_grows held m zero within = let same : m ≡ zero = omega (arith, within) in subst (λ (k : ℕ). count_held held k ≤ count_held held zero) (sym same) (omega arith)
+count_grows held m zero within = let same : m ≡ zero =
+    omega (arith, within) in subst (λ (k : ℕ). count_held held k ≤ count_held held zero) (sym same) (omega arith)
 count_grows held m (suc n) within = elim (cases_eq m (suc n)) [
   | inl same ↦ subst (λ (k : ℕ). count_held held k ≤ count_held held (suc n)) (sym same) (omega arith)
   | inr other ↦ omega (arith, count_grows held m n (omega (arith, within, other)))
@@ -142,20 +147,23 @@ pub before_few : (members : ℕ) (form : Form) (i : ℕ) → members ≤ MOST_ME
 before_few members form i few most = omega (arith, before_most members form i, mul-le i members ENTRY_ROWS MOST_MEMBERS most few)
 
 pub before_grows : (members : ℕ) (form : Form) (i j : ℕ) → i ≤ j → held_before members form i ≤ held_before members form j
-before_grows members form i zero within = let same : i ≡ zero = omega (arith, within) in subst (λ (k : ℕ). held_before members form k ≤ held_before members form zero) (sym same) (omega arith)
+before_grows members form i zero within = let same : i ≡ zero =
+    omega (arith, within) in subst (λ (k : ℕ). held_before members form k ≤ held_before members form zero) (sym same) (omega arith)
 before_grows members form i (suc j) within = elim (cases_eq i (suc j)) [
   | inl same ↦ subst (λ (k : ℕ). held_before members form k ≤ held_before members form (suc j)) (sym same) (omega arith)
   | inr other ↦ omega (arith, before_grows members form i j (omega (arith, within, other)))
 ]
 
 -- a sector that is held stands before the rows after it
-pub rank_before : (members : ℕ) (form : Form) (i member j : ℕ) → holds members form i member ≡ true → member < members → i < j → rank members form i member < held_before members form j
+pub rank_before : (members : ℕ) (form : Form) (i member j : ℕ) → holds members form i member ≡ true → member < members → i < j
+    → rank members form i member < held_before members form j
 rank_before members form i member j is within below =
     omega (arith, count_beyond (holds members form i) member members is within, before_grows members form (suc i) j (omega (arith, below)))
 
 -- two places in a body are those of one member in one row
 
-rank_apart : (members : ℕ) (form : Form) (i member i' member' : ℕ) → holds members form i member ≡ true → member < members → i < i' → rank members form i member ≢ rank members form i' member'
+rank_apart : (members : ℕ) (form : Form) (i member i' member' : ℕ) → holds members form i member ≡ true → member < members → i < i'
+    → rank members form i member ≢ rank members form i' member'
 rank_apart members form i member i' member' is within below same = omega (arith, same, rank_before members form i member i' is within below)
 
 count_apart : (held : ℕ → Bool) (m n : ℕ) → held m ≡ true → m < n → count_held held m ≢ count_held held n
@@ -170,7 +178,8 @@ same_member held m n is is' same = elim (cases_lt m n) [
   ]
 ]
 
-pub one_rank : (members : ℕ) (form : Form) (i member i' member' : ℕ) → holds members form i member ≡ true → holds members form i' member' ≡ true → member < members → member' < members
+pub one_rank : (members : ℕ) (form : Form) (i member i' member' : ℕ) → holds members form i member ≡ true → holds members form i' member' ≡ true
+    → member < members → member' < members
     → rank members form i member ≡ rank members form i' member' → (i ≡ i') × (member ≡ member')
 one_rank members form i member i' member' is is' within within' same = elim (cases_lt i i') [
   | inl below ↦ absurd (rank_apart members form i member i' member' is within below same)

@@ -1,7 +1,8 @@
 -- The bytes of a seal's sector, by their places.
 use Rattle.std.proofs.Common.{◌≡◌, ℕ, ◌+◌, ◌-◌, ◌*◌, ◌<◌, ◌≤◌, List, ◌++◌, length, take, drop, get_or, refl, sym, ap, ◌∙◌, arith, append_assoc}
 use Rattle.std.specs.List.{flat_map}
-use Rattle.std.proofs.lemmas.List.{drop-drop, drop_at, get_or-drop, get_or-replicate, get_or-take, length-drop, length-take-le, take-append-drop, take_all, take_at}
+use Rattle.std.proofs.lemmas.List.{drop-drop, drop_at, get_or-drop, get_or-replicate, get_or-take, length-drop, length-take-le, take-append-drop, take_all}
+use Rattle.std.proofs.lemmas.List.{take_at}
 use Rattle.layout_map.specs.declared.sizes.TheConstants.{ENTRY_ROWS}
 use Rattle.byteorder.specs.Endian.{little_bytes, little_number}
 use Rattle.byteorder.specs.Numbers.{little_from-append}
@@ -46,16 +47,20 @@ has_fields seal id_long =
     let gap = zeros (128 - 4 * count) in
     let split = rows_split numbers gap (drop 40 sector) fields.rows_are in
     let past : take (128 - 4 * count) (drop (40 + 4 * count) sector) ≡ gap =
-    ap (take (128 - 4 * count)) (sym (drop-drop (4 * count) 40 sector) ∙ ap (drop (4 * count)) split ∙ drop_at numbers (gap ++ drop 128 (drop 40 sector)) (4 * count) (length-numbers rows))
+    ap (take (128 - 4 * count)) (sym (drop-drop (4 * count) 40 sector) ∙ ap (drop (4 * count)) split
+    ∙ drop_at numbers (gap ++ drop 128 (drop 40 sector)) (4 * count) (length-numbers rows))
     ∙ take_at gap (drop 128 (drop 40 sector)) (128 - 4 * count) (length-zeros (128 - 4 * count)) in
     record {
       begins = fields.first_is;
       id_is = fields.id_is;
-      number_is = number_first 8 (drop 24 sector) (omega (arith, length-drop 24 sector)) ∙ number_back 8 seal.number (take 8 (drop 24 sector)) (omega arith) fields.number_is;
-      count_is = number_first 4 (drop 32 sector) (omega (arith, length-drop 32 sector)) ∙ number_back 4 count (take 4 (drop 32 sector)) (omega arith) fields.count_is;
+      number_is = number_first 8 (drop 24 sector) (omega (arith, length-drop 24 sector))
+          ∙ number_back 8 seal.number (take 8 (drop 24 sector)) (omega arith) fields.number_is;
+      count_is = number_first 4 (drop 32 sector) (omega (arith, length-drop 32 sector))
+          ∙ number_back 4 count (take 4 (drop 32 sector)) (omega arith) fields.count_is;
       gap_is = λ at least below. zero_at 36 4 at sector fields.gap_is least (omega arith);
       rows_are = λ i within.
-          ap (little_number 4) (sym (drop-drop (4 * i) 40 sector) ∙ ap (drop (4 * i)) split) ∙ number_at rows (gap ++ drop 128 (drop 40 sector)) i seal.allowed.row_most within;
+          ap (little_number 4) (sym (drop-drop (4 * i) 40 sector) ∙ ap (drop (4 * i)) split)
+          ∙ number_at rows (gap ++ drop 128 (drop 40 sector)) i seal.allowed.row_most within;
       past_is = λ at least below. zero_at (40 + 4 * count) (128 - 4 * count) at sector past least (omega arith);
       masks_are = fields.masks_are;
       rest_is = λ at least below. zero_at 200 304 at sector fields.rest_is least (omega arith);

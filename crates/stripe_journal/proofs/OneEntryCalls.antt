@@ -1,5 +1,6 @@
 -- The calls that put an entry on one journal: what may stand on it at each moment, and that other devices are as they were.
-use Rattle.std.proofs.Common.{◌≡◌, ◌≢◌, ◌⊎◌, inl, inr, ℕ, ◌+◌, ◌<◌, ◌≤◌, Bool, true, false, cond, List, [], ◌∷◌, ◌++◌, length, refl, sym, ◌∙◌, ap, subst, arith, ◌==◌, ◌||◌}
+use Rattle.std.proofs.Common.{◌≡◌, ◌≢◌, ◌⊎◌, inl, inr, ℕ, ◌+◌, ◌<◌, ◌≤◌, Bool, true, false, cond, List, [], ◌∷◌, ◌++◌, length, refl, sym, ◌∙◌, ap, subst, arith}
+use Rattle.std.proofs.Common.{◌==◌, ◌||◌}
 use Rattle.std.specs.Prelude.{slice_index_or, slice_set}
 use Rattle.layout_map.specs.declared.sizes.TheConstants.{BODY_SECTORS, JOURNAL_SECTORS}
 use Rattle.sector_model.specs.declared.event.Event.{Event}
@@ -9,7 +10,8 @@ use Rattle.sector_model.specs.Calls.{Call, Read, Write, Flush, Made, after_all, 
 use Rattle.sector_model.specs.History.{Bytes, History, After, MayHold, is_down, sector_of, seen, start_of}
 use Rattle.sector_model.specs.Moments.{Contents, LeavesWithin, Throughout}
 use Rattle.sector_model.proofs.Replay.{eqb_other}
-use Rattle.sector_model.proofs.Sequences.{AllKeep, IsKeptBy, IsSafe, PutsOnly, after_both, down_after, keep_both, kept_after, kept_both, kept_within, made_all, made_up, safe_kept_as, safe_phase, seen_writes, seen_written, sizes_after, throughout_kept, throughout_made, up_after}
+use Rattle.sector_model.proofs.Sequences.{AllKeep, IsKeptBy, IsSafe, PutsOnly, after_both, down_after, keep_both, kept_after, kept_both, kept_within, made_all}
+use Rattle.sector_model.proofs.Sequences.{made_up, safe_kept_as, safe_phase, seen_writes, seen_written, sizes_after, throughout_kept, throughout_made, up_after}
 use Rattle.sector_model.proofs.Steps.{Puts, may_hold_before}
 use Rattle.stripe_journal.specs.declared.seal.Seal.{Seal}
 use Rattle.stripe_journal.specs.Body.{seal_place}
@@ -39,7 +41,8 @@ stays_off_both devices old mid new first second = record {
 }
 
 -- the same of more devices
-pub stays_off_more : (devices more : ℕ → Type 0) (old new : History) → ((device : ℕ) → devices device → more device) → StaysOff devices old new → StaysOff more old new
+pub stays_off_more : (devices more : ℕ → Type 0) (old new : History) → ((device : ℕ) → devices device → more device) → StaysOff devices old new
+    → StaysOff more old new
 stays_off_more devices more old new also is = record {
   start = is.start;
   stays_down = is.stays_down;
@@ -79,7 +82,8 @@ event_down_other dev (DeviceFailed device) h d is other = down_other device d (i
 
 event_seen_other : (dev : ℕ) (e : Event) (h : History) (d : ℕ) → IsOf dev e → d ≢ dev → seen (After e h) d ≡ seen h d
 event_seen_other dev Quiet h d is other = refl
-event_seen_other dev (Wrote device at value) h d is other = ap (λ (b : Bool). cond b (slice_set (seen h d) at value) (seen h d)) (eqb_other d device (λ same. other (same ∙ is)))
+event_seen_other dev (Wrote device at value) h d is other =
+    ap (λ (b : Bool). cond b (slice_set (seen h d) at value) (seen h d)) (eqb_other d device (λ same. other (same ∙ is)))
 event_seen_other dev (Lost device at value) h d is other = refl
 event_seen_other dev (Flushed device) h d is other = refl
 event_seen_other dev (DeviceFailed device) h d is other = refl
@@ -109,14 +113,16 @@ stays_off_event devices dev e h one is = record {
     apart : (device : ℕ) → ¬ devices device → device ≢ dev
     apart device other same = other (subst devices (sym same) one)
 
-stays_off_fault : (devices : ℕ → Type 0) (dev : ℕ) (fault : Event) (h : History) → devices dev → IsOf dev fault → StaysOff devices h (After (fault_at dev fault h) h)
+stays_off_fault : (devices : ℕ → Type 0) (dev : ℕ) (fault : Event) (h : History) → devices dev → IsOf dev fault
+    → StaysOff devices h (After (fault_at dev fault h) h)
 stays_off_fault devices dev fault h one is = by_state (is_down h dev)
   where
     by_state : (b : Bool) → StaysOff devices h (After (cond b Quiet fault) h)
     by_state true = stays_off_event devices dev Quiet h one tt
     by_state false = stays_off_event devices dev fault h one is
 
-pub stays_off_call : (devices : ℕ → Type 0) (call : Call) (answered : Bool) (h : History) → devices (device_of call) → StaysOff devices h (after_call call answered h)
+pub stays_off_call : (devices : ℕ → Type 0) (call : Call) (answered : Bool) (h : History) → devices (device_of call)
+    → StaysOff devices h (after_call call answered h)
 stays_off_call devices (Read device at) true h one = stays_off_event devices device Quiet h one tt
 stays_off_call devices (Read device at) false h one = stays_off_fault devices device (DeviceFailed device) h one refl
 stays_off_call devices (Write device at value) true h one = stays_off_event devices device (Wrote device at value) h one refl
@@ -126,7 +132,10 @@ stays_off_call devices (Flush device) false h one = stays_off_fault devices devi
 
 -- a call of one of the devices
 pub kept_off : (devices : ℕ → Type 0) (old : History) (call : Call) → devices (device_of call) → IsKeptBy (λ h. StaysOff devices old h) call
-kept_off devices old call one = record { keeps = λ answered h before. stays_off_both devices old h (after_call call answered h) before (stays_off_call devices call answered h one) }
+kept_off devices old call one = record {
+  keeps = λ answered h before. stays_off_both devices old h (after_call call answered h) before
+      (stays_off_call devices call answered h one);
+}
 
 -- each call is of one of the devices
 abbrev pub AllOf : (devices : ℕ → Type 0) → List Call → Type 0
@@ -138,8 +147,10 @@ all_off devices old [] all = tt
 all_off devices old (call ∷ calls) (one, others) = (kept_off devices old call one, all_off devices old calls others)
 
 -- at each moment of calls of these devices the others are as they were
-pub stays_off_calls : (devices : ℕ → Type 0) {calls : List Call} {answered : Bool} {old new : History} → AllOf devices calls → Made calls answered old new → Throughout (λ h. StaysOff devices old h) old new
-stays_off_calls devices {calls = calls} {old = old} all made = throughout_kept (λ h. StaysOff devices old h) (all_off devices old calls all) (stays_off_none devices old) made
+pub stays_off_calls : (devices : ℕ → Type 0) {calls : List Call} {answered : Bool} {old new : History} → AllOf devices calls → Made calls answered old new
+    → Throughout (λ h. StaysOff devices old h) old new
+stays_off_calls devices {calls = calls} {old = old} all made =
+    throughout_kept (λ h. StaysOff devices old h) (all_off devices old calls all) (stays_off_none devices old) made
 
 -- a flush at the end
 
@@ -147,11 +158,13 @@ flushed_last : (dev : ℕ) (calls : List Call) (h : History) → after_all (call
 flushed_last dev calls h = after_both calls (Flush dev ∷ []) h
 
 -- after a flush a crash leaves on the device what reads give
-flushed_after : (dev : ℕ) (h new : History) → new ≡ After (Flushed dev) h → (at : ℕ) (value : Bytes) → MayHold new dev at value → value ≡ sector_of (seen new dev) at
+flushed_after : (dev : ℕ) (h new : History) → new ≡ After (Flushed dev) h → (at : ℕ) (value : Bytes) → MayHold new dev at value
+    → value ≡ sector_of (seen new dev) at
 flushed_after dev h new is at value = subst (λ (g : History). MayHold g dev at value → value ≡ sector_of (seen g dev) at) (sym is) (λ may. may.1 refl)
 
 -- so too after calls that end in one
-pub all_flushed : (dev : ℕ) (calls : List Call) {old new : History} → Made (calls ++ Flush dev ∷ []) true old new → (at : ℕ) (value : Bytes) → MayHold new dev at value → value ≡ sector_of (seen new dev) at
+pub all_flushed : (dev : ℕ) (calls : List Call) {old new : History} → Made (calls ++ Flush dev ∷ []) true old new → (at : ℕ) (value : Bytes)
+    → MayHold new dev at value → value ≡ sector_of (seen new dev) at
 all_flushed dev calls {old = old} {new = new} made = flushed_after dev (after_all calls old) new (made_all made ∙ flushed_last dev calls old)
 
 -- calls that are all answered take no device down
@@ -203,7 +216,8 @@ only_read_read device old at = record {
     read false h before = fault (is_down h device) h before
 
 -- a copy gives what writes alone give
-copied_seen : (from to at : ℕ) (values : List Bytes) (g h : History) → ((d : ℕ) → seen g d ≡ seen h d) → (d : ℕ) → seen (after_all (copied_from from to at values) g) d ≡ seen (after_all (writes_from to at values) h) d
+copied_seen : (from to at : ℕ) (values : List Bytes) (g h : History) → ((d : ℕ) → seen g d ≡ seen h d) → (d : ℕ)
+    → seen (after_all (copied_from from to at values) g) d ≡ seen (after_all (writes_from to at values) h) d
 copied_seen from to at [] g h same d = same d
 copied_seen from to at (value ∷ values) g h same d =
     copied_seen from to (at + 1) values (After (Wrote to at value) (After Quiet g)) (After (Wrote to at value) h)
@@ -212,7 +226,8 @@ copied_seen from to at (value ∷ values) g h same d =
 -- stages
 
 -- before an entry each sector has what reads give
-pub writing_before : (dev : ℕ) (seal : Seal) (body : List Bytes) (h : History) → ((at : ℕ) (value : Bytes) → MayHold h dev at value → value ≡ sector_of (seen h dev) at) → IsOn dev (seen h dev) seal body Writing h
+pub writing_before : (dev : ℕ) (seal : Seal) (body : List Bytes) (h : History)
+    → ((at : ℕ) (value : Bytes) → MayHold h dev at value → value ≡ sector_of (seen h dev) at) → IsOn dev (seen h dev) seal body Writing h
 writing_before dev seal body h flushed = record {
   each = λ at value may. record {
     elsewhere = λ half place. flushed at value may;
@@ -221,21 +236,24 @@ writing_before dev seal body h flushed = record {
   };
 }
 
-pub staged_writing : (disk : List Bytes) (seal : Seal) (body : List Bytes) (at : ℕ) (value : Bytes) → MayStandOn disk seal body Staged at value → MayStandOn disk seal body Writing at value
+pub staged_writing : (disk : List Bytes) (seal : Seal) (body : List Bytes) (at : ℕ) (value : Bytes) → MayStandOn disk seal body Staged at value
+    → MayStandOn disk seal body Writing at value
 staged_writing disk seal body at value is = record {
   elsewhere = is.elsewhere;
   in_half = λ stage. absurd (stage refl);
   in_place = is.in_place;
 }
 
-pub staged_sealing : (disk : List Bytes) (seal : Seal) (body : List Bytes) (at : ℕ) (value : Bytes) → MayStandOn disk seal body Staged at value → MayStandOn disk seal body Sealing at value
+pub staged_sealing : (disk : List Bytes) (seal : Seal) (body : List Bytes) (at : ℕ) (value : Bytes) → MayStandOn disk seal body Staged at value
+    → MayStandOn disk seal body Sealing at value
 staged_sealing disk seal body at value is = record {
   elsewhere = is.elsewhere;
   in_half = λ stage. is.in_half (λ same. cc);
   in_place = λ place. inl (is.in_place place);
 }
 
-pub sealed_sealing : (disk : List Bytes) (seal : Seal) (body : List Bytes) (at : ℕ) (value : Bytes) → MayStandOn disk seal body Sealed at value → MayStandOn disk seal body Sealing at value
+pub sealed_sealing : (disk : List Bytes) (seal : Seal) (body : List Bytes) (at : ℕ) (value : Bytes) → MayStandOn disk seal body Sealed at value
+    → MayStandOn disk seal body Sealing at value
 sealed_sealing disk seal body at value is = record {
   elsewhere = is.elsewhere;
   in_half = λ stage. is.in_half (λ same. cc);
@@ -244,7 +262,8 @@ sealed_sealing disk seal body at value is = record {
 
 module _ (dev : ℕ) (disk : List Bytes) (seal : Seal) (body : List Bytes) where
   -- the same of a journal
-  pub on_more : (stage more : EntryStage) (h : History) → ((at : ℕ) (value : Bytes) → MayStandOn disk seal body stage at value → MayStandOn disk seal body more at value)
+  pub on_more : (stage more : EntryStage) (h : History)
+      → ((at : ℕ) (value : Bytes) → MayStandOn disk seal body stage at value → MayStandOn disk seal body more at value)
       → IsOn dev disk seal body stage h → IsOn dev disk seal body more h
   on_more at_stage more h also is = record { each = λ at value may. also at value (is.each at value may) }
 
@@ -261,7 +280,8 @@ module _ (dev : ℕ) (disk : List Bytes) (seal : Seal) (body : List Bytes) where
   pub on_only_read : (stage : EntryStage) (old h : History) → IsOnlyRead dev old h → IsOn dev disk seal body stage old → IsOn dev disk seal body stage h
   on_only_read at_stage old h read is = record { each = λ at value held. is.each at value (read.may at value held) }
 
-  pub on_other : (stage : EntryStage) (devices : ℕ → Type 0) (old h : History) → ¬ devices dev → StaysOff devices old h → IsOn dev disk seal body stage old → IsOn dev disk seal body stage h
+  pub on_other : (stage : EntryStage) (devices : ℕ → Type 0) (old h : History) → ¬ devices dev → StaysOff devices old h → IsOn dev disk seal body stage old
+      → IsOn dev disk seal body stage h
   on_other at_stage devices old h other off is = record { each = λ at value held. is.each at value (off.others dev at value other held) }
 
   -- as contents
@@ -281,7 +301,8 @@ module _ (dev : ℕ) (disk : List Bytes) (seal : Seal) (body : List Bytes) where
   }
 
   -- a sector of the half of the new entry
-  pub half_put : (at : ℕ) (value : Bytes) → body_start seal.number ≤ at → at < body_start seal.number + BODY_SECTORS → MayStandOn disk seal body Writing at value
+  pub half_put : (at : ℕ) (value : Bytes) → body_start seal.number ≤ at → at < body_start seal.number + BODY_SECTORS
+      → MayStandOn disk seal body Writing at value
   half_put at value least most = record {
     elsewhere = λ half. absurd (half (least, most));
     in_half = λ stage. absurd (stage refl);
@@ -297,7 +318,8 @@ module _ (dev : ℕ) (disk : List Bytes) (seal : Seal) (body : List Bytes) where
   }
 
   -- the body is written, and flushed
-  staged_after : (g : History) → ((k : ℕ) → k < length body → sector_of (seen g dev) (body_start seal.number + k) ≡ slice_index_or body k []) → IsOn dev disk seal body Writing g → IsOn dev disk seal body Staged (After (Flushed dev) g)
+  staged_after : (g : History) → ((k : ℕ) → k < length body → sector_of (seen g dev) (body_start seal.number + k) ≡ slice_index_or body k [])
+      → IsOn dev disk seal body Writing g → IsOn dev disk seal body Staged (After (Flushed dev) g)
   staged_after g has is = record {
     each = λ at value may. let before = is.each at value may.0 in record {
       elsewhere = before.elsewhere;
@@ -307,13 +329,15 @@ module _ (dev : ℕ) (disk : List Bytes) (seal : Seal) (body : List Bytes) where
   }
 
   -- the seal is written, and flushed
-  sealed_after : (g : History) → seal_place seal.number < length (seen g dev) → IsOn dev disk seal body Sealing (After (Wrote dev (seal_place seal.number) (seal_sector seal)) g)
+  sealed_after : (g : History) → seal_place seal.number < length (seen g dev)
+      → IsOn dev disk seal body Sealing (After (Wrote dev (seal_place seal.number) (seal_sector seal)) g)
       → IsOn dev disk seal body Sealed (After (Flushed dev) (After (Wrote dev (seal_place seal.number) (seal_sector seal)) g))
   sealed_after g room is = record {
     each = λ at value may. let before = is.each at value may.0 in record {
       elsewhere = before.elsewhere;
       in_half = λ stage. before.in_half (λ same. cc);
-      in_place = λ place. may.1 refl ∙ ap (sector_of (seen (After (Wrote dev (seal_place seal.number) (seal_sector seal)) g) dev)) place ∙ seen_written dev (seal_place seal.number) (seal_sector seal) g room;
+      in_place = λ place. may.1 refl ∙ ap (sector_of (seen (After (Wrote dev (seal_place seal.number) (seal_sector seal)) g) dev)) place
+          ∙ seen_written dev (seal_place seal.number) (seal_sector seal) g room;
     };
   }
 
@@ -327,9 +351,11 @@ module _ (dev : ℕ) (disk : List Bytes) (seal : Seal) (body : List Bytes) where
   OnAlone stage old h = IsOn dev disk seal body stage h × StaysOff OfDevice old h
 
   kept_at : (stage : EntryStage) (old : History) (call : Call) → PutsOnly (On stage) call → device_of call ≡ dev → IsKeptBy (OnAlone stage old) call
-  kept_at stage old call only one = kept_both (λ h. IsOn dev disk seal body stage h) (λ h. StaysOff OfDevice old h) call (kept_on stage call only) (kept_off OfDevice old call one)
+  kept_at stage old call only one = kept_both (λ h. IsOn dev disk seal body stage h) (λ h. StaysOff OfDevice old h) call (kept_on stage call only)
+      (kept_off OfDevice old call one)
 
-  writes_kept : (old : History) (values : List Bytes) (at : ℕ) → body_start seal.number ≤ at → at + length values ≤ body_start seal.number + BODY_SECTORS → AllKeep (OnAlone Writing old) (writes_from dev at values)
+  writes_kept : (old : History) (values : List Bytes) (at : ℕ) → body_start seal.number ≤ at → at + length values ≤ body_start seal.number + BODY_SECTORS
+      → AllKeep (OnAlone Writing old) (writes_from dev at values)
   writes_kept old [] at least most = tt
   writes_kept old (value ∷ values) at least most = (
     kept_at Writing old (Write dev at value) (λ same. half_put at value least (omega (arith, most))) refl,
@@ -337,19 +363,23 @@ module _ (dev : ℕ) (disk : List Bytes) (seal : Seal) (body : List Bytes) where
   )
 
   body_kept : (old : History) → length body ≤ BODY_SECTORS → AllKeep (OnAlone Writing old) (writes_from dev (body_start seal.number) body ++ Flush dev ∷ [])
-  body_kept old few = keep_both (OnAlone Writing old) (writes_from dev (body_start seal.number) body) (Flush dev ∷ []) (writes_kept old body (body_start seal.number) (omega arith) (omega (arith, few))) (kept_at Writing old (Flush dev) tt refl, tt)
+  body_kept old few = keep_both (OnAlone Writing old) (writes_from dev (body_start seal.number) body) (Flush dev ∷ [])
+      (writes_kept old body (body_start seal.number) (omega arith) (omega (arith, few))) (kept_at Writing old (Flush dev) tt refl, tt)
 
-  body_staged : (old new : History) → length body ≤ BODY_SECTORS → (is_down old dev ≡ false → JOURNAL_SECTORS ≤ length (seen old dev)) → IsOn dev disk seal body Writing old
+  body_staged : (old new : History) → length body ≤ BODY_SECTORS → (is_down old dev ≡ false → JOURNAL_SECTORS ≤ length (seen old dev))
+      → IsOn dev disk seal body Writing old
       → Made (writes_from dev (body_start seal.number) body ++ Flush dev ∷ []) true old new → IsOn dev disk seal body Staged new
   body_staged old new few room is made =
       let calls = writes_from dev (body_start seal.number) body in
       let up = (up_after calls (Flush dev ∷ []) old (made_up made)).0 in
-      let kept = kept_after (OnAlone Writing old) calls old (writes_kept old body (body_start seal.number) (omega arith) (omega (arith, few))) (is, stays_off_none OfDevice old) in
+      let kept = kept_after (OnAlone Writing old) calls old (writes_kept old body (body_start seal.number) (omega arith) (omega (arith, few)))
+      (is, stays_off_none OfDevice old) in
       subst (λ (h : History). IsOn dev disk seal body Staged h) (sym (made_all made ∙ flushed_last dev calls old))
       (staged_after (after_all calls old) (λ k within. seen_writes dev (body_start seal.number) body old k within (omega (arith, few, room up))) kept.0)
 
   -- the body is put on a journal
-  pub body_put : {answered : Bool} (old new : History) → length body ≤ BODY_SECTORS → (is_down old dev ≡ false → JOURNAL_SECTORS ≤ length (seen old dev)) → IsOn dev disk seal body Writing old
+  pub body_put : {answered : Bool} (old new : History) → length body ≤ BODY_SECTORS → (is_down old dev ≡ false → JOURNAL_SECTORS ≤ length (seen old dev))
+      → IsOn dev disk seal body Writing old
       → Made (writes_from dev (body_start seal.number) body ++ Flush dev ∷ []) answered old new
       → Throughout (λ h. IsOn dev disk seal body Writing h × StaysOff (λ d. d ≡ dev) old h) old new × (answered ≡ true → IsPutOn dev disk seal body Staged new)
   body_put old new few room is made = (
@@ -368,11 +398,13 @@ module _ (dev : ℕ) (disk : List Bytes) (seal : Seal) (body : List Bytes) where
   seal_kept : (old : History) → AllKeep (OnAlone Sealing old) (write_seal ∷ Flush dev ∷ [])
   seal_kept old = (kept_at Sealing old write_seal (λ same. place_put) refl, (kept_at Sealing old (Flush dev) tt refl, tt))
 
-  seal_sealed : (old : History) → JOURNAL_SECTORS ≤ length (seen old dev) → IsOn dev disk seal body Staged old → IsOn dev disk seal body Sealed (after_all (write_seal ∷ Flush dev ∷ []) old)
+  seal_sealed : (old : History) → JOURNAL_SECTORS ≤ length (seen old dev) → IsOn dev disk seal body Staged old
+      → IsOn dev disk seal body Sealed (after_all (write_seal ∷ Flush dev ∷ []) old)
   seal_sealed old room is = sealed_after old (omega (arith, room)) ((kept_on Sealing write_seal (λ same. place_put)).keeps true old (is_staged_sealing old is))
 
   -- the seal is put on a journal
-  pub seal_put : {answered : Bool} (old new : History) → (is_down old dev ≡ false → JOURNAL_SECTORS ≤ length (seen old dev)) → IsOn dev disk seal body Staged old
+  pub seal_put : {answered : Bool} (old new : History) → (is_down old dev ≡ false → JOURNAL_SECTORS ≤ length (seen old dev))
+      → IsOn dev disk seal body Staged old
       → Made (Write dev (seal_place seal.number) (seal_sector seal) ∷ Flush dev ∷ []) answered old new
       → Throughout (λ h. IsOn dev disk seal body Sealing h × StaysOff (λ d. d ≡ dev) old h) old new × (answered ≡ true → IsPutOn dev disk seal body Sealed new)
   seal_put old new room is made = (
@@ -412,36 +444,47 @@ module _ (dev : ℕ) (disk : List Bytes) (seal : Seal) (body : List Bytes) where
     begins : (old : History) → IsOn dev disk seal body Writing old → InCopy Writing old old
     begins old is = ((is, stays_off_none OfBoth old), only_read_none from old)
 
-    kept_in : (stage : EntryStage) (old : History) (call : Call) → PutsOnly (On stage) call → OfBoth (device_of call) → IsKeptBy (λ h. IsOnlyRead from old h) call → IsKeptBy (InCopy stage old) call
+    kept_in : (stage : EntryStage) (old : History) (call : Call) → PutsOnly (On stage) call → OfBoth (device_of call)
+        → IsKeptBy (λ h. IsOnlyRead from old h) call → IsKeptBy (InCopy stage old) call
     kept_in stage old call only one read =
         kept_both (λ h. IsOn dev disk seal body stage h × StaysOff OfBoth old h) (λ h. IsOnlyRead from old h) call
         (kept_both (λ h. IsOn dev disk seal body stage h) (λ h. StaysOff OfBoth old h) call (kept_on stage call only) (kept_off OfBoth old call one)) read
 
-    write_kept : (stage : EntryStage) (old : History) (at : ℕ) (value : Bytes) → MayStandOn disk seal body stage at value → IsKeptBy (InCopy stage old) (Write dev at value)
+    write_kept : (stage : EntryStage) (old : History) (at : ℕ) (value : Bytes) → MayStandOn disk seal body stage at value
+        → IsKeptBy (InCopy stage old) (Write dev at value)
     write_kept stage old at value is = kept_in stage old (Write dev at value) (λ same. is) (inl refl) (only_read_other from old (Write dev at value) apart)
 
     flush_kept : (stage : EntryStage) (old : History) → IsKeptBy (InCopy stage old) (Flush dev)
     flush_kept stage old = kept_in stage old (Flush dev) tt (inl refl) (only_read_other from old (Flush dev) apart)
 
-    copied_kept : (old : History) (values : List Bytes) (at : ℕ) → body_start seal.number ≤ at → at + length values ≤ body_start seal.number + BODY_SECTORS → AllKeep (InCopy Writing old) (copied_from from dev at values)
+    copied_kept : (old : History) (values : List Bytes) (at : ℕ) → body_start seal.number ≤ at → at + length values ≤ body_start seal.number + BODY_SECTORS
+        → AllKeep (InCopy Writing old) (copied_from from dev at values)
     copied_kept old [] at least most = tt
     copied_kept old (value ∷ values) at least most = (
       kept_in Writing old (Read from at) tt (inr refl) (only_read_read from old at),
-      (write_kept Writing old at value (half_put at value least (omega (arith, most))), copied_kept old values (at + 1) (omega (arith, least)) (omega (arith, most))),
+      (
+        write_kept Writing old at value (half_put at value least (omega (arith, most))),
+        copied_kept old values (at + 1) (omega (arith, least))
+            (omega (arith, most)),
+      ),
     )
 
     body_copied : (old : History) → length body ≤ BODY_SECTORS → IsOn dev disk seal body Writing old → InCopy Writing old (after_all copied old)
-    body_copied old few is = kept_after (InCopy Writing old) copied old (copied_kept old body (body_start seal.number) (omega arith) (omega (arith, few))) (begins old is)
+    body_copied old few is = kept_after (InCopy Writing old) copied old (copied_kept old body (body_start seal.number) (omega arith) (omega (arith, few)))
+        (begins old is)
 
-    copied_staged : (old : History) → length body ≤ BODY_SECTORS → JOURNAL_SECTORS ≤ length (seen old dev) → IsOn dev disk seal body Writing old → IsOn dev disk seal body Staged (After (Flushed dev) (after_all copied old))
+    copied_staged : (old : History) → length body ≤ BODY_SECTORS → JOURNAL_SECTORS ≤ length (seen old dev) → IsOn dev disk seal body Writing old
+        → IsOn dev disk seal body Staged (After (Flushed dev) (after_all copied old))
     copied_staged old few room is =
         staged_after (after_all copied old)
-        (λ k within. ap (λ (l : List Bytes). sector_of l (body_start seal.number + k)) (copied_seen from dev (body_start seal.number) body old old (λ d. refl) dev)
+        (λ k within. ap (λ (l : List Bytes). sector_of l (body_start seal.number + k))
+        (copied_seen from dev (body_start seal.number) body old old (λ d. refl) dev)
         ∙ seen_writes dev (body_start seal.number) body old k within (omega (arith, few, room)))
         (body_copied old few is).0.0
 
     -- every moment of the calls of a copy
-    copy_safe : (old : History) → length body ≤ BODY_SECTORS → (is_down old dev ≡ false → JOURNAL_SECTORS ≤ length (seen old dev)) → IsOn dev disk seal body Writing old → IsSafe (Copies old) (copy_calls from dev seal body) old
+    copy_safe : (old : History) → length body ≤ BODY_SECTORS → (is_down old dev ≡ false → JOURNAL_SECTORS ≤ length (seen old dev))
+        → IsOn dev disk seal body Writing old → IsSafe (Copies old) (copy_calls from dev seal body) old
     copy_safe old few room is =
         let g = after_all copied old in
         let in_body = body_copied old few is in
@@ -459,7 +502,8 @@ module _ (dev : ℕ) (disk : List Bytes) (seal : Seal) (body : List Bytes) where
         )
 
     -- and its end
-    copy_done : (old new : History) → length body ≤ BODY_SECTORS → (is_down old dev ≡ false → JOURNAL_SECTORS ≤ length (seen old dev)) → IsOn dev disk seal body Writing old
+    copy_done : (old new : History) → length body ≤ BODY_SECTORS → (is_down old dev ≡ false → JOURNAL_SECTORS ≤ length (seen old dev))
+        → IsOn dev disk seal body Writing old
         → Made (copy_calls from dev seal body) true old new → IsPutOn dev disk seal body Sealed new
     copy_done old new few room is made =
         let rest : List Call = Flush dev ∷ write_seal ∷ Flush dev ∷ [] in
@@ -467,15 +511,18 @@ module _ (dev : ℕ) (disk : List Bytes) (seal : Seal) (body : List Bytes) where
         let g = After (Flushed dev) (after_all copied old) in
         let ends = made_all made ∙ after_both copied rest old in
         record {
-          on = subst (λ (h : History). IsOn dev disk seal body Sealed h) (sym ends) (seal_sealed g (omega (arith, room up, sizes_after copied old dev)) (copied_staged old few (room up) is));
+          on = subst (λ (h : History). IsOn dev disk seal body Sealed h) (sym ends)
+              (seal_sealed g (omega (arith, room up, sizes_after copied old dev)) (copied_staged old few (room up) is));
           flushed = flushed_after dev (After (Wrote dev (seal_place seal.number) (seal_sector seal)) g) new ends;
           up = made_down made dev ∙ up;
         }
 
     -- an entry is copied to a journal
-    pub copy_put : {answered : Bool} (old new : History) → length body ≤ BODY_SECTORS → (is_down old dev ≡ false → JOURNAL_SECTORS ≤ length (seen old dev)) → IsOn dev disk seal body Writing old
+    pub copy_put : {answered : Bool} (old new : History) → length body ≤ BODY_SECTORS → (is_down old dev ≡ false → JOURNAL_SECTORS ≤ length (seen old dev))
+        → IsOn dev disk seal body Writing old
         → Made (copy_calls from dev seal body) answered old new
-        → Throughout (λ h. (IsOn dev disk seal body Writing h ⊎ IsOn dev disk seal body Sealing h) × StaysOff (λ d. (d ≡ dev) ⊎ (d ≡ from)) old h × IsOnlyRead from old h) old new
+        → Throughout (λ h. (IsOn dev disk seal body Writing h ⊎ IsOn dev disk seal body Sealing h) × StaysOff (λ d. (d ≡ dev) ⊎ (d ≡ from)) old h
+        × IsOnlyRead from old h) old new
         × (answered ≡ true → IsPutOn dev disk seal body Sealed new)
     copy_put old new few room is made = (
       throughout_made (Copies old) (copy_safe old few room is) made,

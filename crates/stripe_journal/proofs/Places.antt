@@ -1,5 +1,6 @@
 -- Where rows stand in a seal's list of rows.
-use Rattle.std.proofs.Common.{◌≡◌, ◌≢◌, ℕ, zero, suc, ◌+◌, ◌<◌, ◌≤◌, Bool, true, false, cond, ◌==◌, List, [], ◌∷◌, length, refl, sym, subst, ap, ◌∙◌, arith, Option, Some, None}
+use Rattle.std.proofs.Common.{◌≡◌, ◌≢◌, ℕ, zero, suc, ◌+◌, ◌<◌, ◌≤◌, Bool, true, false, cond, ◌==◌, List, [], ◌∷◌, length, refl, sym, subst, ap, ◌∙◌, arith}
+use Rattle.std.proofs.Common.{Option, Some, None}
 use Rattle.std.specs.Prelude.{option_map}
 use Rattle.std.specs.List.Sorted.{IsStrictlyIncreasing}
 use Rattle.std.proofs.lemmas.Bool.{eq-eqb, eqb-true, false≢true}
@@ -51,7 +52,8 @@ found_after first row i rows (Some k) there found =
     let next : i ≡ suc k = omega arith in
     (omega (arith, (there k refl).0), ap (row_at (first ∷ rows)) next ∙ (there k refl).1)
 
-found_by : (first row i : ℕ) (rows : List ℕ) (b : Bool) → (first == row) ≡ b → ((k : ℕ) → place_in rows row ≡ Some k → (k < length rows) × (row_at rows k ≡ row))
+found_by : (first row i : ℕ) (rows : List ℕ) (b : Bool) → (first == row) ≡ b
+    → ((k : ℕ) → place_in rows row ≡ Some k → (k < length rows) × (row_at rows k ≡ row))
     → cond b (Some 0) (option_map (λ i. i + 1) (place_in rows row)) ≡ Some i → (i < length (first ∷ rows)) × (row_at (first ∷ rows) i ≡ row)
 found_by first row i rows true same there found =
     let is : 0 ≡ i = cc in
@@ -80,7 +82,8 @@ no_row_without_place (first ∷ rows) row (suc i) none within =
 
 -- where a search for the first place of a row ends
 
-pub place_first : (rows : List ℕ) (place row : ℕ) → ((k : ℕ) → k < place → row_at rows k ≢ row) → place < length rows → row_at rows place ≡ row → place_in rows row ≡ Some place
+pub place_first : (rows : List ℕ) (place row : ℕ) → ((k : ℕ) → k < place → row_at rows k ≢ row) → place < length rows → row_at rows place ≡ row
+    → place_in rows row ≡ Some place
 place_first [] place row before within is = absurd (omega arith)
 place_first (first ∷ rows) zero row before within is = ap (λ (b : Bool). cond b (Some 0) (option_map (λ i. i + 1) (place_in rows row))) (eq-eqb first row is)
 place_first (first ∷ rows) (suc place) row before within is =

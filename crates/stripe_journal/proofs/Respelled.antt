@@ -1,9 +1,11 @@
 -- A sector with each field of a seal in its place is the seal's spelling.
-use Rattle.std.proofs.Common.{◌≡◌, ℕ, suc, ◌+◌, ◌-◌, ◌*◌, ◌<◌, ◌≤◌, List, [], ◌∷◌, ◌++◌, length, take, drop, get_or, inl, inr, sym, ap, ◌∙◌, arith, append_assoc}
+use Rattle.std.proofs.Common.{◌≡◌, ℕ, suc, ◌+◌, ◌-◌, ◌*◌, ◌<◌, ◌≤◌, List, [], ◌∷◌, ◌++◌, length, take, drop, get_or, inl, inr, sym, ap, ◌∙◌, arith}
+use Rattle.std.proofs.Common.{append_assoc}
 use Rattle.std.specs.Int.{w32, w64, from_le_bytes}
 use Rattle.std.specs.List.{flat_map}
 use Rattle.std.proofs.lemmas.Bool.{cases_lt}
-use Rattle.std.proofs.lemmas.List.{drop-drop, ext_get_or, get_or-drop, get_or-replicate, get_or-take, get_or_past, length-drop, length-replicate, length-take, length-take-le, take-append-drop}
+use Rattle.std.proofs.lemmas.List.{drop-drop, ext_get_or, get_or-drop, get_or-replicate, get_or-take, get_or_past, length-drop, length-replicate, length-take}
+use Rattle.std.proofs.lemmas.List.{length-take-le, take-append-drop}
 use Rattle.std.proofs.lemmas.Nat.{le_bytes_4, le_bytes_8}
 use Rattle.byteorder.specs.Endian.{little_bytes, little_number}
 use Rattle.stripe_journal.specs.declared.seal.Seal.{Seal}
@@ -42,7 +44,8 @@ cut at n xs = sym (take-append-drop n (drop at xs)) ∙ ap (λ (ys : List ℕ). 
 
 -- four bytes for each row are the rows' spelling
 rows_again : (rows : List ℕ) (at : ℕ) (sector : List ℕ) → at + 4 * length rows ≤ length sector → ((k : ℕ) → get_or sector k 0 < 256)
-    → ((i : ℕ) → i < length rows → little_number 4 (drop (at + 4 * i) sector) ≡ get_or rows i 0) → drop at sector ≡ flat_map (little_bytes 4) rows ++ drop (at + 4 * length rows) sector
+    → ((i : ℕ) → i < length rows → little_number 4 (drop (at + 4 * i) sector) ≡ get_or rows i 0) → drop at sector ≡ flat_map (little_bytes 4) rows
+    ++ drop (at + 4 * length rows) sector
 rows_again [] at sector long bytes each = ap (λ (k : ℕ). drop k sector) (none at)
   where
     none : (at : ℕ) → at ≡ at + 4 * 0
@@ -50,9 +53,11 @@ rows_again [] at sector long bytes each = ap (λ (k : ℕ). drop k sector) (none
 rows_again (row ∷ rows) at sector long bytes each =
     let piece = take 4 (drop at sector) in
     let there : 4 ≤ length (drop at sector) = omega (arith, length-drop at sector) in
-    let first : little_number 4 piece ≡ row = sym (number_first 4 (drop at sector) there) ∙ ap (λ (k : ℕ). little_number 4 (drop k sector)) (none at) ∙ each 0 (omega arith) in
+    let first : little_number 4 piece ≡ row = sym (number_first 4 (drop at sector) there) ∙ ap (λ (k : ℕ). little_number 4 (drop k sector)) (none at)
+    ∙ each 0 (omega arith) in
     let spelled : piece ≡ little_bytes 4 row = four_again piece row (length-take-le 4 (drop at sector) there) (part_bytes 4 at sector bytes) first in
-    let rest = rows_again rows (at + 4) sector (omega arith) bytes (λ i within. ap (λ (k : ℕ). little_number 4 (drop k sector)) (on at i) ∙ each (suc i) (omega arith)) in
+    let rest = rows_again rows (at + 4) sector (omega arith) bytes (λ i within. ap (λ (k : ℕ). little_number 4 (drop k sector)) (on at i)
+    ∙ each (suc i) (omega arith)) in
     cut at 4 sector
     ∙ ap (λ (xs : List ℕ). xs ++ drop (at + 4) sector) spelled
     ∙ ap (λ (xs : List ℕ). little_bytes 4 row ++ xs) rest
@@ -69,8 +74,10 @@ rows_again (row ∷ rows) at sector long bytes each =
     past at rows = omega arith
 
 -- nine parts, one after the other
-joined : (sector mark id number count gap rows past masks rest end : List ℕ) (n : ℕ) → sector ≡ mark ++ drop 8 sector → drop 8 sector ≡ id ++ drop 24 sector → drop 24 sector ≡ number ++ drop 32 sector
-    → drop 32 sector ≡ count ++ drop 36 sector → drop 36 sector ≡ gap ++ drop 40 sector → drop 40 sector ≡ rows ++ drop n sector → drop n sector ≡ past ++ drop 168 sector
+joined : (sector mark id number count gap rows past masks rest end : List ℕ) (n : ℕ) → sector ≡ mark ++ drop 8 sector → drop 8 sector ≡ id ++ drop 24 sector
+    → drop 24 sector ≡ number ++ drop 32 sector
+    → drop 32 sector ≡ count ++ drop 36 sector → drop 36 sector ≡ gap ++ drop 40 sector → drop 40 sector ≡ rows ++ drop n sector → drop n sector ≡ past
+    ++ drop 168 sector
     → drop 168 sector ≡ masks ++ drop 200 sector → drop 200 sector ≡ rest ++ drop 504 sector → drop 504 sector ≡ end
     → sector ≡ mark ++ id ++ number ++ count ++ gap ++ (rows ++ past) ++ masks ++ rest ++ end
 joined sector mark id number count gap rows past masks rest end n p0 p1 p2 p3 p4 p5 p6 p7 p8 p9 =
@@ -106,11 +113,14 @@ respelled sector seal long bytes fields =
     let past_long : filler ≤ length (drop past sector) = omega (arith, length-drop past sector) in
     let rest_long : 304 ≤ length (drop 200 sector) = omega (arith, length-drop 200 sector) in
     let number_is : number_part ≡ little_bytes 8 seal.number =
-    eight_again number_part seal.number (length-take-le 8 (drop 24 sector) number_long) (part_bytes 8 24 sector bytes) (sym (number_first 8 (drop 24 sector) number_long) ∙ fields.number_is) in
+    eight_again number_part seal.number (length-take-le 8 (drop 24 sector) number_long) (part_bytes 8 24 sector bytes)
+    (sym (number_first 8 (drop 24 sector) number_long) ∙ fields.number_is) in
     let count_is : count_part ≡ little_bytes 4 count =
-    four_again count_part count (length-take-le 4 (drop 32 sector) count_long) (part_bytes 4 32 sector bytes) (sym (number_first 4 (drop 32 sector) count_long) ∙ fields.count_is) in
+    four_again count_part count (length-take-le 4 (drop 32 sector) count_long) (part_bytes 4 32 sector bytes)
+    (sym (number_first 4 (drop 32 sector) count_long) ∙ fields.count_is) in
     let gap_is : gap_part ≡ zeros 4 =
-    zeros_again 4 gap_part (length-take-le 4 (drop 36 sector) gap_long) (λ k within. get_or-take 4 (drop 36 sector) k 0 within ∙ get_or-drop 36 sector k 0 ∙ fields.gap_is (36 + k) (omega arith) (omega arith)) in
+    zeros_again 4 gap_part (length-take-le 4 (drop 36 sector) gap_long) (λ k within. get_or-take 4 (drop 36 sector) k 0 within ∙ get_or-drop 36 sector k 0
+    ∙ fields.gap_is (36 + k) (omega arith) (omega arith)) in
     let past_is : past_part ≡ zeros filler =
     zeros_again filler past_part (length-take-le filler (drop past sector) past_long)
     (λ k within. get_or-take filler (drop past sector) k 0 within ∙ get_or-drop past sector k 0 ∙ fields.past_is (past + k) (omega arith) (omega arith)) in
@@ -118,7 +128,8 @@ respelled sector seal long bytes fields =
     zeros_again 304 rest_part (length-take-le 304 (drop 200 sector) rest_long)
     (λ k within. get_or-take 304 (drop 200 sector) k 0 within ∙ get_or-drop 200 sector k 0 ∙ fields.rest_is (200 + k) (omega arith) (omega arith)) in
     let end : past + filler ≡ 168 = omega arith in
-    joined sector (first_mark seal.form) seal.id (little_bytes 8 seal.number) (little_bytes 4 count) (zeros 4) (flat_map (little_bytes 4) rows) (zeros filler) (masks_of seal.form) (zeros 304) (last_mark seal.form) past
+    joined sector (first_mark seal.form) seal.id (little_bytes 8 seal.number) (little_bytes 4 count) (zeros 4) (flat_map (little_bytes 4) rows) (zeros filler)
+    (masks_of seal.form) (zeros 304) (last_mark seal.form) past
     (cut 0 8 sector ∙ ap (λ (xs : List ℕ). xs ++ drop 8 sector) fields.begins)
     (cut 8 16 sector ∙ ap (λ (xs : List ℕ). xs ++ drop 24 sector) fields.id_is)
     (cut 24 8 sector ∙ ap (λ (xs : List ℕ). xs ++ drop 32 sector) number_is)

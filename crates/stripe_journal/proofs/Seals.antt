@@ -28,7 +28,15 @@ IsForm-prop form count = hlevel props
 
 -- the seal with this id, number, rows and form
 seal_of : (id : List ℕ) (number : ℕ) (rows : List ℕ) (form : Form) → IsSeal number rows → IsForm form (length rows) → Seal
-seal_of id number rows form allowed formed = record { id = id; number = number; rows = record { items = rows }; form = form; allowed = allowed; formed = formed }
+seal_of id number rows form allowed formed = record {
+  id = id;
+  number = number;
+  rows = record { items = rows };
+  form = form;
+  allowed = allowed;
+  formed =
+      formed;
+}
 
 -- a seal is known by its id, number, rows and form
 pub same_seal : (a b : Seal) → a.id ≡ b.id → a.number ≡ b.number → a.rows.items ≡ b.rows.items → a.form ≡ b.form → a ≡ b

@@ -1,6 +1,8 @@
 -- The spelling of a seal, field by field.
-use Rattle.std.proofs.Common.{◌≡◌, ◌≢◌, ◌==◌, Bool, true, false, cond, ℕ, zero, suc, ◌+◌, ◌-◌, ◌*◌, ◌^◌, ◌<◌, ◌≤◌, List, [], ◌∷◌, ◌++◌, length, take, drop, replicate, get_or, refl, sym, ap, ◌∙◌, arith, length-append, append_assoc}
-use Rattle.std.proofs.lemmas.List.{append-nil, take_at, drop_at, drop_all, drop-replicate, length-replicate, length-take, length-take-le, get_or-take, ext_get_or}
+use Rattle.std.proofs.Common.{◌≡◌, ◌≢◌, ◌==◌, Bool, true, false, cond, ℕ, zero, suc, ◌+◌, ◌-◌, ◌*◌, ◌^◌, ◌<◌, ◌≤◌, List, [], ◌∷◌, ◌++◌, length, take, drop}
+use Rattle.std.proofs.Common.{replicate, get_or, refl, sym, ap, ◌∙◌, arith, length-append, append_assoc}
+use Rattle.std.proofs.lemmas.List.{append-nil, take_at, drop_at, drop_all, drop-replicate, length-replicate, length-take, length-take-le, get_or-take}
+use Rattle.std.proofs.lemmas.List.{ext_get_or}
 use Rattle.std.proofs.lemmas.Bool.{eq-eqb, ne_eqb}
 use borrow.Rule.Slice.PartMut.{put_mid}
 use Rattle.stripe_journal.specs.declared.form.Form.{Form}
@@ -114,9 +116,11 @@ length-numbers (row ∷ rows) =
     omega (arith, length-append (little_bytes 4 row) (flat_map (little_bytes 4) rows))
 
 -- the bytes of a sector to which fields are written, one after the other
-pub composed : (mark id number count rows masks end start : List ℕ) → start ≡ started [] → length mark ≡ 8 → length id ≡ 16 → length number ≡ 8 → length count ≡ 4 → length rows ≤ 128
+pub composed : (mark id number count rows masks end start : List ℕ) → start ≡ started [] → length mark ≡ 8 → length id ≡ 16 → length number ≡ 8
+    → length count ≡ 4 → length rows ≤ 128
     → length masks ≡ 32 → length end ≡ 8
-    → put_mid 504 8 (put_mid 168 32 (put_mid 40 (length rows) (put_mid 32 4 (put_mid 24 8 (put_mid 8 16 (put_mid 0 8 start mark) id) number) count) rows) masks) end
+    → put_mid 504 8 (put_mid 168 32 (put_mid 40 (length rows) (put_mid 32 4 (put_mid 24 8 (put_mid 8 16 (put_mid 0 8 start mark) id) number) count) rows) masks)
+    end
     ≡ mark ++ id ++ number ++ count ++ zeros 4 ++ (rows ++ zeros (128 - length rows)) ++ masks ++ zeros 304 ++ end
 composed mark id number count rows masks end start clear mark_long id_long number_long count_long few masks_long end_long =
     let with_id = mark ++ id in
@@ -141,30 +145,39 @@ composed mark id number count rows masks end start clear mark_long id_long numbe
     let at2 = started_more 24 8 with_id number (put_mid 8 16 (put_mid 0 8 start mark) id) long1 number_long (omega arith) at1 in
     let at3 = started_more 32 4 with_number count (put_mid 24 8 (put_mid 8 16 (put_mid 0 8 start mark) id) number) long2 count_long (omega arith) at2 in
     let at4 = at3 ∙ started_zeros 4 with_count (omega arith) in
-    let at5 = started_more 40 (length rows) with_gap rows (put_mid 32 4 (put_mid 24 8 (put_mid 8 16 (put_mid 0 8 start mark) id) number) count) long4 refl (omega arith) at4 in
+    let at5 = started_more 40 (length rows) with_gap rows (put_mid 32 4 (put_mid 24 8 (put_mid 8 16 (put_mid 0 8 start mark) id) number) count) long4 refl
+    (omega arith) at4 in
     let at6 = at5 ∙ started_zeros (128 - length rows) with_rows (omega arith) in
     let at7 = started_more 168 32 with_rest masks
     (put_mid 40 (length rows) (put_mid 32 4 (put_mid 24 8 (put_mid 8 16 (put_mid 0 8 start mark) id) number) count) rows) long6 masks_long (omega arith) at6
     ∙ started_zeros 304 with_masks (omega arith) in
     let at8 = started_more 504 8 with_zeros end
-    (put_mid 168 32 (put_mid 40 (length rows) (put_mid 32 4 (put_mid 24 8 (put_mid 8 16 (put_mid 0 8 start mark) id) number) count) rows) masks) long8 end_long (omega arith) at7 in
+    (put_mid 168 32 (put_mid 40 (length rows) (put_mid 32 4 (put_mid 24 8 (put_mid 8 16 (put_mid 0 8 start mark) id) number) count) rows) masks) long8 end_long
+    (omega arith) at7 in
     at8 ∙ started_all (with_zeros ++ end) long9 ∙ simp append_assoc
 
 -- a sector to which the fields of a seal are written spells the seal
-pub spelled : (id rows start m i n c r s e : List ℕ) (k number : ℕ) (form : Form) → start ≡ started [] → length id ≡ 16 → length rows ≤ ENTRY_ROWS → IsForm form (length rows)
-    → m ≡ first_mark form → i ≡ id → n ≡ little_bytes 8 number → c ≡ little_bytes 4 (length rows) → r ≡ flat_map (little_bytes 4) rows → s ≡ masks_of form → e ≡ last_mark form
-    → k ≡ length r → put_mid 504 8 (put_mid 168 32 (put_mid 40 k (put_mid 32 4 (put_mid 24 8 (put_mid 8 16 (put_mid 0 8 start m) i) n) c) r) s) e ≡ seal_bytes id number rows form
+pub spelled : (id rows start m i n c r s e : List ℕ) (k number : ℕ) (form : Form) → start ≡ started [] → length id ≡ 16 → length rows ≤ ENTRY_ROWS
+    → IsForm form (length rows)
+    → m ≡ first_mark form → i ≡ id → n ≡ little_bytes 8 number → c ≡ little_bytes 4 (length rows) → r ≡ flat_map (little_bytes 4) rows → s ≡ masks_of form
+    → e ≡ last_mark form
+    → k ≡ length r → put_mid 504 8 (put_mid 168 32 (put_mid 40 k (put_mid 32 4 (put_mid 24 8 (put_mid 8 16 (put_mid 0 8 start m) i) n) c) r) s) e ≡ seal_bytes
+    id number rows form
 unfolding seal_bytes row_numbers
 spelled id rows start m i n c r s e k number form clear id_long few formed m_is i_is n_is c_is r_is s_is e_is k_is =
     let row_bytes = flat_map (little_bytes 4) rows in
     let rows_long : length row_bytes ≡ 4 * length rows = length-numbers rows in
     rw (m_is, i_is, e_is, s_is, k_is, r_is, n_is, c_is)
-    (composed (first_mark form) id (little_bytes 8 number) (little_bytes 4 (length rows)) row_bytes (masks_of form) (last_mark form) start clear (length-first_mark form) id_long
-    (length-bytes_low_first 0 8 number) (length-bytes_low_first 0 4 (length rows)) (omega arith) (length-masks form (length rows) formed) (length-last_mark form)
-    ∙ ap (λ (z : ℕ). first_mark form ++ id ++ little_bytes 8 number ++ little_bytes 4 (length rows) ++ zeros 4 ++ (row_bytes ++ zeros (128 - z)) ++ masks_of form ++ zeros 304 ++ last_mark form) rows_long)
+    (composed (first_mark form) id (little_bytes 8 number) (little_bytes 4 (length rows)) row_bytes (masks_of form) (last_mark form) start clear
+    (length-first_mark form) id_long
+    (length-bytes_low_first 0 8 number) (length-bytes_low_first 0 4 (length rows)) (omega arith) (length-masks form (length rows) formed)
+    (length-last_mark form)
+    ∙ ap (λ (z : ℕ). first_mark form ++ id ++ little_bytes 8 number ++ little_bytes 4 (length rows) ++ zeros 4 ++ (row_bytes ++ zeros (128 - z))
+    ++ masks_of form ++ zeros 304 ++ last_mark form) rows_long)
 
 -- the bytes of a field
-pub field_at : (at n : ℕ) (front field rest sector : List ℕ) → sector ≡ front ++ (field ++ rest) → length front ≡ at → length field ≡ n → take n (drop at sector) ≡ field
+pub field_at : (at n : ℕ) (front field rest sector : List ℕ) → sector ≡ front ++ (field ++ rest) → length front ≡ at → length field ≡ n
+    → take n (drop at sector) ≡ field
 field_at at n front field rest sector is front_long field_long =
     ap (λ (xs : List ℕ). take n (drop at xs)) is ∙ ap (take n) (drop_at front (field ++ rest) at front_long) ∙ take_at field rest n field_long
 
@@ -193,7 +206,8 @@ record Parts (mark id number count gap rows masks rest end sector : List ℕ) : 
   pub part8 : take 8 (drop 504 sector) ≡ end
 
 -- the fields stand one after the other
-parts_of : (mark id number count gap rows masks rest end sector : List ℕ) → length mark ≡ 8 → length id ≡ 16 → length number ≡ 8 → length count ≡ 4 → length gap ≡ 4
+parts_of : (mark id number count gap rows masks rest end sector : List ℕ) → length mark ≡ 8 → length id ≡ 16 → length number ≡ 8 → length count ≡ 4
+    → length gap ≡ 4
     → length rows ≡ 128 → length masks ≡ 32 → length rest ≡ 304 → length end ≡ 8
     → sector ≡ mark ++ id ++ number ++ count ++ gap ++ rows ++ masks ++ rest ++ end → Parts mark id number count gap rows masks rest end sector
 parts_of mark id number count gap rows masks rest end sector mark_long id_long number_long count_long gap_long rows_long masks_long rest_long end_long is =
@@ -202,8 +216,10 @@ parts_of mark id number count gap rows masks rest end sector mark_long id_long n
     let long3 : length (mark ++ id ++ number ++ count) ≡ 36 = omega (arith, length-append (mark ++ id ++ number) count) in
     let long4 : length (mark ++ id ++ number ++ count ++ gap) ≡ 40 = omega (arith, length-append (mark ++ id ++ number ++ count) gap) in
     let long5 : length (mark ++ id ++ number ++ count ++ gap ++ rows) ≡ 168 = omega (arith, length-append (mark ++ id ++ number ++ count ++ gap) rows) in
-    let long6 : length (mark ++ id ++ number ++ count ++ gap ++ rows ++ masks) ≡ 200 = omega (arith, length-append (mark ++ id ++ number ++ count ++ gap ++ rows) masks) in
-    let long7 : length (mark ++ id ++ number ++ count ++ gap ++ rows ++ masks ++ rest) ≡ 504 = omega (arith, length-append (mark ++ id ++ number ++ count ++ gap ++ rows ++ masks) rest) in
+    let long6 : length (mark ++ id ++ number ++ count ++ gap ++ rows ++ masks) ≡ 200 =
+    omega (arith, length-append (mark ++ id ++ number ++ count ++ gap ++ rows) masks) in
+    let long7 : length (mark ++ id ++ number ++ count ++ gap ++ rows ++ masks ++ rest) ≡ 504 =
+    omega (arith, length-append (mark ++ id ++ number ++ count ++ gap ++ rows ++ masks) rest) in
     record {
       part0 = field_at 0 8 [] mark (id ++ number ++ count ++ gap ++ rows ++ masks ++ rest ++ end) sector (is ∙ simp append_assoc) refl mark_long;
       part1 = field_at 8 16 mark id (number ++ count ++ gap ++ rows ++ masks ++ rest ++ end) sector (is ∙ simp append_assoc) mark_long id_long;
@@ -213,7 +229,8 @@ parts_of mark id number count gap rows masks rest end sector mark_long id_long n
       part5 = field_at 40 128 (mark ++ id ++ number ++ count ++ gap) rows (masks ++ rest ++ end) sector (is ∙ simp append_assoc) long4 rows_long;
       part6 = field_at 168 32 (mark ++ id ++ number ++ count ++ gap ++ rows) masks (rest ++ end) sector (is ∙ simp append_assoc) long5 masks_long;
       part7 = field_at 200 304 (mark ++ id ++ number ++ count ++ gap ++ rows ++ masks) rest end sector (is ∙ simp append_assoc) long6 rest_long;
-      part8 = field_at 504 8 (mark ++ id ++ number ++ count ++ gap ++ rows ++ masks ++ rest) end [] sector (is ∙ sym (append-nil _) ∙ simp append_assoc) long7 end_long;
+      part8 = field_at 504 8 (mark ++ id ++ number ++ count ++ gap ++ rows ++ masks ++ rest) end [] sector (is ∙ sym (append-nil _) ∙ simp append_assoc) long7
+          end_long;
     }
 
 -- the rows take 128 bytes
@@ -223,15 +240,19 @@ length-row_numbers rows few =
     omega (arith, length-append (flat_map (little_bytes 4) rows) (zeros (128 - 4 * length rows)), length-zeros (128 - 4 * length rows), length-numbers rows)
 
 -- a spelling is as long as its id, and 496 bytes more
-pub length-seal_bytes : (id : List ℕ) (number : ℕ) (rows : List ℕ) (form : Form) → length rows ≤ ENTRY_ROWS → IsForm form (length rows) → length (seal_bytes id number rows form) ≡ length id + 496
+pub length-seal_bytes : (id : List ℕ) (number : ℕ) (rows : List ℕ) (form : Form) → length rows ≤ ENTRY_ROWS → IsForm form (length rows)
+    → length (seal_bytes id number rows form) ≡ length id + 496
 unfolding seal_bytes
 length-seal_bytes id number rows form few formed =
     let number_long = length-bytes_low_first 0 8 number in
     let count_long = length-bytes_low_first 0 4 (length rows) in
-    by_fields (first_mark form) id (little_bytes 8 number) (little_bytes 4 (length rows)) (zeros 4) (row_numbers rows) (masks_of form) (zeros 304) (last_mark form)
-    (length-first_mark form) number_long count_long (length-zeros 4) (length-row_numbers rows few) (length-masks form (length rows) formed) (length-zeros 304) (length-last_mark form)
+    by_fields (first_mark form) id (little_bytes 8 number) (little_bytes 4 (length rows)) (zeros 4) (row_numbers rows) (masks_of form) (zeros 304)
+    (last_mark form)
+    (length-first_mark form) number_long count_long (length-zeros 4) (length-row_numbers rows few) (length-masks form (length rows) formed) (length-zeros 304)
+    (length-last_mark form)
   where
-    by_fields : (a b c d g r s z e : List ℕ) → length a ≡ 8 → length c ≡ 8 → length d ≡ 4 → length g ≡ 4 → length r ≡ 128 → length s ≡ 32 → length z ≡ 304 → length e ≡ 8
+    by_fields : (a b c d g r s z e : List ℕ) → length a ≡ 8 → length c ≡ 8 → length d ≡ 4 → length g ≡ 4 → length r ≡ 128 → length s ≡ 32 → length z ≡ 304
+        → length e ≡ 8
         → length (a ++ b ++ c ++ d ++ g ++ r ++ s ++ z ++ e) ≡ length b + 496
     by_fields a b c d g r s z e la lc ld lg lr ls lz le = simp length-append (omega arith)
 
@@ -240,13 +261,16 @@ pub length-seal_sector : (seal : Seal) → length (seal_sector seal) ≡ length 
 length-seal_sector seal = length-seal_bytes seal.id seal.number seal.rows.items seal.form seal.allowed.rows_most seal.formed
 
 -- what is read of a sector that spells a seal
-pub fields_of : (id : List ℕ) (number : ℕ) (rows : List ℕ) (form : Form) (sector : List ℕ) → length sector ≡ 512 → length rows ≤ ENTRY_ROWS → IsForm form (length rows)
+pub fields_of : (id : List ℕ) (number : ℕ) (rows : List ℕ) (form : Form) (sector : List ℕ) → length sector ≡ 512 → length rows ≤ ENTRY_ROWS
+    → IsForm form (length rows)
     → sector ≡ seal_bytes id number rows form → Fields id number rows form sector
 unfolding seal_bytes row_numbers
 fields_of id number rows form sector long few formed is =
     let id_long : length id ≡ 16 = omega (arith, length-seal_bytes id number rows form few formed, ap length is) in
-    let all = parts_of (first_mark form) id (little_bytes 8 number) (little_bytes 4 (length rows)) (zeros 4) (row_numbers rows) (masks_of form) (zeros 304) (last_mark form) sector
-    (length-first_mark form) id_long (length-bytes_low_first 0 8 number) (length-bytes_low_first 0 4 (length rows)) (length-zeros 4) (length-row_numbers rows few)
+    let all = parts_of (first_mark form) id (little_bytes 8 number) (little_bytes 4 (length rows)) (zeros 4) (row_numbers rows) (masks_of form) (zeros 304)
+    (last_mark form) sector
+    (length-first_mark form) id_long (length-bytes_low_first 0 8 number) (length-bytes_low_first 0 4 (length rows)) (length-zeros 4)
+    (length-row_numbers rows few)
     (length-masks form (length rows) formed) (length-zeros 304) (length-last_mark form) is in
     record {
       first_is = all.part0;
@@ -280,7 +304,8 @@ unfolding form_read masks_of
 form_by Whole sector mark masks = ap (λ (b : ℕ). cond (b == 50) (Held (take 32 (drop 168 sector))) Whole) mark
 form_by (Held masks) sector mark masks_are = ap (λ (b : ℕ). cond (b == 50) (Held (take 32 (drop 168 sector))) Whole) mark ∙ ap Held masks_are
 
-pub form_back : (id : List ℕ) (number : ℕ) (rows : List ℕ) (form : Form) (sector : List ℕ) → length sector ≡ 512 → length rows ≤ ENTRY_ROWS → IsForm form (length rows)
+pub form_back : (id : List ℕ) (number : ℕ) (rows : List ℕ) (form : Form) (sector : List ℕ) → length sector ≡ 512 → length rows ≤ ENTRY_ROWS
+    → IsForm form (length rows)
     → sector ≡ seal_bytes id number rows form → form_read sector ≡ form
 form_back id number rows form sector long few formed is =
     let fields = fields_of id number rows form sector long few formed is in
@@ -306,9 +331,11 @@ number_at (row ∷ rows) rest (suc i) fits within =
     four_on i = omega arith
 
 -- the rows are read back: of 32 numbers those that the count says
-pub rows_back : (id : List ℕ) (number : ℕ) (rows : List ℕ) (form : Form) (sector numbers : List ℕ) (count : ℕ) → IsSeal number rows → IsForm form (length rows) → length sector ≡ 512
+pub rows_back : (id : List ℕ) (number : ℕ) (rows : List ℕ) (form : Form) (sector numbers : List ℕ) (count : ℕ) → IsSeal number rows → IsForm form (length rows)
+    → length sector ≡ 512
     → sector ≡ seal_bytes id number rows form
-    → count ≡ little_number 4 (take 4 (drop 32 sector)) → length numbers ≡ ENTRY_ROWS → IsRead little_number 4 (take 128 (drop 40 sector)) numbers → take count numbers ≡ rows
+    → count ≡ little_number 4 (take 4 (drop 32 sector)) → length numbers ≡ ENTRY_ROWS → IsRead little_number 4 (take 128 (drop 40 sector)) numbers
+    → take count numbers ≡ rows
 rows_back id number rows form sector numbers count allowed formed long is count_is numbers_long read =
     let fields = fields_of id number rows form sector long allowed.rows_most formed is in
     let most : length rows ≤ ENTRY_ROWS = allowed.rows_most in
@@ -321,7 +348,8 @@ rows_back id number rows form sector numbers count allowed formed long is count_
     ∙ number_at rows (zeros (128 - 4 * length rows)) i allowed.row_most (omega arith))
 
 -- the number is read back
-pub entry_back : (id : List ℕ) (number : ℕ) (rows : List ℕ) (form : Form) (sector : List ℕ) → IsSeal number rows → IsForm form (length rows) → length sector ≡ 512
+pub entry_back : (id : List ℕ) (number : ℕ) (rows : List ℕ) (form : Form) (sector : List ℕ) → IsSeal number rows → IsForm form (length rows)
+    → length sector ≡ 512
     → sector ≡ seal_bytes id number rows form
     → little_number 8 (take 8 (drop 24 sector)) ≡ number
 entry_back id number rows form sector allowed formed long is =
@@ -333,7 +361,8 @@ pub rows_read : ℕ → List ℕ → List ℕ
 rows_read n sector = map (λ i. little_number 4 (drop (4 * i) (take 128 (drop 40 sector)))) (range_with_len 0 n)
 
 -- they are those that it spells
-rows_read_back : (id : List ℕ) (number : ℕ) (rows : List ℕ) (form : Form) (sector : List ℕ) → IsSeal number rows → IsForm form (length rows) → length sector ≡ 512
+rows_read_back : (id : List ℕ) (number : ℕ) (rows : List ℕ) (form : Form) (sector : List ℕ) → IsSeal number rows → IsForm form (length rows)
+    → length sector ≡ 512
     → sector ≡ seal_bytes id number rows form
     → rows_read (little_number 4 (take 4 (drop 32 sector))) sector ≡ rows
 unfolding rows_read
@@ -341,15 +370,18 @@ rows_read_back id number rows form sector allowed formed long is =
     let fields = fields_of id number rows form sector long allowed.rows_most formed is in
     let read = λ (i : ℕ). little_number 4 (drop (4 * i) (take 128 (drop 40 sector))) in
     let most : length rows ≤ ENTRY_ROWS = allowed.rows_most in
-    let counted : little_number 4 (take 4 (drop 32 sector)) ≡ length rows = number_back 4 (length rows) (take 4 (drop 32 sector)) (omega arith) fields.count_is in
+    let counted : little_number 4 (take 4 (drop 32 sector)) ≡ length rows =
+    number_back 4 (length rows) (take 4 (drop 32 sector)) (omega arith) fields.count_is in
     ap (λ (n : ℕ). map read (range_with_len 0 n)) counted
     ∙ sym (fill_by_all read rows (length rows) 0 refl (λ i within.
     sym (ap (λ (xs : List ℕ). little_number 4 (drop (4 * i) xs)) fields.rows_are ∙ number_at rows (zeros (128 - 4 * length rows)) i allowed.row_most within)))
 
 -- what a sector says is read of it alone
-pub sector_says : (id : List ℕ) (number : ℕ) (rows : List ℕ) (form : Form) (sector : List ℕ) → IsSeal number rows → IsForm form (length rows) → length sector ≡ 512
+pub sector_says : (id : List ℕ) (number : ℕ) (rows : List ℕ) (form : Form) (sector : List ℕ) → IsSeal number rows → IsForm form (length rows)
+    → length sector ≡ 512
     → sector ≡ seal_bytes id number rows form
-    → (id ≡ take 16 (drop 8 sector)) × (number ≡ little_number 8 (take 8 (drop 24 sector))) × (rows ≡ rows_read (little_number 4 (take 4 (drop 32 sector))) sector)
+    → (id ≡ take 16 (drop 8 sector)) × (number ≡ little_number 8 (take 8 (drop 24 sector)))
+    × (rows ≡ rows_read (little_number 4 (take 4 (drop 32 sector))) sector)
     × (form ≡ form_read sector)
 sector_says id number rows form sector allowed formed long is = (
   sym (fields_of id number rows form sector long allowed.rows_most formed is).id_is,

@@ -24,10 +24,12 @@ body_in members journal seal =
 
 -- The calls of a copy: the body is copied and flushed, and only then the seal is written and flushed.
 abbrev pub copy_calls : (from to : ℕ) → Seal → List Bytes → List Call
-copy_calls from to seal body = copied_from from to (body_start seal.number) body ++ Flush to ∷ Write to (seal_place seal.number) (seal_sector seal) ∷ Flush to ∷ []
+copy_calls from to seal body = copied_from from to (body_start seal.number) body ++ Flush to ∷ Write to (seal_place seal.number) (seal_sector seal) ∷ Flush to
+    ∷ []
 
 -- `copy_entry(bank, from, to, seal, geometry)` of a set with so many members
-pub record CopiesEntry (honest : Type 0) (members from to : ℕ) (seal : Seal) (old_panel new_panel : Panel) (old new : History) (result : Result (Unit {0}) Stop) : Type 0 where
+pub record CopiesEntry (honest : Type 0) (members from to : ℕ) (seal : Seal) (old_panel new_panel : Panel) (old new : History)
+    (result : Result (Unit {0}) Stop) : Type 0 where
   pub later : IsLater old_panel new_panel
   pub made : honest → Made (copy_calls from to seal (body_in members (seen old from) seal)) (is_ok result) old new
   pub cause : (stop : Stop) → result ≡ Err stop → IsCauseOf new_panel stop

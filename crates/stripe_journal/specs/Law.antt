@@ -33,7 +33,8 @@ FieldsAreInPlace = (seal : Seal) → length seal.id ≡ 16 → HasFields (seal_s
 
 -- a sector of bytes with each field of a seal in its place is the spelling of the seal
 abbrev pub FieldsSpellTheSeal : Type 0
-FieldsSpellTheSeal = (sector : List ℕ) (seal : Seal) → length sector ≡ 512 → ((k : ℕ) → slice_index sector k < 256) → HasFields sector seal → sector ≡ seal_sector seal
+FieldsSpellTheSeal = (sector : List ℕ) (seal : Seal) → length sector ≡ 512 → ((k : ℕ) → slice_index sector k < 256) → HasFields sector seal
+    → sector ≡ seal_sector seal
 
 -- a sector spells one seal at most
 abbrev pub SpellsOneSeal : Type 0
@@ -47,7 +48,8 @@ BodiesAreWithin = (members : ℕ) (seal : Seal) (row member place : ℕ) → mem
 -- one sector is in the bodies of two entries only where their numbers are both even or both odd
 abbrev pub HalvesLieApart : Type 0
 HalvesLieApart = (members : ℕ) (first second : Seal) (row member row' member' place : ℕ) → members ≤ MOST_MEMBERS → member < members → member' < members
-    → place_by_seal members first row member ≡ Some place → place_by_seal members second row' member' ≡ Some place → first.number % HALVES ≡ second.number % HALVES
+    → place_by_seal members first row member ≡ Some place → place_by_seal members second row' member' ≡ Some place
+    → first.number % HALVES ≡ second.number % HALVES
 
 -- one sector of a body is one member's of one row
 abbrev pub BodiesLieApart : Type 0
@@ -61,6 +63,7 @@ WholeRowsFollow = (members : ℕ) (seal : Seal) (i member : ℕ) → seal.form �
 
 -- what is written of an entry in memory stands where the seal with its rows and its form says
 abbrev pub BodiesAreInPlace : Type 0
-BodiesAreInPlace = (members : ℕ) (seal : Seal) (entry : Entry) (i member k : ℕ) → members ≤ MOST_MEMBERS → numbers_of entry ≡ seal.rows.items → form_of entry ≡ seal.form
+BodiesAreInPlace = (members : ℕ) (seal : Seal) (entry : Entry) (i member k : ℕ) → members ≤ MOST_MEMBERS → numbers_of entry ≡ seal.rows.items
+    → form_of entry ≡ seal.form
     → i < length seal.rows.items → member < members → place_by_seal members seal (row_at seal.rows.items i) member ≡ Some (body_start seal.number + k)
     → slice_index_or (body_of members entry) k [] ≡ sector_at entry i member

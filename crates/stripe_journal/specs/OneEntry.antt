@@ -60,7 +60,8 @@ pub record CrashLeavesEither (id : List ℕ) (geometry : Geometry) (old disk : L
 
 -- the law of one entry
 abbrev pub ACrashLeavesEither : Type 0
-ACrashLeavesEither = (id : List ℕ) (geometry : Geometry) (old disk : List Bytes) (seal : Seal) (body : List Bytes) (stage : EntryStage) → IsNextOn id geometry old seal
+ACrashLeavesEither = (id : List ℕ) (geometry : Geometry) (old disk : List Bytes) (seal : Seal) (body : List Bytes) (stage : EntryStage)
+    → IsNextOn id geometry old seal
     → ((at : ℕ) → MayStandOn old seal body stage at (sector_of disk at)) → CrashLeavesEither id geometry old disk seal body stage
 
 -- a crash now leaves in each sector of this journal only what may stand there at this stage

@@ -29,8 +29,8 @@ pub fn seal_encode(seal: &Seal, to: &mut Sector)
 }
 
 /// The seal that a sector spells, or `None` where it spells none: where a mark is missing, a byte between the fields is
-/// not 0, the number is not 1 to 2^62, the count is not 1 to 32, the rows do not rise, a row or a mask past the count is
-/// not 0, or the mask of a row has fewer than two bits.
+/// not 0, the number is not 1 to 2^62, the count is not 1 to 32, the rows do not rise, a row or a mask past the count
+/// is not 0, or the mask of a row has fewer than two bits.
 pub fn seal_decode(from: &Sector) -> Option<Seal>
     ensures some { IfSome result (λ s. from.now ≡ seal_sector s) }
     ensures exact { (s : Seal) → from.now ≡ seal_sector s → result ≡ Some s }

@@ -12,9 +12,9 @@ use layout_map::{BODY_SECTORS, FIRST_BODY, Geometry, HALVES};
 use sector_model::{Bank, Stop, flush_device, read_sector, write_sector};
 
 /// Copies the entry of this seal from the journal `from` to the journal `to`: the body first, sector after sector, and
-/// only when it is flushed the seal, which is flushed too. What the body of `from` holds it does not check. The journals
-/// are two slots of the bank, each with at least 520 sectors where it is up (conditions). `Down` names the one that is
-/// down; `Worn` where the count of device calls stands at 2^62.
+/// only when it is flushed the seal, which is flushed too. What the body of `from` holds it does not check. The
+/// journals are two slots of the bank, each with at least 520 sectors where it is up (conditions). `Down` names the one
+/// that is down; `Worn` where the count of device calls stands at 2^62.
 pub fn copy_entry<B: Bank>(
     bank: &mut B,
     from: u8,
@@ -29,7 +29,8 @@ pub fn copy_entry<B: Bank>(
     requires to_within { (B.panel bank.old).down to ≡ false → JOURNAL_SECTORS ≤ (B.panel bank.old).sectors to }
     ensures honest { B.honest bank.old ↔ B.honest bank.new }
     ensures up { OnOk result ((B.panel bank.new).down to ≡ false) }
-    ensures copies { CopiesEntry (B.honest bank.old) geometry.now.members from to seal.now (B.panel bank.old) (B.panel bank.new) (B.history bank.old) (B.history bank.new) result }
+    ensures copies { CopiesEntry (B.honest bank.old) geometry.now.members from to seal.now (B.panel bank.old)
+        (B.panel bank.new) (B.history bank.old) (B.history bank.new) result }
 {
     copy_body(bank, from, to, seal, geometry)?;
     flush_device(bank, to)?;
@@ -52,8 +53,12 @@ fn copy_body<B: Bank>(
     requires to_within { (B.panel bank.old).down to ≡ false → JOURNAL_SECTORS ≤ (B.panel bank.old).sectors to }
     ensures panel { IsLater (B.panel bank.old) (B.panel bank.new) }
     ensures honest { B.honest bank.old ↔ B.honest bank.new }
-    ensures made { B.honest bank.old → Made (copied_from from to (body_start seal.now.number) (body_in geometry.now.members (seen (B.history bank.old) from) seal.now)) (is_ok result) (B.history bank.old) (B.history bank.new) }
-    ensures err { IfErr result (λ stop. IsCauseOf (B.panel bank.new) stop × ((stop ≡ Stop.Worn) ⊎ (stop ≡ Stop.Down from) ⊎ (stop ≡ Stop.Down to))) }
+    ensures made { B.honest bank.old → Made
+        (copied_from from to (body_start seal.now.number)
+        (body_in geometry.now.members (seen (B.history bank.old) from) seal.now)) (is_ok result) (B.history bank.old)
+        (B.history bank.new) }
+    ensures err { IfErr result (λ stop. IsCauseOf (B.panel bank.new) stop
+        × ((stop ≡ Stop.Worn) ⊎ (stop ≡ Stop.Down from) ⊎ (stop ≡ Stop.Down to))) }
 {
     let first = FIRST_BODY + BODY_SECTORS * (seal.number % HALVES as u64) as u32;
     let count = seal.form.held_before(geometry.members, seal.rows.len());

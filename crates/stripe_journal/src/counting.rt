@@ -23,8 +23,8 @@ pub(crate) fn counts(seal: &Seal, id: &[u8; 16], geometry: &Geometry, place: u64
         && is_of_set(&seal.form, seal.rows.as_slice(), geometry)
 }
 
-/// Whether an entry of this form has only rows of the set, at most 32 (condition), and of each holds only sectors of the
-/// set's members, that with the parity among them.
+/// Whether an entry of this form has only rows of the set, at most 32 (condition), and of each holds only sectors of
+/// the set's members, that with the parity among them.
 fn is_of_set(form: &Form, rows: &[u32], geometry: &Geometry) -> bool
     requires { length rows.now ≤ ENTRY_ROWS }
     ensures { IsTrue result ↔ (AreBelow geometry.now rows.now × RowsHold geometry.now form.now rows.now) }
@@ -39,8 +39,8 @@ fn are_below(rows: &[u32], row_count: u64) -> bool
     rows.iter().all(|row| u64::from(*row) < row_count)
 }
 
-/// Whether an entry of this form holds of each row only sectors of the set's members, that with the parity among them. The
-/// rows are at most 32, and rows of the set (conditions).
+/// Whether an entry of this form holds of each row only sectors of the set's members, that with the parity among them.
+/// The rows are at most 32, and rows of the set (conditions).
 fn is_form_of(form: &Form, rows: &[u32], geometry: &Geometry) -> bool
     requires few { length rows.now ≤ ENTRY_ROWS }
     requires below { AreBelow geometry.now rows.now }
@@ -57,7 +57,8 @@ fn is_form_of(form: &Form, rows: &[u32], geometry: &Geometry) -> bool
 fn are_masks_of(masks: &[u8; ENTRY_ROWS], rows: &[u32], geometry: &Geometry) -> bool
     requires few { length rows.now ≤ ENTRY_ROWS }
     requires below { AreBelow geometry.now rows.now }
-    ensures { IsTrue result ↔ ((i : ℕ) → i < length rows.now → HoldsRow geometry.now (row_at rows.now i) (has_bit (mask_at masks.now i))) }
+    ensures { IsTrue result ↔ ((i : ℕ) → i < length rows.now
+        → HoldsRow geometry.now (row_at rows.now i) (has_bit (mask_at masks.now i))) }
 {
     for (i, row) in rows.iter().enumerate() {
         if !is_mask_of(masks[i], *row, geometry) {

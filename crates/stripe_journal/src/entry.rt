@@ -1,5 +1,6 @@
 //! An entry in memory, before it is on a journal.
-ghost use Rattle.std.specs.Prelude.{◌≡◌, ◌≤◌, ◌<◌, ◌+◌, ◌*◌, ◌++◌, ◌∷◌, ◌==◌, [], ℕ, IfOk, IfErr, IfSome, IsNone, count_ones, false, true, length, replicate, slice_index_or, vec_len};
+ghost use Rattle.std.specs.Prelude.{◌≡◌, ◌≤◌, ◌<◌, ◌+◌, ◌*◌, ◌++◌, ◌∷◌, ◌==◌, [], ℕ, IfOk, IfErr, IfSome, IsNone};
+ghost use Rattle.std.specs.Prelude.{count_ones, false, true, length, replicate, slice_index_or, vec_len};
 ghost use Rattle.layout_map.specs.declared.sizes.TheConstants.{BODY_SECTORS, ENTRY_ROWS, MOST_MEMBERS};
 
 use crate::Form;
@@ -12,8 +13,9 @@ use std::alloc::Global;
 /// The sectors that an entry holds for a row, one for each member that a set may have.
 const ROW_SECTORS: usize = MOST_MEMBERS as usize;
 
-/// The rows of one entry: up to 32 numbered rows with room for 8 sectors, one for each member that a set may have, of which
-/// the entry holds those that the row's mask has: bit m says that it holds member m's. The memory is taken once, by `new`.
+/// The rows of one entry: up to 32 numbered rows with room for 8 sectors, one for each member that a set may have, of
+/// which the entry holds those that the row's mask has: bit m says that it holds member m's. The memory is taken once,
+/// by `new`.
 #[derive(Drop)]
 pub struct Entry {
     rows: ArrayVec<u32, ENTRY_ROWS>,
@@ -75,15 +77,17 @@ impl Entry {
         self.rows.is_empty()
     }
 
-    /// Adds a row of zero sectors after the others, of which there are fewer than 32 (condition). Bit m of the mask says that
-    /// the entry holds member m's sector of the row.
+    /// Adds a row of zero sectors after the others, of which there are fewer than 32 (condition). Bit m of the mask
+    /// says that the entry holds member m's sector of the row.
     pub fn push(&mut self, row: u32, mask: u8)
         requires { length (numbers_of self.old) < ENTRY_ROWS }
         ensures numbers { numbers_of self.new ≡ numbers_of self.old ++ row ∷ [] }
         ensures mask { row_mask self.new (length (numbers_of self.old)) ≡ mask }
         ensures masks { (i : ℕ) → i < length (numbers_of self.old) → row_mask self.new i ≡ row_mask self.old i }
-        ensures zeros { (member : ℕ) → member < MOST_MEMBERS → sector_at self.new (length (numbers_of self.old)) member ≡ replicate 512 0 }
-        ensures others { (i member : ℕ) → i < length (numbers_of self.old) → member < MOST_MEMBERS → sector_at self.new i member ≡ sector_at self.old i member }
+        ensures zeros { (member : ℕ) → member < MOST_MEMBERS
+            → sector_at self.new (length (numbers_of self.old)) member ≡ replicate 512 0 }
+        ensures others { (i member : ℕ) → i < length (numbers_of self.old) → member < MOST_MEMBERS
+            → sector_at self.new i member ≡ sector_at self.old i member }
     {
         let count = self.rows.len();
         let first = ROW_SECTORS * count;
@@ -94,8 +98,8 @@ impl Entry {
         self.rows.push(row);
     }
 
-    /// The sector of a member, 0 to 7, in the i-th row, to be written. `i` is below `len()`, and the row's mask has the member's
-    /// bit (conditions).
+    /// The sector of a member, 0 to 7, in the i-th row, to be written. `i` is below `len()`, and the row's mask has the
+    /// member's bit (conditions).
     pub fn sector_mut(&mut self, i: usize, member: u8) -> &mut Sector
         requires row { i < length (numbers_of self.old) }
         requires member { member < MOST_MEMBERS }
@@ -106,11 +110,12 @@ impl Entry {
         &mut self.sectors[ROW_SECTORS * i + member as usize]
     }
 
-    /// Which sectors of its rows it holds, by the masks of its rows, and zeros after them: where each mask has at least two
-    /// bits, a form that a seal with these rows may have.
+    /// Which sectors of its rows it holds, by the masks of its rows, and zeros after them: where each mask has at least
+    /// two bits, a form that a seal with these rows may have.
     pub fn form(&self) -> Form
         ensures form { result ≡ form_of self.now }
-        ensures sealed { ((i : ℕ) → i < length (numbers_of self.now) → 2 ≤ count_ones (row_mask self.now i)) → IsForm result (length (numbers_of self.now)) }
+        ensures sealed { ((i : ℕ) → i < length (numbers_of self.now) → 2 ≤ count_ones (row_mask self.now i))
+            → IsForm result (length (numbers_of self.now)) }
     {
         Form::Held(self.masks)
     }
@@ -144,7 +149,8 @@ impl<'a> EntryView<'a> {
     /// The sector of a member, 0 to 7 (condition), in the row, and `None` where its mask lacks the member's bit.
     pub fn member(&self, member: u8) -> Option<&'a Sector>
         requires { member < MOST_MEMBERS }
-        ensures some { IfSome result (λ sector. (has_bit self.now.mask member ≡ true) × (sector.now ≡ slice_index_or self.now.sectors.now member [])) }
+        ensures some { IfSome result (λ sector. (has_bit self.now.mask member ≡ true)
+            × (sector.now ≡ slice_index_or self.now.sectors.now member [])) }
         ensures none { IsNone result → has_bit self.now.mask member ≡ false }
     {
         if has_bit(self.mask, member) {

@@ -30,8 +30,8 @@ impl Form {
         }
     }
 
-    /// The mask with the bit of each member whose sector the i-th row holds, i from 0 to 31, in a set with 1 to 8 members
-    /// (conditions).
+    /// The mask with the bit of each member whose sector the i-th row holds, i from 0 to 31, in a set with 1 to 8
+    /// members (conditions).
     pub fn mask(&self, members: u8, i: usize) -> u8
         requires row { i < ENTRY_ROWS }
         requires least { 1 ≤ members }
@@ -58,7 +58,8 @@ impl Form {
         count
     }
 
-    /// How many sectors of members below this one the i-th row holds, i from 0 to 31, the member at most 8 (conditions).
+    /// How many sectors of members below this one the i-th row holds, i from 0 to 31, the member at most 8
+    /// (conditions).
     pub(crate) fn count_held(&self, members: u8, i: usize, member: u8) -> u32
         requires row { i < ENTRY_ROWS }
         requires member { member ≤ MOST_MEMBERS }

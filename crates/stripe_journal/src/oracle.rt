@@ -1,5 +1,6 @@
-//! Which seals count in a journal of an image, which of them is the last, and where its entry has a sector: the definitions,
-//! run over an image in memory. It is slow and plain, for tests to compare with; nothing that serves a set uses it.
+//! Which seals count in a journal of an image, which of them is the last, and where its entry has a sector: the
+//! definitions, run over an image in memory. It is slow and plain, for tests to compare with; nothing that serves a set
+//! uses it.
 ghost use Rattle.std.specs.Prelude.{◌≡◌, ◌≤◌, ◌<◌, IfSome, IsNone, length};
 ghost use Rattle.sector_model.specs.Memory.{sectors_in};
 ghost use Rattle.layout_map.specs.declared.sizes.TheConstants.{MOST_MEMBERS};
@@ -45,8 +46,8 @@ pub fn last_sealed_in(
     later(even, odd)
 }
 
-/// The sector in which the entry of a seal has a member's sector of a row, if it has one, in a set with so many members: at
-/// most 8, the member among them (conditions).
+/// The sector in which the entry of a seal has a member's sector of a row, if it has one, in a set with so many
+/// members: at most 8, the member among them (conditions).
 pub fn place_by_seal(seal: &Seal, members: u8, row: u64, member: u8) -> Option<u32>
     requires members { members ≤ MOST_MEMBERS }
     requires member { member < members }

@@ -1,5 +1,6 @@
 //! The last seal of a journal, by what reads give.
-ghost use Rattle.std.specs.Prelude.{◌≡◌, ◌⊎◌, ◌≤◌, ◌<◌, ◌↔◌, ◌+◌, [], ◌∷◌, false, is_ok, IfErr, IfOk, IfSome, Some, ◌%◌};
+ghost use Rattle.std.specs.Prelude.{◌≡◌, ◌⊎◌, ◌≤◌, ◌<◌, ◌↔◌, ◌+◌, [], ◌∷◌, false, is_ok, IfErr, IfOk, IfSome, Some};
+ghost use Rattle.std.specs.Prelude.{◌%◌};
 ghost use Rattle.layout_map.specs.declared.sizes.TheConstants.{FIRST_SEAL, HALVES, JOURNAL_SECTORS};
 ghost use Rattle.sector_model.specs.Bank.{IsCauseOf, IsLater};
 ghost use Rattle.sector_model.specs.Calls.{Made, Read};
@@ -25,10 +26,14 @@ pub fn last_sealed<B: Bank>(
     requires within { (B.panel bank.old).down dev ≡ false → JOURNAL_SECTORS ≤ (B.panel bank.old).sectors dev }
     ensures panel { IsLater (B.panel bank.old) (B.panel bank.new) }
     ensures honest { B.honest bank.old ↔ B.honest bank.new }
-    ensures made { B.honest bank.old → Made (Read dev FIRST_SEAL ∷ Read dev (FIRST_SEAL + 1) ∷ []) (is_ok result) (B.history bank.old) (B.history bank.new) }
-    ensures last { B.honest bank.old → IfOk result (λ last. IsLastSealed id.now geometry.now (Some (seen (B.history bank.old) dev)) last) }
-    ensures belongs { IfOk result (λ last. IfSome last (λ seal. Belongs id.now geometry.now (seal.number % HALVES) seal)) }
-    ensures err { IfErr result (λ stop. IsCauseOf (B.panel bank.new) stop × ((stop ≡ Stop.Worn) ⊎ (stop ≡ Stop.Down dev))) }
+    ensures made { B.honest bank.old → Made (Read dev FIRST_SEAL ∷ Read dev (FIRST_SEAL + 1) ∷ []) (is_ok result)
+        (B.history bank.old) (B.history bank.new) }
+    ensures last { B.honest bank.old → IfOk result
+        (λ last. IsLastSealed id.now geometry.now (Some (seen (B.history bank.old) dev)) last) }
+    ensures belongs { IfOk result (λ last.
+        IfSome last (λ seal. Belongs id.now geometry.now (seal.number % HALVES) seal)) }
+    ensures err { IfErr result (λ stop. IsCauseOf (B.panel bank.new) stop
+        × ((stop ≡ Stop.Worn) ⊎ (stop ≡ Stop.Down dev))) }
 {
     let mut even = [0; 512];
     read_sector(bank, dev, FIRST_SEAL, &mut even)?;

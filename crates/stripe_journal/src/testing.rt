@@ -63,8 +63,8 @@ pub(crate) fn is_seal(found: &Option<Seal>, number: u64, rows: &[u32]) -> bool {
     }
 }
 
-/// What stands in a seal place: zeros, or the seal of an entry with this id, number, one row, and its mask, 0 where the entry
-/// holds the whole row.
+/// What stands in a seal place: zeros, or the seal of an entry with this id, number, one row, and its mask, 0 where the
+/// entry holds the whole row.
 pub(crate) type Place = Option<(&'static [u8; 16], u8, u16, u8)>;
 
 pub(crate) fn sector_of(place: Place) -> Sector {
@@ -82,9 +82,9 @@ pub(crate) type LastRow = (Place, Place, u64, &'static [u32]);
 /// The seal of entry 3 in its place, where other sectors do not count beside it.
 const GOOD: Place = Some((&ID, 3, 255, 0));
 
-/// Beside the good seal, and alone: zeros, the seal of another set, of an entry that belongs in the other place, of a row
-/// after the last, 255, and with masks that lack the parity's member, 1, that have a member that the set lacks, or that
-/// have one bit.
+/// Beside the good seal, and alone: zeros, the seal of another set, of an entry that belongs in the other place, of a
+/// row after the last, 255, and with masks that lack the parity's member, 1, that have a member that the set lacks, or
+/// that have one bit.
 pub(crate) const THAT_DO_NOT_COUNT: &[LastRow] = &[
     (None, GOOD, 3, &[255]),
     (None, None, 0, &[]),
@@ -131,7 +131,8 @@ pub(crate) fn set(rt: &impl Abort) -> Geometry {
 /// Checks that a journal is there, and has its sectors while it is up.
 pub(crate) fn check_room(rt: &impl Abort, bank: &MemBank, dev: u8)
     ensures device { dev < (⟦<MemBank as Bank>⟧.panel bank.now).devices }
-    ensures within { (⟦<MemBank as Bank>⟧.panel bank.now).down dev ≡ false → 520 ≤ (⟦<MemBank as Bank>⟧.panel bank.now).sectors dev }
+    ensures within { (⟦<MemBank as Bank>⟧.panel bank.now).down dev ≡ false
+        → 520 ≤ (⟦<MemBank as Bank>⟧.panel bank.now).sectors dev }
 {
     assert!(rt; dev < bank.devices() && (bank.is_down(dev) || 520 <= bank.sectors(dev)));
 }
@@ -143,8 +144,8 @@ pub(crate) fn fill(rt: &impl Abort, entry: &mut Entry, i: usize, member: u8, byt
     *entry.sector_mut(i, member) = [byte; 512];
 }
 
-/// An entry with rows 32 and 33, of which it holds what these masks have. Each sector of the first is full of 0x10 and its
-/// member's number, and of the second of 0x20 and its member's number.
+/// An entry with rows 32 and 33, of which it holds what these masks have. Each sector of the first is full of 0x10 and
+/// its member's number, and of the second of 0x20 and its member's number.
 pub(crate) fn two_rows(rt: &(impl Abort + AllocGlobal), masks: [u8; 2]) -> Entry {
     let mut entry = Entry::new(rt.alloc()).ok().expect(rt, "memory");
     entry.push(32, masks[0]);
@@ -190,8 +191,8 @@ pub(crate) fn check_sector(rt: &impl Abort, bank: &mut MemBank, dev: u8, at: u32
     same(rt, (dev, at, answer, sector), (dev, at, Ok(()), *want));
 }
 
-/// What stands on a journal from the sector before a body of `two_rows` on, to a sector after it, by the byte that each sector
-/// is full of.
+/// What stands on a journal from the sector before a body of `two_rows` on, to a sector after it, by the byte that each
+/// sector is full of.
 pub(crate) type Body = &'static [u8];
 
 /// Whole rows of three members.

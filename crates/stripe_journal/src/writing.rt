@@ -13,8 +13,8 @@ use layout_map::{BODY_SECTORS, FIRST_BODY, FIRST_SEAL, Geometry, HALVES};
 use sector_model::{Bank, Stop, write_sector};
 
 /// Writes the body of the entry of this number to a journal: of each row the sectors that its mask has, of the set's
-/// members. It flushes nothing. The journal is a slot of the bank, with at least 520 sectors where it is up (conditions). `Down` names it where
-/// it is down; `Worn` where the count of device calls stands at 2^62.
+/// members. It flushes nothing. The journal is a slot of the bank, with at least 520 sectors where it is up
+/// (conditions). `Down` names it where it is down; `Worn` where the count of device calls stands at 2^62.
 pub fn write_body<B: Bank>(
     bank: &mut B,
     dev: u8,
@@ -26,8 +26,11 @@ pub fn write_body<B: Bank>(
     requires within { (B.panel bank.old).down dev ≡ false → JOURNAL_SECTORS ≤ (B.panel bank.old).sectors dev }
     ensures panel { IsLater (B.panel bank.old) (B.panel bank.new) }
     ensures honest { B.honest bank.old ↔ B.honest bank.new }
-    ensures made { B.honest bank.old → Made (writes_from dev (body_start number) (body_of geometry.now.members entry.now)) (is_ok result) (B.history bank.old) (B.history bank.new) }
-    ensures err { IfErr result (λ stop. IsCauseOf (B.panel bank.new) stop × ((stop ≡ Stop.Worn) ⊎ (stop ≡ Stop.Down dev))) }
+    ensures made { B.honest bank.old → Made
+        (writes_from dev (body_start number) (body_of geometry.now.members entry.now)) (is_ok result)
+        (B.history bank.old) (B.history bank.new) }
+    ensures err { IfErr result (λ stop. IsCauseOf (B.panel bank.new) stop
+        × ((stop ≡ Stop.Worn) ⊎ (stop ≡ Stop.Down dev))) }
 {
     let mut at = FIRST_BODY + BODY_SECTORS * (number % HALVES as u64) as u32;
     for i in 0..entry.len() {
@@ -36,8 +39,8 @@ pub fn write_body<B: Bank>(
     Ok(())
 }
 
-// Writes the sectors that a row's mask has, of so many members, to a journal, from a sector on, up to sector 519 at most. It
-// answers the sector after them.
+// Writes the sectors that a row's mask has, of so many members, to a journal, from a sector on, up to sector 519 at
+// most. It answers the sector after them.
 fn write_row<B: Bank>(
     bank: &mut B,
     dev: u8,
@@ -52,8 +55,10 @@ fn write_row<B: Bank>(
     ensures panel { IsLater (B.panel bank.old) (B.panel bank.new) }
     ensures honest { B.honest bank.old ↔ B.honest bank.new }
     ensures beyond { IfOk result (λ at. at ≡ first + count_held (has_bit row.now.mask) members) }
-    ensures made { B.honest bank.old → Made (writes_from dev first (held_of members row.now.mask row.now.sectors.now)) (is_ok result) (B.history bank.old) (B.history bank.new) }
-    ensures err { IfErr result (λ stop. IsCauseOf (B.panel bank.new) stop × ((stop ≡ Stop.Worn) ⊎ (stop ≡ Stop.Down dev))) }
+    ensures made { B.honest bank.old → Made (writes_from dev first (held_of members row.now.mask row.now.sectors.now))
+        (is_ok result) (B.history bank.old) (B.history bank.new) }
+    ensures err { IfErr result (λ stop. IsCauseOf (B.panel bank.new) stop
+        × ((stop ≡ Stop.Worn) ⊎ (stop ≡ Stop.Down dev))) }
 {
     let mut at = first;
     for member in 0..members {
@@ -71,8 +76,10 @@ pub fn write_seal<B: Bank>(bank: &mut B, dev: u8, seal: &Seal) -> Result<(), Sto
     requires within { (B.panel bank.old).down dev ≡ false → JOURNAL_SECTORS ≤ (B.panel bank.old).sectors dev }
     ensures panel { IsLater (B.panel bank.old) (B.panel bank.new) }
     ensures honest { B.honest bank.old ↔ B.honest bank.new }
-    ensures made { B.honest bank.old → Made (Write dev (seal_place seal.now.number) (seal_sector seal.now) ∷ []) (is_ok result) (B.history bank.old) (B.history bank.new) }
-    ensures err { IfErr result (λ stop. IsCauseOf (B.panel bank.new) stop × ((stop ≡ Stop.Worn) ⊎ (stop ≡ Stop.Down dev))) }
+    ensures made { B.honest bank.old → Made (Write dev (seal_place seal.now.number) (seal_sector seal.now) ∷ [])
+        (is_ok result) (B.history bank.old) (B.history bank.new) }
+    ensures err { IfErr result (λ stop. IsCauseOf (B.panel bank.new) stop
+        × ((stop ≡ Stop.Worn) ⊎ (stop ≡ Stop.Down dev))) }
 {
     let mut sector = [0; 512];
     seal_encode(seal, &mut sector);

@@ -9,9 +9,17 @@ use Rattle.superblock.specs.Chosen.{IsFirstGreatest, found_at}
 pub first_is_one : (found : List (Option Superblock)) (first second : Superblock) → IsFirstGreatest found first → IsFirstGreatest found second → first ≡ second
 first_is_one found first second is_first is_second =
     elim (cases_lt is_first.place is_second.place) [
-      | inl before ↦ absurd (omega (arith, is_second.first is_first.place first before is_first.there, is_first.greatest is_second.place second is_second.there))
+      | inl before ↦ absurd (omega (
+        arith,
+        is_second.first is_first.place first before is_first.there,
+        is_first.greatest is_second.place second is_second.there,
+      ))
       | inr beyond ↦ elim (cases_lt is_second.place is_first.place) [
-        | inl before ↦ absurd (omega (arith, is_first.first is_second.place second before is_second.there, is_second.greatest is_first.place first is_first.there))
+        | inl before ↦ absurd (omega (
+          arith,
+          is_first.first is_second.place second before is_second.there,
+          is_second.greatest is_first.place first is_first.there,
+        ))
         | inr ahead ↦
             let same_place : is_first.place ≡ is_second.place = omega arith in
             let both : found_at found is_first.place ≡ Some second = ap (λ (k : ℕ). found_at found k) same_place ∙ is_second.there in
@@ -25,8 +33,10 @@ pub record FirstGreatestTo (n : ℕ) (found : List (Option Superblock)) (best : 
   pub place : ℕ
   pub within : place < n
   pub there : found_at found place ≡ Some best
-  pub greatest : (other : ℕ) (superblock : Superblock) → other < n → found_at found other ≡ Some superblock → superblock.table.generation ≤ best.table.generation
-  pub first : (other : ℕ) (superblock : Superblock) → other < place → found_at found other ≡ Some superblock → superblock.table.generation < best.table.generation
+  pub greatest : (other : ℕ) (superblock : Superblock) → other < n → found_at found other ≡ Some superblock
+      → superblock.table.generation ≤ best.table.generation
+  pub first : (other : ℕ) (superblock : Superblock) → other < place → found_at found other ≡ Some superblock
+      → superblock.table.generation < best.table.generation
 
 -- the same, or that there is none in these places
 abbrev pub IsBest : ℕ → List (Option Superblock) → Option (Bor Superblock) → Type 0
@@ -37,7 +47,8 @@ generation_of : (a b : Superblock) → Some a ≡ Some b → a.table.generation 
 generation_of a b same = let one : a ≡ b = cc in ap (λ (s : Superblock). s.table.generation) one
 
 -- a place with none changes nothing
-pub best_after_none : (n : ℕ) (found : List (Option Superblock)) (best : Option (Bor Superblock)) → found_at found n ≡ None → IsBest n found best → IsBest (n + 1) found best
+pub best_after_none : (n : ℕ) (found : List (Option Superblock)) (best : Option (Bor Superblock)) → found_at found n ≡ None → IsBest n found best
+    → IsBest (n + 1) found best
 best_after_none n found None here so_far = λ k below. elim (cases_eq k n) [
   | inl same ↦ ap (λ (j : ℕ). found_at found j) same ∙ here
   | inr other ↦ so_far k (omega arith)
@@ -97,10 +108,13 @@ best_after_greater n found (Some best) next here greater so_far = record {
 }
 
 -- a greater one is the best from now on
-pub best_from_greater : (n : ℕ) (found : List (Option Superblock)) (best after : Option (Bor Superblock)) (address : ℕ × ℕ) (next : Superblock) → found_at found n ≡ Some next
-    → IfSome best (λ b. b.now.table.generation < next.table.generation) → after ≡ Some record { ref_ptr = address; now = next } → IsBest n found best → IsBest (n + 1) found after
+pub best_from_greater : (n : ℕ) (found : List (Option Superblock)) (best after : Option (Bor Superblock)) (address : ℕ × ℕ) (next : Superblock)
+    → found_at found n ≡ Some next
+    → IfSome best (λ b. b.now.table.generation < next.table.generation) → after ≡ Some record { ref_ptr = address; now = next } → IsBest n found best
+    → IsBest (n + 1) found after
 best_from_greater n found best after address next here greater is_next so_far =
-    subst (λ (b : Option (Bor Superblock)). IsBest (n + 1) found b) (sym is_next) (best_after_greater n found best record { ref_ptr = address; now = next } here greater so_far)
+    subst (λ (b : Option (Bor Superblock)). IsBest (n + 1) found b) (sym is_next)
+    (best_after_greater n found best record { ref_ptr = address; now = next } here greater so_far)
 
 -- at the end it is the best of all
 pub best_of_all : (n : ℕ) (found : List (Option Superblock)) (best : Superblock) → length found ≤ n → FirstGreatestTo n found best → IsFirstGreatest found best

@@ -38,9 +38,11 @@ pub ten_slots : {members : ℕ} → members ≤ MOST_MEMBERS → members + 2 ≤
 ten_slots most = omega arith
 
 -- the rules of a table, one after another
-pub table_iff : (Position : Type 0) (generation : ℕ) (geometry : Geometry) (states : List State) (incarnations : List ℕ) (position : ℕ) → length states ≡ 10 → length incarnations ≡ 10
+pub table_iff : (Position : Type 0) (generation : ℕ) (geometry : Geometry) (states : List State) (incarnations : List ℕ) (position : ℕ) → length states ≡ 10
+    → length incarnations ≡ 10
     → 1 ≤ generation → generation ≤ GREATEST_COUNT → AreNumbered (geometry.members + 2) incarnations → AreMissingBeyond (geometry.members + 2) states
-    → AreOutOnce (geometry.members + 2) states → Position ↔ IsPositionOf geometry states position → Position ↔ IsTable generation geometry states incarnations position
+    → AreOutOnce (geometry.members + 2) states → Position ↔ IsPositionOf geometry states position → Position
+    ↔ IsTable generation geometry states incarnations position
 table_iff Position generation geometry states incarnations position ten_states ten_incarnations least most numbered missing out is_position = (
   (λ is. let found = is_position.0 is in record {
     ten_states = ten_states;
@@ -59,20 +61,24 @@ table_iff Position generation geometry states incarnations position ten_states t
   (λ table. is_position.1 (record { of_member = table.rebuilds_member; below = table.position_below; none = table.no_position })),
 )
 
-pub table_numbered : {generation : ℕ} {geometry : Geometry} {states : List State} {incarnations : List ℕ} {position : ℕ} → IsTable generation geometry states incarnations position
+pub table_numbered : {generation : ℕ} {geometry : Geometry} {states : List State} {incarnations : List ℕ} {position : ℕ}
+    → IsTable generation geometry states incarnations position
     → AreNumbered (geometry.members + 2) incarnations
 table_numbered table = record { least = table.incarnation_least; most = table.incarnation_most; beyond = table.zero_beyond }
 
-pub table_missing : {generation : ℕ} {geometry : Geometry} {states : List State} {incarnations : List ℕ} {position : ℕ} → IsTable generation geometry states incarnations position
+pub table_missing : {generation : ℕ} {geometry : Geometry} {states : List State} {incarnations : List ℕ} {position : ℕ}
+    → IsTable generation geometry states incarnations position
     → AreMissingBeyond (geometry.members + 2) states
 table_missing table = record { beyond = table.missing_beyond }
 
-pub table_out : {generation : ℕ} {geometry : Geometry} {states : List State} {incarnations : List ℕ} {position : ℕ} → IsTable generation geometry states incarnations position
+pub table_out : {generation : ℕ} {geometry : Geometry} {states : List State} {incarnations : List ℕ} {position : ℕ}
+    → IsTable generation geometry states incarnations position
     → AreOutOnce (geometry.members + 2) states
 table_out table = record { once = table.one_out }
 
 pub geometry_of_fields : {E : Type 0} (fields : Fields) (geometry : Geometry) (made : Result Geometry E) → Some geometry ≡ result_ok made
-    → IfOk made (λ g. g.members ≡ fields.members) → IfOk made (λ g. g.chunk ≡ fields.chunk) → IfOk made (λ g. g.stripes ≡ fields.stripes) → IsOfFields fields geometry
+    → IfOk made (λ g. g.members ≡ fields.members) → IfOk made (λ g. g.chunk ≡ fields.chunk) → IfOk made (λ g. g.stripes ≡ fields.stripes)
+    → IsOfFields fields geometry
 geometry_of_fields fields geometry (Ok g) same members chunk stripes =
     let is_made : geometry ≡ g = cc in
     record {
@@ -83,10 +89,12 @@ geometry_of_fields fields geometry (Ok g) same members chunk stripes =
 geometry_of_fields fields geometry (Err e) same members chunk stripes = absurd cc
 
 -- a superblock with these fields is that superblock
-pub fields_are : (fields : Fields) (s t : Superblock) → IsOfFields fields t.table.geometry → fields ≡ fields_of s → t.table.id ≡ fields.id → t.table.generation ≡ fields.generation
+pub fields_are : (fields : Fields) (s t : Superblock) → IsOfFields fields t.table.geometry → fields ≡ fields_of s → t.table.id ≡ fields.id
+    → t.table.generation ≡ fields.generation
     → t.role ≡ fields.role → t.table.states ≡ fields.states → t.table.incarnations ≡ fields.incarnations → t.table.position ≡ fields.position → t ≡ s
 fields_are fields s t of_fields same id generation role states incarnations position =
-    same_superblock t s (fields_same (fields_of t) fields id generation of_fields.members role of_fields.chunk of_fields.stripes states incarnations position ∙ same)
+    same_superblock t s (fields_same (fields_of t) fields id generation of_fields.members role of_fields.chunk of_fields.stripes states incarnations position
+    ∙ same)
 
 -- where there is no geometry, no superblock has these fields
 pub fields_limits : (fields : Fields) (s : Superblock) → fields ≡ fields_of s → IsGeometry fields.members fields.chunk fields.stripes
@@ -97,7 +105,8 @@ no_geometry (Ok g) none is = absurd cc
 no_geometry (Err e) none is = absurd (false≢true is)
 
 -- the role is that of a slot that the states don't call missing
-pub role_within : (fields : Fields) (geometry : Geometry) (s : Superblock) → IsOfFields fields geometry → fields ≡ fields_of s → geometry.members + 2 ≤ fields.role → ⊥
+pub role_within : (fields : Fields) (geometry : Geometry) (s : Superblock) → IsOfFields fields geometry → fields ≡ fields_of s
+    → geometry.members + 2 ≤ fields.role → ⊥
 role_within fields geometry s of_fields same past =
     let members : geometry.members ≡ s.table.geometry.members = of_fields.members ∙ ap (λ (f : Fields). f.members) same in
     omega (arith, ap (λ (f : Fields). f.role) same, s.of_set)

@@ -29,7 +29,8 @@ next_not_older old states incarnations position new next grow = record {
 }
 
 -- what is stale under a table is stale under each later one
-pub stale_goes_on : (devices : ℕ) (old new : Table) (slot : ℕ) (content : Content) → IsNotOlder old new → IsStale devices old slot content → IsStale devices new slot content
+pub stale_goes_on : (devices : ℕ) (old new : Table) (slot : ℕ) (content : Content) → IsNotOlder old new → IsStale devices old slot content
+    → IsStale devices new slot content
 stale_goes_on devices old new slot content later stale = record {
   older = λ place superblock counts. omega (arith, later.generation, stale.older place superblock (counted place superblock counts));
   earlier = λ place superblock counts. omega (arith, later.incarnation slot, stale.earlier place superblock (counted place superblock counts));

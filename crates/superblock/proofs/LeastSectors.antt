@@ -16,10 +16,12 @@ four_least geometry slot = by_test (nat_lt slot geometry.members)
     by_test true = omega arith
     by_test false = omega arith
 
-pub member_least : (geometry : Geometry) (slot : ℕ) → slot < geometry.members → least_sectors geometry slot ≡ FIRST_ROW + rows_of geometry.chunk geometry.stripes
+pub member_least : (geometry : Geometry) (slot : ℕ) → slot < geometry.members
+    → least_sectors geometry slot ≡ FIRST_ROW + rows_of geometry.chunk geometry.stripes
 member_least geometry slot below = by_test (nat_lt slot geometry.members) refl
   where
-    by_test : (b : Bool) → nat_lt slot geometry.members ≡ b → (if b then FIRST_ROW + rows_of geometry.chunk geometry.stripes else JOURNAL_SECTORS) ≡ FIRST_ROW + rows_of geometry.chunk geometry.stripes
+    by_test : (b : Bool) → nat_lt slot geometry.members ≡ b
+        → (if b then FIRST_ROW + rows_of geometry.chunk geometry.stripes else JOURNAL_SECTORS) ≡ FIRST_ROW + rows_of geometry.chunk geometry.stripes
     by_test true is = refl
     by_test false is = absurd (not_below is)
       where
@@ -29,7 +31,8 @@ member_least geometry slot below = by_test (nat_lt slot geometry.members) refl
 pub journal_least : (geometry : Geometry) (slot : ℕ) → geometry.members ≤ slot → least_sectors geometry slot ≡ JOURNAL_SECTORS
 journal_least geometry slot beyond = by_test (nat_lt slot geometry.members) refl
   where
-    by_test : (b : Bool) → nat_lt slot geometry.members ≡ b → (if b then FIRST_ROW + rows_of geometry.chunk geometry.stripes else JOURNAL_SECTORS) ≡ JOURNAL_SECTORS
+    by_test : (b : Bool) → nat_lt slot geometry.members ≡ b
+        → (if b then FIRST_ROW + rows_of geometry.chunk geometry.stripes else JOURNAL_SECTORS) ≡ JOURNAL_SECTORS
     by_test true is = absurd (not_beyond is)
       where
         not_beyond : ¬ (nat_lt slot geometry.members ≡ true)

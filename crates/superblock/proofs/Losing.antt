@@ -14,7 +14,8 @@ alone : ℕ → Option Lost
 alone slot = Some record { slot = slot; away = [] }
 
 -- by what was lost before and the table then, one slot is lost after a call, or none
-pub lost_after_is_one : (before : Option Lost) (table : Table) (first second : Option Lost) → IsLostAfter before table first → IsLostAfter before table second → first ≡ second
+pub lost_after_is_one : (before : Option Lost) (table : Table) (first second : Option Lost) → IsLostAfter before table first → IsLostAfter before table second
+    → first ≡ second
 unfolding alone
 lost_after_is_one before table first second (inl a) (inl b) = a.1 ∙ sym b.1
 lost_after_is_one None table first second (inl a) (inr b) = absurd (not_both table b.0 a.0 b.1)
@@ -38,12 +39,14 @@ is_one slots h slot other up below down = elim (cases_eq other slot) [
   | inr apart ↦ absurd (differ (sym down ∙ up other below apart))
 ]
 
-is_lost : (slots : ℕ) (h : History) (lost : Lost) (other : ℕ) → OthersAreUp slots h lost.slot → other < slots → (is_down h other ≡ true) ⊎ (other ≡ lost.slot) → other ≡ lost.slot
+is_lost : (slots : ℕ) (h : History) (lost : Lost) (other : ℕ) → OthersAreUp slots h lost.slot → other < slots → (is_down h other ≡ true) ⊎ (other ≡ lost.slot)
+    → other ≡ lost.slot
 is_lost slots h lost other up below (inl down) = is_one slots h lost.slot other up below down
 is_lost slots h lost other up below (inr is) = is
 
 -- no two slots are down or lost where one is lost at most
-pub not_two_lost : (slots : ℕ) (during : Option Lost) (h : History) → IsSingleFailure slots during h → (first second : ℕ) → first < slots → second < slots → first ≢ second
+pub not_two_lost : (slots : ℕ) (during : Option Lost) (h : History) → IsSingleFailure slots during h → (first second : ℕ) → first < slots → second < slots
+    → first ≢ second
     → (is_down h first ≡ true) ⊎ IsOfLost during first → (is_down h second ≡ true) ⊎ IsOfLost during second → ⊥
 not_two_lost slots None h (after, inl (none, up)) first second below below' apart (inl down) out = differ (sym down ∙ up first below)
 not_two_lost slots None h (after, inl (none, up)) first second below below' apart (inr never) out = absurd never

@@ -33,7 +33,8 @@ place_iff slot place superblock own_slot = (
 )
 
 -- a superblock that a sector spells counts where the sector stands
-pub counts_in : (id : List ℕ) (devices slot place : ℕ) (sector : Bytes) (superblock : Superblock) (content : Content) → sector_of (disk_of content) place ≡ sector
+pub counts_in : (id : List ℕ) (devices slot place : ℕ) (sector : Bytes) (superblock : Superblock) (content : Content)
+    → sector_of (disk_of content) place ≡ sector
     → CountsIn id devices slot place sector superblock → Counts id devices slot content place superblock
 counts_in id devices slot place sector superblock content stands is = record {
   stands = stands ∙ is.spelled;
@@ -43,7 +44,8 @@ counts_in id devices slot place sector superblock content stands is = record {
   has_slots = is.of_set.has_slots;
 }
 
-pub in_counts : (id : List ℕ) (devices slot place : ℕ) (sector : Bytes) (superblock : Superblock) (content : Content) → sector_of (disk_of content) place ≡ sector
+pub in_counts : (id : List ℕ) (devices slot place : ℕ) (sector : Bytes) (superblock : Superblock) (content : Content)
+    → sector_of (disk_of content) place ≡ sector
     → Counts id devices slot content place superblock → CountsIn id devices slot place sector superblock
 in_counts id devices slot place sector superblock content stands is = record {
   spelled = sym stands ∙ is.stands;
@@ -57,7 +59,8 @@ none_beyond id devices slot place content short superblock counts =
     nothing_spells superblock (sym (get_or_past (disk_of content) place [] short) ∙ counts.stands)
 
 -- the same of what was found in a sector that is known to stand there
-pub counted_there : (id : List ℕ) (devices slot place : ℕ) (content : Content) (sector : Bytes) (superblock : Superblock) → sector ≡ sector_of (disk_of content) place
+pub counted_there : (id : List ℕ) (devices slot place : ℕ) (content : Content) (sector : Bytes) (superblock : Superblock)
+    → sector ≡ sector_of (disk_of content) place
     → CountsIn id devices slot place sector superblock → Counts id devices slot content place superblock
 counted_there id devices slot place content sector superblock stands is = counts_in id devices slot place sector superblock content (sym stands) is
 
@@ -106,11 +109,13 @@ NewestOf id devices slot content (Some newest) = IsNewest id devices slot conten
 at_most : (id : List ℕ) (devices slot : ℕ) (content : Content) (place : ℕ) (most : ℕ) (one other : Superblock)
     → Counts id devices slot content place one → one.table.generation ≤ most → Counts id devices slot content place other → other.table.generation ≤ most
 at_most id devices slot content place most one other is_one below is_other =
-    let same : one.table.generation ≡ other.table.generation = ap (λ (s : Superblock). s.table.generation) (one_counted id devices slot content place one other is_one is_other) in
+    let same : one.table.generation ≡ other.table.generation =
+    ap (λ (s : Superblock). s.table.generation) (one_counted id devices slot content place one other is_one is_other) in
     omega arith
 
 -- the newer of two, as it is looked for
-pub newer_second : (first second : Option Superblock) (old new : Superblock) → first ≡ Some old → second ≡ Some new → old.table.generation < new.table.generation
+pub newer_second : (first second : Option Superblock) (old new : Superblock) → first ≡ Some old → second ≡ Some new
+    → old.table.generation < new.table.generation
     → second ≡ newer_of first second
 newer_second first second old new is_first is_second below =
     is_second ∙ cond_below old.table.generation new.table.generation (Some new) (Some old) below
@@ -156,7 +161,8 @@ newest_of_two id devices slot content (Some a) (Some b) is_even is_odd = elim (c
             (λ s counts. at_most id devices slot content 0 b.table.generation a s is_even (omega arith) counts)
             (λ s counts. at_most id devices slot content 1 b.table.generation b s is_odd (omega arith) counts);
       }
-  | inr above ↦ subst (λ (o : Option Superblock). NewestOf id devices slot content o) (cond_above a.table.generation b.table.generation (Some b) (Some a) (Some a) above refl)
+  | inr above ↦ subst (λ (o : Option Superblock). NewestOf id devices slot content o)
+      (cond_above a.table.generation b.table.generation (Some b) (Some a) (Some a) above refl)
       record {
         place = 0;
         counted = is_even;
@@ -187,7 +193,8 @@ one_incarnation id devices slot content first second is_first is_second =
     let at_least = is_first.greatest is_second.place is_second.newest is_second.counted in
     let at_most = is_second.greatest is_first.place is_first.newest is_first.counted in
     let generations : is_first.newest.table.generation ≡ is_second.newest.table.generation = omega arith in
-    let places : is_first.place ≡ is_second.place = sym is_first.counted.own_place ∙ ap (λ (g : ℕ). g % SUPERBLOCK_PLACES) generations ∙ is_second.counted.own_place in
+    let places : is_first.place ≡ is_second.place = sym is_first.counted.own_place ∙ ap (λ (g : ℕ). g % SUPERBLOCK_PLACES) generations
+    ∙ is_second.counted.own_place in
     let newest = one_counted id devices slot content is_second.place is_first.newest is_second.newest
     (subst (λ (at : ℕ). Counts id devices slot content at is_first.newest) places is_first.counted) is_second.counted in
     sym is_first.own ∙ ap (λ (s : Superblock). incarnation_at s.table.incarnations slot) newest ∙ is_second.own
@@ -239,16 +246,19 @@ best_step id devices image n (Some a) None below here = record {
   first = below.first;
 }
 best_step id devices image n (Some a) (Some b) below here = elim (cases_lt a.table.generation b.table.generation) [
-  | inl older ↦ subst (λ (o : Option Superblock). IsBestTo id devices image (n + 1) o) (cond_below a.table.generation b.table.generation (Some b) (Some a) older)
+  | inl older ↦ subst (λ (o : Option Superblock). IsBestTo id devices image (n + 1) o)
+      (cond_below a.table.generation b.table.generation (Some b) (Some a) older)
       record {
         slot = n;
         place = here.place;
         within = omega arith;
         counted = here.counted;
-        greatest = next_at_most id devices image n b.table.generation (λ other at s within counts. let most = below.greatest other at s within counts in omega arith) here.greatest;
+        greatest = next_at_most id devices image n b.table.generation
+            (λ other at s within counts. let most = below.greatest other at s within counts in omega arith) here.greatest;
         first = λ other at s within counts. let most = below.greatest other at s within counts in omega arith;
       }
-  | inr newer ↦ subst (λ (o : Option Superblock). IsBestTo id devices image (n + 1) o) (cond_above a.table.generation b.table.generation (Some b) (Some a) (Some a) newer refl)
+  | inr newer ↦ subst (λ (o : Option Superblock). IsBestTo id devices image (n + 1) o)
+      (cond_above a.table.generation b.table.generation (Some b) (Some a) (Some a) newer refl)
       record {
         slot = below.slot;
         place = below.place;

@@ -1,5 +1,6 @@
 -- Fields that stand one after the other in a list of bytes.
-use Rattle.std.proofs.Common.{◌≡◌, ℕ, suc, ◌+◌, ◌-◌, ◌<◌, ◌≤◌, ◌^◌, List, [], ◌∷◌, ◌++◌, length, get_or, set, take, drop, refl, sym, ap, ◌∙◌, append_assoc, arith}
+use Rattle.std.proofs.Common.{◌≡◌, ℕ, suc, ◌+◌, ◌-◌, ◌<◌, ◌≤◌, ◌^◌, List, [], ◌∷◌, ◌++◌, length, get_or, set, take, drop, refl, sym, ap, ◌∙◌, append_assoc}
+use Rattle.std.proofs.Common.{arith}
 use Rattle.std.proofs.lemmas.List.{length-append, length-take, length-drop, length-set, take_all, take_at, drop_at, get_or_at, set_split, append-nil}
 use Rattle.byteorder.specs.Endian.{little_bytes, little_number}
 use Rattle.byteorder.specs.Numbers.{little_number-reads_back, little_from-take, length-bytes_low_first}
@@ -20,7 +21,14 @@ begins_part n k m bytes part field rest front begins within part_long part_is en
     let post = drop k (drop n bytes) in
     let regrouped : take n bytes ++ ((field ++ rest) ++ post) ≡ (take n bytes ++ field) ++ (rest ++ post) = simp append_assoc in
     record {
-      long = omega (arith, length-append (take n bytes) (part ++ post), length-append part post, length-drop k (drop n bytes), length-drop n bytes, begins.long);
+      long = omega (
+        arith,
+        length-append (take n bytes) (part ++ post),
+        length-append part post,
+        length-drop k (drop n bytes),
+        length-drop n bytes,
+        begins.long,
+      );
       front_is =
           ap (λ (p : List ℕ). take m (take n bytes ++ (p ++ post))) part_is
           ∙ ap (λ (p : List ℕ). take m p) regrouped
@@ -35,7 +43,8 @@ begins_byte n m value bytes front begins within ends =
     record {
       long = length-set bytes n value ∙ begins.long;
       front_is =
-          ap (λ (p : List ℕ). take m p) (set_split bytes n value (omega (arith, begins.long)) ∙ sym (append_assoc (take n bytes) (value ∷ []) (drop (suc n) bytes)))
+          ap (λ (p : List ℕ). take m p) (set_split bytes n value (omega (arith, begins.long))
+          ∙ sym (append_assoc (take n bytes) (value ∷ []) (drop (suc n) bytes)))
           ∙ take_at (take n bytes ++ value ∷ []) (drop (suc n) bytes) m (length-append (take n bytes) (value ∷ []) ∙ omega arith)
           ∙ ap (λ (p : List ℕ). p ++ value ∷ []) begins.front_is;
     }
@@ -52,7 +61,8 @@ pub begins_with : (n : ℕ) (bytes : List ℕ) → length bytes ≡ 512 → Begi
 begins_with n bytes long = record { long = long; front_is = refl }
 
 -- a field is written over a part of its length
-pub begins_field : (n k m : ℕ) (bytes part field front : List ℕ) → Begins n bytes front → n + k ≡ m → m ≤ 512 → part ≡ field → length field ≡ k → Begins m (put_mid n k bytes part) (front ++ field)
+pub begins_field : (n k m : ℕ) (bytes part field front : List ℕ) → Begins n bytes front → n + k ≡ m → m ≤ 512 → part ≡ field → length field ≡ k
+    → Begins m (put_mid n k bytes part) (front ++ field)
 begins_field n k m bytes part field front begins ends within part_is field_long =
     begins_part n k m bytes part field [] front begins (omega arith) (ap length part_is ∙ field_long) (part_is ∙ sym (append-nil field)) (omega arith)
 
@@ -62,7 +72,13 @@ pub begins_number : (n k m width x : ℕ) (bytes part front : List ℕ) → Begi
 begins_number n k m width x bytes part front begins whole fits ends part_is =
     let rest = drop width (take k (drop n bytes)) in
     let number_long = length-bytes_low_first 0 width x in
-    let rest_long : length rest ≡ k - width = omega (arith, length-drop width (take k (drop n bytes)), length-take k (drop n bytes), length-drop n bytes, begins.long) in
+    let rest_long : length rest ≡ k - width = omega (
+      arith,
+      length-drop width (take k (drop n bytes)),
+      length-take k (drop n bytes),
+      length-drop n bytes,
+      begins.long,
+    ) in
     begins_part n k m bytes part (little_bytes width x) rest front begins (omega arith)
     (ap length part_is ∙ length-append (little_bytes width x) rest ∙ omega arith) part_is (omega arith)
 

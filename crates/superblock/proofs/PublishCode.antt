@@ -1,5 +1,6 @@
 -- The calls of publishing a table, as the code makes them.
-use Rattle.std.proofs.Common.{◌≡◌, ◌≢◌, ◌⊎◌, inl, inr, ℕ, suc, ◌+◌, ◌-◌, ◌<◌, ◌≤◌, ◌&&◌, nat_lt, Bool, true, false, not, cond, List, [], ◌∷◌, map, refl, sym, ◌∙◌, ap, subst, arith}
+use Rattle.std.proofs.Common.{◌≡◌, ◌≢◌, ◌⊎◌, inl, inr, ℕ, suc, ◌+◌, ◌-◌, ◌<◌, ◌≤◌, ◌&&◌, nat_lt, Bool, true, false, not, cond, List, [], ◌∷◌, map, refl, sym}
+use Rattle.std.proofs.Common.{◌∙◌, ap, subst, arith}
 use Rattle.std.proofs.lemmas.Bool.{and_parts, eq-eqb, lt-ltb, ltb-true, not-true}
 use Rattle.std.proofs.lemmas.Result.{IfErr-at_err}
 use Rattle.std.proofs.lemmas.List.Elements.{Contains-append_left, Contains-append_right}
@@ -34,7 +35,8 @@ use Rattle.superblock.proofs.Same.{same_superblock}
 -- one sector
 
 -- two superblocks of one table in one slot spell one sector
-pub one_sector : (superblock : Superblock) (table : Table) (slot : ℕ) (sector : Bytes) → superblock.table ≡ table → superblock.role ≡ slot → StandsAt table slot sector
+pub one_sector : (superblock : Superblock) (table : Table) (slot : ℕ) (sector : Bytes) → superblock.table ≡ table → superblock.role ≡ slot
+    → StandsAt table slot sector
     → sector ≡ superblock_sector superblock
 one_sector superblock table slot sector carries own_slot stands =
     let table_is : stands.superblock.table ≡ superblock.table = stands.carries ∙ sym carries in
@@ -56,7 +58,8 @@ one_sector superblock table slot sector carries own_slot stands =
 
 -- a call, answered or not
 pub made_one : {old new : History} (call : Call) (result : Result (Unit {0}) Stop) (after : Panel)
-    → new ≡ after_try (after_call call) result old → OnOk result (after.down (device_of call) ≡ false) → IsTrueTo after new → Made (call ∷ []) (is_ok result) old new
+    → new ≡ after_try (after_call call) result old → OnOk result (after.down (device_of call) ≡ false) → IsTrueTo after new
+    → Made (call ∷ []) (is_ok result) old new
 made_one call (Ok done) after is up is_true = made_then call done after is up is_true (made_none _)
 made_one call (Err stop) after is up is_true = made_stop call stop is
 
@@ -66,16 +69,19 @@ made_one call (Err stop) after is up is_true = made_stop call stop is
 abbrev pub slots_from : (ℕ → Bool) → (from n : ℕ) → List ℕ
 slots_from test from n = filter test (range_with_len from (n - from))
 
-slots_next : (test : ℕ → Bool) (from n : ℕ) → from < n → slots_from test from n ≡ cond (test from) (from ∷ slots_from test (from + 1) n) (slots_from test (from + 1) n)
+slots_next : (test : ℕ → Bool) (from n : ℕ) → from < n
+    → slots_from test from n ≡ cond (test from) (from ∷ slots_from test (from + 1) n) (slots_from test (from + 1) n)
 slots_next test from n within =
     let more : n - from ≡ suc (n - (from + 1)) = omega arith in
     ap (λ (count : ℕ). filter test (range_with_len from count)) more
 
 slots_chosen : (test : ℕ → Bool) (from n : ℕ) → from < n → test from ≡ true → slots_from test from n ≡ from ∷ slots_from test (from + 1) n
-slots_chosen test from n within is = slots_next test from n within ∙ ap (λ (b : Bool). cond b (from ∷ slots_from test (from + 1) n) (slots_from test (from + 1) n)) is
+slots_chosen test from n within is = slots_next test from n within
+    ∙ ap (λ (b : Bool). cond b (from ∷ slots_from test (from + 1) n) (slots_from test (from + 1) n)) is
 
 slots_passed : (test : ℕ → Bool) (from n : ℕ) → from < n → test from ≡ false → slots_from test from n ≡ slots_from test (from + 1) n
-slots_passed test from n within is = slots_next test from n within ∙ ap (λ (b : Bool). cond b (from ∷ slots_from test (from + 1) n) (slots_from test (from + 1) n)) is
+slots_passed test from n within is = slots_next test from n within
+    ∙ ap (λ (b : Bool). cond b (from ∷ slots_from test (from + 1) n) (slots_from test (from + 1) n)) is
 
 -- all are left
 pub slots_start : (test : ℕ → Bool) (call : ℕ → Call) (n : ℕ) {answered : Bool} {old new : History}
@@ -92,7 +98,8 @@ slots_end test call from n h all =
 
 -- the call of this slot is answered
 pub slots_then : (test : ℕ → Bool) (call : ℕ → Call) (from n : ℕ) {answered : Bool} {old mid new : History} → from < n → test from ≡ true
-    → Made (call from ∷ []) true old mid → Made (map call (slots_from test (from + 1) n)) answered mid new → Made (map call (slots_from test from n)) answered old new
+    → Made (call from ∷ []) true old mid → Made (map call (slots_from test (from + 1) n)) answered mid new
+    → Made (map call (slots_from test from n)) answered old new
 slots_then test call from n {answered = answered} {old = old} {new = new} within is first rest =
     subst (λ (slots : List ℕ). Made (map call slots) answered old new) (sym (slots_chosen test from n within is)) (made_both first rest)
 
@@ -164,7 +171,8 @@ pub first_named : (table : Table) (last : Option ℕ) (slot device : ℕ) (panel
     → IsCauseOf panel stop × ((stop ≡ Worn) ⊎ (stop ≡ Down slot)) → stop ≡ Down device → Contains (first_slots table last) device
 first_named table last slot device panel stop within is cause down = elim cause.1 [
   | inl worn ↦ absurd (cc)
-  | inr of_slot ↦ let same : slot ≡ device = cc in subst (Contains (first_slots table last)) same (first_has table last slot (first_by_test table last slot within is))
+  | inr of_slot ↦ let same : slot ≡ device = cc in subst (Contains (first_slots table last)) same
+      (first_has table last slot (first_by_test table last slot within is))
 ]
 
 -- a slot of the set is one of the bank's after some calls, and still has both places
@@ -172,7 +180,8 @@ up_before : (before after : Bool) → (before ≡ true → after ≡ true) → a
 up_before false after keep up = refl
 up_before true after keep up = absurd (let down = keep refl in cc)
 
-pub first_in_bank : {table : Table} {last : Option ℕ} {old new : Panel} (slot : ℕ) → CanPublish old table last → IsLater old new → slot < slots_of table → slot < new.devices
+pub first_in_bank : {table : Table} {last : Option ℕ} {old new : Panel} (slot : ℕ) → CanPublish old table last → IsLater old new → slot < slots_of table
+    → slot < new.devices
 first_in_bank slot can later within = omega (arith, can.of_bank, later.devices)
 
 pub first_has_places : {table : Table} {last : Option ℕ} {old new : Panel} (slot : ℕ) → CanPublish old table last → IsLater old new → slot < slots_of table
@@ -186,7 +195,8 @@ can_later {old = old} {new = new} can later = record {
   of_bank = rw later.devices can.of_bank;
   last_in_set = can.last_in_set;
   last_there = can.last_there;
-  has_places = λ slot within there up. rw (later.sectors slot) (can.has_places slot within there (up_before (old.down slot) (new.down slot) (later.down slot) up));
+  has_places = λ slot within there up. rw (later.sectors slot)
+      (can.has_places slot within there (up_before (old.down slot) (new.down slot) (later.down slot) up));
 }
 
 -- the sectors of a table
@@ -219,10 +229,12 @@ sector_if table slot false out within is = []
 pub sector_for : Table → ℕ → Bytes
 sector_for table slot = sector_if table slot (nat_lt slot (slots_of table)) (is_missing (state_at table.states slot)) refl refl
 
-stands_if : (table : Table) (slot : ℕ) (within out : Bool) (is_within : nat_lt slot (slots_of table) ≡ within) (is_out : is_missing (state_at table.states slot) ≡ out)
+stands_if : (table : Table) (slot : ℕ) (within out : Bool) (is_within : nat_lt slot (slots_of table) ≡ within)
+    (is_out : is_missing (state_at table.states slot) ≡ out)
     → slot < slots_of table → state_at table.states slot ≢ Missing → StandsAt table slot (sector_if table slot within out is_within is_out)
 unfolding sector_if
-stands_if table slot true false within out below there = record { superblock = superblock_for table slot within out; carries = refl; own_slot = refl; spelled = refl }
+stands_if table slot true false within out below there =
+    record { superblock = superblock_for table slot within out; carries = refl; own_slot = refl; spelled = refl }
 stands_if table slot true true within out below there = absurd (there (missing_is (state_at table.states slot) out))
 stands_if table slot false out within is below there = absurd (let below' = lt-ltb slot (slots_of table) below in cc)
 
@@ -238,7 +250,8 @@ AreSpelled table sectors = (slot : ℕ) → slot < slots_of table → state_at t
 
 -- the writes of the first aren't all answered
 pub short_in_first : (table : Table) (last : Option ℕ) (sectors : ℕ → Bytes) {old new : History}
-    → Made (map (λ slot. Write slot (place_of table) (sectors slot)) (first_slots table last)) false old new → Made (publish_calls table last sectors) false old new
+    → Made (map (λ slot. Write slot (place_of table) (sectors slot)) (first_slots table last)) false old new
+    → Made (publish_calls table last sectors) false old new
 short_in_first table last sectors written =
     made_short (written_and_flushed table sectors (last_slots last)) (made_short (map (λ slot. Flush slot) (first_slots table last)) written)
 
@@ -258,7 +271,8 @@ then_last table last sectors {safe = safe} written flushed rest = record { mid =
 
 -- the last one's calls
 pub last_made : (table : Table) (last : Option ℕ) (slot : ℕ) (sectors : ℕ → Bytes) {answered : Bool} {old new : History} → last ≡ Some slot
-    → Made (Write slot (place_of table) (sectors slot) ∷ Flush slot ∷ []) answered old new → Made (written_and_flushed table sectors (last_slots last)) answered old new
+    → Made (Write slot (place_of table) (sectors slot) ∷ Flush slot ∷ []) answered old new
+    → Made (written_and_flushed table sectors (last_slots last)) answered old new
 last_made table last slot sectors {answered = answered} {old = old} {new = new} is made =
     subst (λ (last : Option ℕ). Made (written_and_flushed table sectors (last_slots last)) answered old new) (sym is) made
 
@@ -274,7 +288,8 @@ last_named table last slot device panel result is err down =
     let there = subst (λ (last : Option ℕ). Contains (last_slots last) slot) (sym is) (0, omega arith, refl) in
     elim cause.1 [
       | inl worn ↦ absurd (cc)
-      | inr of_slot ↦ let same : slot ≡ device = cc in subst (GetsIt table last) same (Contains-append_right (first_slots table last) (last_slots last) slot there)
+      | inr of_slot ↦ let same : slot ≡ device = cc in subst (GetsIt table last) same
+          (Contains-append_right (first_slots table last) (last_slots last) slot there)
     ]
 
 -- what `publish` promises, by what it made and how it ended
@@ -305,11 +320,13 @@ publishes {honest = honest} table last old_panel new_panel {old = old} {new = ne
           published_safe table last (sector_for table) old new (places honest) done slot gets;
       up = up;
       safe_first = λ honest slot err is. published_first table last (sector_for table) false old new (places honest) (done slot err is honest);
-      last_sees = λ honest lacks. published_last table last (sector_for table) old new (is_ok result) (places honest) lacks (made (sector_for table) spelled honest);
+      last_sees = λ honest lacks. published_last table last (sector_for table) old new (is_ok result) (places honest) lacks
+          (made (sector_for table) spelled honest);
     }
 
 -- it ended with an error before the last one's calls
-pub publishes_short : {honest : Type 0} (table : Table) (last : Option ℕ) (old_panel new_panel : Panel) {old new : History} (result : Result (Unit {0}) Stop) (stop : Stop)
+pub publishes_short : {honest : Type 0} (table : Table) (last : Option ℕ) (old_panel new_panel : Panel) {old new : History} (result : Result (Unit {0}) Stop)
+    (stop : Stop)
     → result ≡ Err stop → CanPublish old_panel table last → (honest → IsTrueTo old_panel old) → IsLater old_panel new_panel
     → ((sectors : ℕ → Bytes) → AreSpelled table sectors → honest → Made (publish_calls table last sectors) false old new)
     → IsCauseOf new_panel stop → ((device : ℕ) → stop ≡ Down device → Contains (first_slots table last) device)
@@ -332,7 +349,8 @@ publishes_then {honest = honest} table last old_panel new_panel {old = old} {new
     publishes table last old_panel new_panel result can is_true later
     (λ sectors spelled fair. let all = done sectors spelled fair in made_both all.first all.rest) cause named up
     (λ slot down of_last fair.
-    subst (λ (r : Result (Unit {0}) Stop). FirstAreDone table last (sector_for table) (is_ok r) old new) down (done (sector_for table) (sector_stands table) fair))
+    subst (λ (r : Result (Unit {0}) Stop). FirstAreDone table last (sector_for table) (is_ok r) old new) down
+    (done (sector_for table) (sector_stands table) fair))
 
 -- the last one is up
 pub last_is_up : (last : Option ℕ) (slot other : ℕ) (panel : Panel) (result : Result (Unit {0}) Stop) → last ≡ Some slot → OnOk result (panel.down slot ≡ false)

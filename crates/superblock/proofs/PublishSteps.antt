@@ -81,7 +81,8 @@ module _ (table : Table) (last : Option ℕ) (sectors : ℕ → Bytes) (old : Hi
   by_write device gets true h is = by_event (Wrote device (place_of table) (sectors device)) h is (new_there device gets) (λ d down. down) (λ d not_got. refl)
   by_write device gets false h is =
       by_fault device (Lost device (place_of table) (sectors device)) h is
-      (by_event (Lost device (place_of table) (sectors device)) h is (new_there device gets) (λ d down. or_right (d == device) (is_down h d) down) (stay_up device gets h))
+      (by_event (Lost device (place_of table) (sectors device)) h is (new_there device gets) (λ d down. or_right (d == device) (is_down h d) down)
+      (stay_up device gets h))
 
   by_flush : (device : ℕ) → GetsIt table last device → (answered : Bool) (h : History) → Is h → Is (after_call (Flush device) answered h)
   by_flush device gets true h is = by_event (Flushed device) h is (λ d a v put. absurd put) (λ d down. down) (λ d not_got. refl)
@@ -106,7 +107,8 @@ module _ (table : Table) (last : Option ℕ) (sectors : ℕ → Bytes) (old : Hi
 
   phase_keeps : (slots : List ℕ) → ((slot : ℕ) → Contains slots slot → GetsIt table last slot) → AllKeep Is (written_and_flushed table sectors slots)
   phase_keeps slots get =
-      keep_both Is (map (λ slot. Write slot (place_of table) (sectors slot)) slots) (map (λ slot. Flush slot) slots) (writes_keep slots get) (flushes_keep slots get)
+      keep_both Is (map (λ slot. Write slot (place_of table) (sectors slot)) slots) (map (λ slot. Flush slot) slots) (writes_keep slots get)
+      (flushes_keep slots get)
 
 -- all calls of a publish keep that
 pub publish_keeps : (table : Table) (last : Option ℕ) (sectors : ℕ → Bytes) (old : History)
@@ -115,7 +117,8 @@ publish_keeps table last sectors old =
     let first = first_slots table last in
     let lasts = last_slots last in
     keep_both (IsInPublish table last sectors old) (written_and_flushed table sectors first) (written_and_flushed table sectors lasts)
-    (phase_keeps table last sectors old first (λ slot has. Contains-append_left first lasts slot has)) (phase_keeps table last sectors old lasts (λ slot has. Contains-append_right first lasts slot has))
+    (phase_keeps table last sectors old first (λ slot has. Contains-append_left first lasts slot has))
+    (phase_keeps table last sectors old lasts (λ slot has. Contains-append_right first lasts slot has))
 
 -- at each moment of a publish a crash leaves what it might have left before, and the new superblocks
 pub in_publish : (table : Table) (last : Option ℕ) (sectors : ℕ → Bytes) (answered : Bool) (old new : History)

@@ -1,5 +1,6 @@
 -- The laws of publishing a table.
-use Rattle.std.proofs.Common.{◌≡◌, ◌≢◌, ◌⊎◌, inl, inr, ℕ, ◌+◌, ◌<◌, ◌≤◌, Bool, true, false, List, [], ◌∷◌, ◌++◌, length, Option, Some, refl, sym, ◌∙◌, ap, subst, arith, mod-lt}
+use Rattle.std.proofs.Common.{◌≡◌, ◌≢◌, ◌⊎◌, inl, inr, ℕ, ◌+◌, ◌<◌, ◌≤◌, Bool, true, false, List, [], ◌∷◌, ◌++◌, length, Option, Some, refl, sym, ◌∙◌, ap}
+use Rattle.std.proofs.Common.{subst, arith, mod-lt}
 use Rattle.std.specs.Prelude.{Contains, map}
 use Rattle.std.proofs.lemmas.List.Elements.{Contains-append_cases, Contains-append_left, Contains-append_right}
 use Rattle.sector_model.specs.Bank.{IsTrueTo, Panel}
@@ -7,7 +8,8 @@ use Rattle.sector_model.specs.Calls.{Call, Flush, Made, after_all, after_call, d
 use Rattle.sector_model.specs.History.{Bytes, History, MayHold, disk_of, is_down, seen, start_of}
 use Rattle.sector_model.specs.MemoryLaw.{length-seen}
 use Rattle.sector_model.specs.Moments.{Contents, LeavesWithin, Throughout}
-use Rattle.sector_model.proofs.Sequences.{AllKeep, AllUp, IsSafe, after_both, down_after, kept_after, made_all, made_up, safe_kept_as, sizes_after, throughout_kept, throughout_made, up_after}
+use Rattle.sector_model.proofs.Sequences.{AllKeep, AllUp, IsSafe, after_both, down_after, kept_after, made_all, made_up, safe_kept_as, sizes_after}
+use Rattle.sector_model.proofs.Sequences.{throughout_kept, throughout_made, up_after}
 use Rattle.sector_model.proofs.Steps.{throughout_last, throughout_more}
 use Rattle.layout_map.specs.declared.geometry.Geometry.{Geometry}
 use Rattle.layout_map.specs.declared.sizes.TheConstants.{SUPERBLOCK_PLACES}
@@ -16,7 +18,8 @@ use Rattle.superblock.specs.declared.table.Table.{Table}
 use Rattle.superblock.specs.Cases.{Lost}
 use Rattle.superblock.specs.Losses.{AllChoose}
 use Rattle.superblock.specs.NextTables.{slots_of}
-use Rattle.superblock.specs.Publishing.{CanPublish, ChooseEither, IsLastToSee, IsSafeAt, LacksIt, MayPublish, StandsAt, first_slots, last_slots, place_of, publish_calls, written_and_flushed}
+use Rattle.superblock.specs.Publishing.{CanPublish, ChooseEither, IsLastToSee, IsSafeAt, LacksIt, MayPublish, StandsAt, first_slots, last_slots, place_of}
+use Rattle.superblock.specs.Publishing.{publish_calls, written_and_flushed}
 use Rattle.superblock.specs.Tables.{state_at}
 use Rattle.superblock.proofs.PublishSteps.{GetsIt, IsInPublish, in_publish_first, publish_keeps}
 use Rattle.superblock.proofs.PublishedMoments.{IsMoment, choose_either}
@@ -60,7 +63,11 @@ safe_both P R (call ∷ calls) h one two = ((one.0, two.0), (one.1, two.1), λ u
 -- one that holds at each moment under a condition
 safe_if : (G : Type 0) (P : History → Type 0) (calls : List Call) (h : History) → (G → IsSafe P calls h) → IsSafe (λ g. G → P g) calls h
 safe_if G P [] h safe = safe
-safe_if G P (call ∷ calls) h safe = (λ given. (safe given).0, λ given. (safe given).1, λ up. safe_if G P calls (after_call call true h) (λ given. (safe given).2 up))
+safe_if G P (call ∷ calls) h safe = (
+  λ given. (safe given).0,
+  λ given. (safe given).1,
+  λ up. safe_if G P calls (after_call call true h) (λ given. (safe given).2 up),
+)
 
 module _ (table : Table) (last : Option ℕ) (sectors : ℕ → Bytes) (old : History) (places : HavePlaces table last old) where
   abbrev first : List ℕ
@@ -93,7 +100,8 @@ module _ (table : Table) (last : Option ℕ) (sectors : ℕ → Bytes) (old : Hi
       → LeavesWithin SafeOnFirst (after_all (written_and_flushed table sectors (first_slots table last)) old)
   first_safe up = record {
     each = λ d a v may has at.
-        phase_safe table sectors first old d has (room d (Contains-append_left first lasts d has) (phase_up table sectors first (flushes_of first) old up d has)) v
+        phase_safe table sectors first old d has (room d (Contains-append_left first lasts d has)
+        (phase_up table sectors first (flushes_of first) old up d has)) v
         (subst (λ (k : ℕ). MayHold (after_all first_calls old) d k v) at may);
   }
 
@@ -104,7 +112,9 @@ module _ (table : Table) (last : Option ℕ) (sectors : ℕ → Bytes) (old : Hi
   last_stays = phase_within table sectors NotOnLast first (λ slot has is. absurd ((first_is table last slot has).not_last is))
 
   lacking : LacksIt table last sectors old → LeavesWithin NotOnLast old
-  lacking lacks = record { each = λ d a v may is at same. lacks d is (subst (MayHold old d (place_of table)) same (subst (λ (k : ℕ). MayHold old d k v) at may)) }
+  lacking lacks = record {
+    each = λ d a v may is at same. lacks d is (subst (MayHold old d (place_of table)) same (subst (λ (k : ℕ). MayHold old d k v) at may));
+  }
 
   -- the last device sees the superblock once it is safe on the others, whatever is answered
   pub last_safe : LacksIt table last sectors old → IsSafe (IsLastToSee table last sectors) (publish_calls table last sectors) old
@@ -137,7 +147,8 @@ module _ (table : Table) (last : Option ℕ) (sectors : ℕ → Bytes) (old : Hi
       let up = phase_up table sectors lasts (flushes_of lasts) old (up_after first_calls last_calls old (made_up made)) slot has in
       let is : new ≡ after_all last_calls mid = made_all made ∙ after_both first_calls last_calls old in
       let within = room slot (Contains-append_right first lasts slot has) up in
-      phase_safe table sectors lasts mid slot has (omega (arith, within, sizes_after first_calls old slot)) value (subst (λ (h : History). MayHold h slot (place_of table) value) is may)
+      phase_safe table sectors lasts mid slot has (omega (arith, within, sizes_after first_calls old slot)) value
+      (subst (λ (h : History). MayHold h slot (place_of table) value) is may)
 
 -- once a publish is done, the superblock is safe on each device that gets it
 pub published_safe : (table : Table) (last : Option ℕ) (sectors : ℕ → Bytes) (old new : History) → HavePlaces table last old
@@ -163,7 +174,8 @@ published_first table last sectors answered old new places done = first_still ta
 pub published_last : (table : Table) (last : Option ℕ) (sectors : ℕ → Bytes) (old new : History) (answered : Bool) → HavePlaces table last old
     → LacksIt table last sectors old
     → Made (publish_calls table last sectors) answered old new → Throughout (IsLastToSee table last sectors) old new
-published_last table last sectors old new answered places lacks made = throughout_made (IsLastToSee table last sectors) (last_safe table last sectors old places lacks) made
+published_last table last sectors old new answered places lacks made =
+    throughout_made (IsLastToSee table last sectors) (last_safe table last sectors old places lacks) made
 
 -- at each moment the images of a case choose the old table, or all of them the new one
 pub published_either : (devices : ℕ) (before table : Table) (last : Option ℕ) (lost : Lost) (sectors : ℕ → Bytes) (old new : History) (answered : Bool)
@@ -176,7 +188,8 @@ published_either devices before table last lost sectors old new answered spelled
     (throughout_made (λ h. In h × Sees h)
     (safe_both In Sees (publish_calls table last sectors) old (safe_kept_as In In (publish_calls table last sectors) old (λ h is. is)
     (publish_keeps table last sectors old) (in_publish_first table last sectors old))
-    (safe_if (LacksIt table last sectors old) (IsLastToSee table last sectors) (publish_calls table last sectors) old (last_safe table last sectors old places)))
+    (safe_if (LacksIt table last sectors old) (IsLastToSee table last sectors) (publish_calls table last sectors) old
+    (last_safe table last sectors old places)))
     made)
   where
     In : History → Type 0
@@ -202,5 +215,6 @@ published_either devices before table last lost sectors old new answered spelled
           up = lost_at.2;
           sees = sees;
         } in
-        subst (λ (l : Option Lost). AllChoose devices before record { image = image; lost = l } ⊎ AllChoose devices table record { image = image; lost = l }) (sym lost_at.1)
+        subst (λ (l : Option Lost). AllChoose devices before record { image = image; lost = l } ⊎ AllChoose devices table record { image = image; lost = l })
+        (sym lost_at.1)
         (choose_either devices before table last lost sectors old h m image left)

@@ -1,5 +1,6 @@
 -- Which table the images of a moment of a publish choose.
-use Rattle.std.proofs.Common.{◌≡◌, ◌≢◌, ◌⊎◌, inl, inr, ℕ, zero, suc, ◌+◌, ◌<◌, ◌≤◌, Bool, true, false, cond, List, [], length, refl, sym, ◌∙◌, ap, subst, arith, ◌==◌}
+use Rattle.std.proofs.Common.{◌≡◌, ◌≢◌, ◌⊎◌, inl, inr, ℕ, zero, suc, ◌+◌, ◌<◌, ◌≤◌, Bool, true, false, cond, List, [], length, refl, sym, ◌∙◌, ap, subst, arith}
+use Rattle.std.proofs.Common.{◌==◌}
 use Rattle.std.proofs.Math.Path.{fun_ext}
 use Rattle.std.proofs.lemmas.Bool.{cases_eq, cases_lt, eq-eqb, eqb-false, eqb-true}
 use Rattle.std.proofs.lemmas.List.{get_or_past}
@@ -66,7 +67,8 @@ with_same image slot content is = fun_ext (λ d. by_case d (d == slot) refl)
     by_case d false at = refl
 
 -- a superblock counts in a sector that is there
-pub counts_within : (id : List ℕ) (devices d : ℕ) (content : Content) (at : ℕ) (s : Superblock) → Counts id devices d content at s → at < length (disk_of content)
+pub counts_within : (id : List ℕ) (devices d : ℕ) (content : Content) (at : ℕ) (s : Superblock) → Counts id devices d content at s
+    → at < length (disk_of content)
 counts_within id devices d content at s counts = elim (cases_lt at (length (disk_of content))) [
   | inl lt ↦ lt
   | inr past ↦ absurd (omega (arith, ap length (sym (get_or_past (disk_of content) at [] past) ∙ counts.stands), length-superblock_sector s))

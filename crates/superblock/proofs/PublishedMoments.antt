@@ -1,5 +1,6 @@
 -- At a moment of a publish the images of a case choose the old table, or all of them the new one.
-use Rattle.std.proofs.Common.{◌≡◌, ◌≢◌, ◌⊎◌, inl, inr, ℕ, ◌+◌, ◌%◌, ◌<◌, ◌≤◌, Bool, true, false, List, [], length, length-set, Option, Some, None, refl, sym, ◌∙◌, ap, subst, arith}
+use Rattle.std.proofs.Common.{◌≡◌, ◌≢◌, ◌⊎◌, inl, inr, ℕ, ◌+◌, ◌%◌, ◌<◌, ◌≤◌, Bool, true, false, List, [], length, length-set, Option, Some, None, refl, sym}
+use Rattle.std.proofs.Common.{◌∙◌, ap, subst, arith}
 use Rattle.std.specs.Prelude.{slice_set}
 use Rattle.std.proofs.lemmas.Bool.{cases_eq, cases_lt}
 use Rattle.std.proofs.lemmas.List.Elements.{Contains-append_left}
@@ -42,7 +43,8 @@ differ is = cc
 same_some : (a b : ℕ) → Some a ≡ Some b → a ≡ b
 same_some a b both = cc
 
-module _ (devices : ℕ) (before table : Table) (last : Option ℕ) (lost : Lost) (sectors : ℕ → Bytes) (old h : History) (m : IsMoment devices before table last lost sectors old h) where
+module _ (devices : ℕ) (before table : Table) (last : Option ℕ) (lost : Lost) (sectors : ℕ → Bytes) (old h : History)
+    (m : IsMoment devices before table last lost sectors old h) where
   abbrev place : ℕ
   place = place_of table
 
@@ -84,7 +86,8 @@ module _ (devices : ℕ) (before table : Table) (last : Option ℕ) (lost : Lost
     length-set (seen old d) at value ∙ length-seen old d,
     λ a. elim (cases_eq a at) [
       | inl same ↦
-          let is : sector_of (slice_set (seen old d) at value) a ≡ value = ap (sector_of (slice_set (seen old d) at value)) same ∙ get_or-set_same (seen old d) at value [] within in
+          let is : sector_of (slice_set (seen old d) at value) a ≡ value = ap (sector_of (slice_set (seen old d) at value)) same
+          ∙ get_or-set_same (seen old d) at value [] within in
           subst (MayHold old d a) (sym is) (subst (λ (k : ℕ). MayHold old d k value) (sym same) may)
       | inr other ↦ subst (MayHold old d a) (sym (get_or-set_other (seen old d) at a value [] other)) (may_hold_seen old d a there)
     ],
@@ -96,7 +99,13 @@ module _ (devices : ℕ) (before table : Table) (last : Option ℕ) (lost : Lost
   old_bound d at s disk held may counts =
       let start = m.publish.start d in
       let there : start_of old d ≢ None = λ none. held.0 (start ∙ none) in
-      let within : at < length (seen old d) = omega (arith, counts_within table.id devices d (Some disk) at s counts, held.1, ap (λ (c : Content). length (disk_of c)) start, length-seen old d) in
+      let within : at < length (seen old d) = omega (
+        arith,
+        counts_within table.id devices d (Some disk) at s counts,
+        held.1,
+        ap (λ (c : Content). length (disk_of c)) start,
+        length-seen old d,
+      ) in
       let content = Some (slice_set (seen old d) at (sector_of disk at)) in
       let image = with_slot (readable old) d content in
       let left = with_left old (readable old) d content (λ k _. readable_left old k) (put_there d at (sector_of disk at) there within may) in
@@ -107,7 +116,8 @@ module _ (devices : ℕ) (before table : Table) (last : Option ℕ) (lost : Lost
         own_slot = counts.own_slot;
         has_slots = counts.has_slots;
       } in
-      (chosen_old image left).whole.greatest d at s (subst (λ (c : Content). Counts before.id devices d c at s) (sym (with_here (readable old) d content)) counts')
+      (chosen_old image left).whole.greatest d at s (subst (λ (c : Content). Counts before.id devices d c at s) (sym (with_here (readable old) d content))
+      counts')
 
   -- the new superblock is the table's
   new_carries : (d at : ℕ) (s : Superblock) (content : Content) → IsNewThere table last sectors d at (sector_of (disk_of content) at)
@@ -152,7 +162,11 @@ module _ (devices : ℕ) (before table : Table) (last : Option ℕ) (lost : Lost
     | inl was ↦ inl record {
       older = λ at s counts. elim (m.publish.holds d at (sector_of disk at) (held.2 at)) [
         | inl was' ↦ omega (arith, old_bound d at s disk held was' counts, m.may.generation)
-        | inr new ↦ omega (arith, old_bound d at s disk held (subst (λ (k : ℕ). MayHold old d k (sector_of disk k)) (sym new.in_place) was) counts, m.may.generation)
+        | inr new ↦ omega (
+          arith,
+          old_bound d at s disk held (subst (λ (k : ℕ). MayHold old d k (sector_of disk k)) (sym new.in_place) was) counts,
+          m.may.generation,
+        )
       ];
     }
     | inr new ↦ inr record {
@@ -204,7 +218,11 @@ module _ (devices : ℕ) (before table : Table) (last : Option ℕ) (lost : Lost
   ]
 
   seen_new : (content : Content) → SlotMayHold h lost.slot content → HasNew lost.slot content → MayHold h lost.slot (place_of table) (sectors lost.slot)
-  seen_new None held new = absurd (omega (arith, counts_within table.id devices lost.slot None place (m.stands lost.slot new.gets).superblock (new_counts lost.slot None new)))
+  seen_new None held new = absurd (omega (
+    arith,
+    counts_within table.id devices lost.slot None place (m.stands lost.slot new.gets).superblock
+        (new_counts lost.slot None new),
+  ))
   seen_new (Some disk) held new = subst (MayHold h lost.slot (place_of table)) new.is (held.2 (place_of table))
 
   -- if a crash leaves the new superblock in the lost slot, the slot is the last one, and didn't have it before
@@ -223,7 +241,8 @@ module _ (devices : ℕ) (before table : Table) (last : Option ℕ) (lost : Lost
       → SlotMayHold h d content → SlotMayHold old d content → ⊥
   safe_new d gets None disk is safe held was = no_content is
   safe_new d gets (Some other) disk is safe held was =
-      not_before d (Some other) held record { gets = gets; in_place = refl; is = safe (sector_of other (place_of table)) (held.2 (place_of table)) } (was.2 (place_of table))
+      not_before d (Some other) held record { gets = gets; in_place = refl; is = safe (sector_of other (place_of table)) (held.2 (place_of table)) }
+      (was.2 (place_of table))
 
   module _ (image : Slots) (left : MayLeave h image) where
     -- where no other slot has the new superblock, the lost one doesn't
@@ -248,7 +267,8 @@ module _ (devices : ℕ) (before table : Table) (last : Option ℕ) (lost : Lost
             whole = subst (λ (i : Slots). IsChosen before.id devices i before) as_is (chosen.weakened lost.slot None refl (inl refl));
             weakened = λ slot content same stand.
                 let back : with_slot whole slot content ≡ with_slot image slot content =
-                ap (λ (k : ℕ). with_slot whole k content) same ∙ with_twice image lost.slot stood content ∙ ap (λ (k : ℕ). with_slot image k content) (sym same) in
+                ap (λ (k : ℕ). with_slot whole k content) same ∙ with_twice image lost.slot stood content
+                ∙ ap (λ (k : ℕ). with_slot image k content) (sym same) in
                 subst (λ (i : Slots). IsChosen before.id devices i before) back (chosen.weakened slot content same stand);
           }
       | inr (inl was) ↦ chosen_old image (λ d. elim (cases_eq d lost.slot) [
@@ -261,13 +281,18 @@ module _ (devices : ℕ) (before table : Table) (last : Option ℕ) (lost : Lost
     -- what stands in the lost slot instead is older
     instead_older : (content : Content) → MayStand devices table (Some lost) lost.slot content → IsOldIn devices table lost.slot content
     instead_older content (inl none) = record {
-      older = λ at s counts. absurd (omega (arith, counts_within table.id devices lost.slot content at s counts, ap (λ (c : Content). length (disk_of c)) none));
+      older = λ at s counts. absurd (omega (
+        arith,
+        counts_within table.id devices lost.slot content at s counts,
+        ap (λ (c : Content). length (disk_of c)) none,
+      ));
     }
     instead_older content (inr (inl stale)) = record { older = λ at s counts. stale.older at s counts }
     instead_older content (inr (inr away)) = record {
       older = λ at s counts.
           let chosen = (chosen_old (readable old) (readable_left old)).weakened lost.slot content refl (inr (inr away)) in
-          let counts' = subst (λ (c : Content). Counts before.id devices lost.slot c at s) (sym (with_here (readable old) lost.slot content)) (as_old_id lost.slot content at s counts) in
+          let counts' = subst (λ (c : Content). Counts before.id devices lost.slot c at s) (sym (with_here (readable old) lost.slot content))
+          (as_old_id lost.slot content at s counts) in
           omega (arith, chosen.greatest lost.slot at s counts', m.may.generation);
     }
 
@@ -287,7 +312,8 @@ module _ (devices : ℕ) (before table : Table) (last : Option ℕ) (lost : Lost
                     (content_either d (image d) (left d))
               ] in
               subst (λ (n : ℕ). IsChosen table.id devices (with_slot image n content) table) (sym same)
-              (choose_new devices table (with_slot image lost.slot content) each k (subst (IsNewIn devices table k) (sym (with_there image lost.slot content k apart)) new_k));
+              (choose_new devices table (with_slot image lost.slot content) each k
+              (subst (IsNewIn devices table k) (sym (with_there image lost.slot content k apart)) new_k));
         }
 
     abbrev IsWithout : ℕ → Type 0

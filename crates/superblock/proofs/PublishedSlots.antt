@@ -1,5 +1,6 @@
 -- The slots that get a table's superblock, and what stands in them once they are written and flushed.
-use Rattle.std.proofs.Common.{◌≡◌, ◌≢◌, ◌⊎◌, inl, inr, ℕ, zero, suc, ◌<◌, ◌≤◌, Bool, true, false, cond, List, [], ◌∷◌, ◌++◌, length, Option, Some, None, refl, sym, ◌∙◌, ap, subst, arith, ◌&&◌, not}
+use Rattle.std.proofs.Common.{◌≡◌, ◌≢◌, ◌⊎◌, inl, inr, ℕ, zero, suc, ◌<◌, ◌≤◌, Bool, true, false, cond, List, [], ◌∷◌, ◌++◌, length, Option, Some, None, refl}
+use Rattle.std.proofs.Common.{sym, ◌∙◌, ap, subst, arith, ◌&&◌, not}
 use Rattle.std.specs.Prelude.{Contains, filter, map}
 use Rattle.std.specs.List.{range_with_len}
 use Rattle.std.proofs.lemmas.Bool.{and_from, and_parts, cases_eq, cond-true, eqb-false, not-true}
@@ -25,7 +26,8 @@ use Rattle.superblock.proofs.PublishSteps.{GetsIt, has_first, has_later}
 filter_keeps : (p : ℕ → Bool) (xs : List ℕ) (x : ℕ) → Contains xs x → p x ≡ true → Contains (filter p xs) x
 filter_keeps p [] x (k, below, is) pass = absurd (omega (arith, below))
 filter_keeps p (y ∷ ys) x (zero, below, is) pass =
-    subst (λ (l : List ℕ). Contains l x) (sym (cond-true (p y) (y ∷ filter p ys) (filter p ys) (ap p is ∙ pass))) (subst (λ (z : ℕ). Contains (y ∷ filter p ys) z) is (has_first y (filter p ys)))
+    subst (λ (l : List ℕ). Contains l x) (sym (cond-true (p y) (y ∷ filter p ys) (filter p ys) (ap p is ∙ pass)))
+    (subst (λ (z : ℕ). Contains (y ∷ filter p ys) z) is (has_first y (filter p ys)))
 filter_keeps p (y ∷ ys) x (suc k, below, is) pass = by_case (p y) (filter_keeps p ys x (k, omega (arith, below), is) pass)
   where
     by_case : (b : Bool) → Contains (filter p ys) x → Contains (cond b (y ∷ filter p ys) (filter p ys)) x
@@ -77,7 +79,8 @@ first_is table last slot has =
 
 pub first_has : (table : Table) (last : Option ℕ) (slot : ℕ) → IsFirst table last slot → Contains (first_slots table last) slot
 first_has table last slot is =
-    filter_keeps (λ s. is_in_sync (state_at table.states s) && not (is_last last s)) (range_with_len 0 (slots_of table)) slot (range_has (slots_of table) slot is.of_set)
+    filter_keeps (λ s. is_in_sync (state_at table.states s) && not (is_last last s)) (range_with_len 0 (slots_of table)) slot
+    (range_has (slots_of table) slot is.of_set)
     (and_from (is_in_sync (state_at table.states slot)) (not (is_last last slot)) (ap is_in_sync is.in_sync) (ap not (apart_last last slot is.not_last)))
 
 pub last_is : (last : Option ℕ) (slot : ℕ) → Contains (last_slots last) slot → last ≡ Some slot
@@ -123,9 +126,12 @@ one_of table last a b below below' apart not_a not_b = by_states (state_at table
     by_states InSync t is_a is_b = inl record { of_set = below; in_sync = is_a; not_last = not_a }
     by_states s InSync is_a is_b = inr record { of_set = below'; in_sync = is_b; not_last = not_b }
     by_states Missing Missing is_a is_b = absurd (apart (table.allowed.one_out a b below below' (out a Missing is_a (λ e. cc)) (out b Missing is_b (λ e. cc))))
-    by_states Missing Rebuilding is_a is_b = absurd (apart (table.allowed.one_out a b below below' (out a Missing is_a (λ e. cc)) (out b Rebuilding is_b (λ e. cc))))
-    by_states Rebuilding Missing is_a is_b = absurd (apart (table.allowed.one_out a b below below' (out a Rebuilding is_a (λ e. cc)) (out b Missing is_b (λ e. cc))))
-    by_states Rebuilding Rebuilding is_a is_b = absurd (apart (table.allowed.one_out a b below below' (out a Rebuilding is_a (λ e. cc)) (out b Rebuilding is_b (λ e. cc))))
+    by_states Missing Rebuilding is_a is_b = absurd (apart
+        (table.allowed.one_out a b below below' (out a Missing is_a (λ e. cc)) (out b Rebuilding is_b (λ e. cc))))
+    by_states Rebuilding Missing is_a is_b = absurd (apart
+        (table.allowed.one_out a b below below' (out a Rebuilding is_a (λ e. cc)) (out b Missing is_b (λ e. cc))))
+    by_states Rebuilding Rebuilding is_a is_b = absurd
+        (apart (table.allowed.one_out a b below below' (out a Rebuilding is_a (λ e. cc)) (out b Rebuilding is_b (λ e. cc))))
 
 not_slot : (last : Option ℕ) (lost slot : ℕ) → last ≡ Some lost → lost ≢ slot → last ≢ Some slot
 not_slot last lost slot is apart same = let one : lost ≡ slot = some_same lost slot (sym is ∙ same) in apart one
@@ -136,7 +142,8 @@ not_slot last lost slot is apart same = let one : lost ≡ slot = some_same lost
 -- where one comes last, there is another among the first
 pub other_first : (table : Table) (last : Option ℕ) (lost : ℕ) → last ≡ Some lost → (slot : ℕ) × (slot ≢ lost) × Contains (first_slots table last) slot
 other_first table last lost is = elim (cases_eq lost 0) [
-  | inl zeroth ↦ either 1 2 (omega (arith, least)) (omega (arith, least)) (λ e. omega (arith, e)) (λ e. omega (arith, e, zeroth)) (λ e. omega (arith, e, zeroth))
+  | inl zeroth ↦ either 1 2 (omega (arith, least)) (omega (arith, least)) (λ e. omega (arith, e)) (λ e. omega (arith, e, zeroth))
+      (λ e. omega (arith, e, zeroth))
   | inr not_0 ↦ elim (cases_eq lost 1) [
     | inl first ↦ either 0 2 (omega (arith, least)) (omega (arith, least)) (λ e. omega (arith, e)) not_0 (λ e. omega (arith, e, first))
     | inr not_1 ↦ either 0 1 (omega (arith, least)) (omega (arith, least)) (λ e. omega (arith, e)) not_0 not_1
@@ -149,11 +156,13 @@ other_first table last lost is = elim (cases_eq lost 0) [
     found : (slot : ℕ) → IsFirst table last slot → (slot : ℕ) × (slot ≢ lost) × Contains (first_slots table last) slot
     found slot first = (slot, λ same. first.not_last (is ∙ ap (λ (n : ℕ). Some n) (sym same)), first_has table last slot first)
 
-    either : (a b : ℕ) → a < slots_of table → b < slots_of table → a ≢ b → lost ≢ a → lost ≢ b → (slot : ℕ) × (slot ≢ lost) × Contains (first_slots table last) slot
-    either a b below below' apart not_a not_b = elim (one_of table last a b below below' apart (not_slot last lost a is not_a) (not_slot last lost b is not_b)) [
-      | inl first ↦ found a first
-      | inr first ↦ found b first
-    ]
+    either : (a b : ℕ) → a < slots_of table → b < slots_of table → a ≢ b → lost ≢ a → lost ≢ b → (slot : ℕ) × (slot ≢ lost)
+        × Contains (first_slots table last) slot
+    either a b below below' apart not_a not_b = elim (one_of table last a b below below' apart (not_slot last lost a is not_a)
+        (not_slot last lost b is not_b)) [
+          | inl first ↦ found a first
+          | inr first ↦ found b first
+        ]
 
 -- after the writes and the flushes
 
@@ -180,7 +189,8 @@ module _ (table : Table) (sectors : ℕ → Bytes) where
   seen_still : (slots : List ℕ) (h : History) (slot : ℕ) → place < length (seen h slot) → sector_of (seen h slot) place ≡ sectors slot
       → sector_of (seen (after_all (writes slots) h) slot) place ≡ sectors slot
   seen_still [] h slot room is = is
-  seen_still (x ∷ slots) h slot room is = seen_still slots (after_one x h) slot (omega (arith, room, size_written x place (sectors x) h slot)) (seen_step x h slot room is)
+  seen_still (x ∷ slots) h slot room is = seen_still slots (after_one x h) slot (omega (arith, room, size_written x place (sectors x) h slot))
+      (seen_step x h slot room is)
 
   seen_there : (slots : List ℕ) (h : History) (slot : ℕ) → Contains slots slot → place < length (seen h slot)
       → sector_of (seen (after_all (writes slots) h) slot) place ≡ sectors slot
@@ -191,7 +201,8 @@ module _ (table : Table) (sectors : ℕ → Bytes) where
   seen_there (x ∷ slots) h slot (suc k, below, is) room =
       seen_there slots (after_one x h) slot (k, omega (arith, below), is) (omega (arith, room, size_written x place (sectors x) h slot))
 
-  safe_still : (slots : List ℕ) (h : History) (slot at : ℕ) (bytes : Bytes) → IsSafeAt h slot at bytes → IsSafeAt (after_all (all_flushes slots) h) slot at bytes
+  safe_still : (slots : List ℕ) (h : History) (slot at : ℕ) (bytes : Bytes) → IsSafeAt h slot at bytes
+      → IsSafeAt (after_all (all_flushes slots) h) slot at bytes
   safe_still [] h slot at bytes safe = safe
   safe_still (x ∷ slots) h slot at bytes safe = safe_still slots (After (Flushed x) h) slot at bytes (λ value may. safe value may.0)
 
@@ -210,7 +221,10 @@ module _ (table : Table) (sectors : ℕ → Bytes) where
 
   writes_within : (Q : Contents) (slots : List ℕ) → ((slot : ℕ) → Contains slots slot → Q slot place (sectors slot)) → AllKeep (LeavesWithin Q) (writes slots)
   writes_within Q [] only = tt
-  writes_within Q (x ∷ slots) only = (kept_within Q (Write x place (sectors x)) (only x (has_first x slots)), writes_within Q slots (λ slot has. only slot (has_later x slots slot has)))
+  writes_within Q (x ∷ slots) only = (
+    kept_within Q (Write x place (sectors x)) (only x (has_first x slots)),
+    writes_within Q slots (λ slot has. only slot (has_later x slots slot has)),
+  )
 
   flushes_within : (Q : Contents) (slots : List ℕ) → AllKeep (LeavesWithin Q) (all_flushes slots)
   flushes_within Q [] = tt

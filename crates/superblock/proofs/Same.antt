@@ -19,7 +19,8 @@ State-set = hlevel (props, ⊎_set)
 IsGeometry-prop : (members chunk stripes : ℕ) → IsProp (IsGeometry members chunk stripes)
 IsGeometry-prop members chunk stripes = hlevel props
 
-IsTable-prop : (generation : ℕ) (geometry : Geometry) (states : List State) (incarnations : List ℕ) (position : ℕ) → IsProp (IsTable generation geometry states incarnations position)
+IsTable-prop : (generation : ℕ) (geometry : Geometry) (states : List State) (incarnations : List ℕ) (position : ℕ)
+    → IsProp (IsTable generation geometry states incarnations position)
 IsTable-prop generation geometry states incarnations position = hlevel (props, State-set)
 
 pub same_geometry : (a b : Geometry) → a.members ≡ b.members → a.chunk ≡ b.chunk → a.stripes ≡ b.stripes → a ≡ b
@@ -30,7 +31,8 @@ same_geometry a b members chunk stripes = λ i. record {
   limits = is_prop→PathP (λ j. IsGeometry (members j) (chunk j) (stripes j)) (λ j. IsGeometry-prop (members j) (chunk j) (stripes j)) a.limits b.limits i;
 }
 
-same_table : (a b : Table) → a.id ≡ b.id → a.generation ≡ b.generation → a.geometry ≡ b.geometry → a.states ≡ b.states → a.incarnations ≡ b.incarnations → a.position ≡ b.position → a ≡ b
+same_table : (a b : Table) → a.id ≡ b.id → a.generation ≡ b.generation → a.geometry ≡ b.geometry → a.states ≡ b.states → a.incarnations ≡ b.incarnations
+    → a.position ≡ b.position → a ≡ b
 same_table a b id generation geometry states incarnations position = λ i. record {
   id = id i;
   generation = generation i;
@@ -56,6 +58,7 @@ pub same_superblock : (a b : Superblock) → fields_of a ≡ fields_of b → a �
 same_superblock a b same =
     same_in_table a b
     (same_table a.table b.table (ap (λ (f : Fields). f.id) same) (ap (λ (f : Fields). f.generation) same)
-    (same_geometry a.table.geometry b.table.geometry (ap (λ (f : Fields). f.members) same) (ap (λ (f : Fields). f.chunk) same) (ap (λ (f : Fields). f.stripes) same))
+    (same_geometry a.table.geometry b.table.geometry (ap (λ (f : Fields). f.members) same) (ap (λ (f : Fields). f.chunk) same)
+    (ap (λ (f : Fields). f.stripes) same))
     (ap (λ (f : Fields). f.states) same) (ap (λ (f : Fields). f.incarnations) same) (ap (λ (f : Fields). f.position) same))
     (ap (λ (f : Fields). f.role) same)

@@ -1,5 +1,6 @@
 -- What the spelling of a superblock says at the places of its fields.
-use Rattle.std.proofs.Common.{◌≡◌, ◌≢◌, ◌⊎◌, inl, inr, ℕ, zero, suc, ◌+◌, ◌*◌, ◌<◌, ◌≤◌, ◌^◌, List, [], ◌∷◌, ◌++◌, length, get_or, set, take, drop, replicate, refl, sym, ap, subst, ◌∙◌, append_assoc, add-one, arith, rules}
+use Rattle.std.proofs.Common.{◌≡◌, ◌≢◌, ◌⊎◌, inl, inr, ℕ, zero, suc, ◌+◌, ◌*◌, ◌<◌, ◌≤◌, ◌^◌, List, [], ◌∷◌, ◌++◌, length, get_or, set, take, drop, replicate}
+use Rattle.std.proofs.Common.{refl, sym, ap, subst, ◌∙◌, append_assoc, add-one, arith, rules}
 use Rattle.std.specs.Prelude.{IsTrue}
 use Rattle.std.proofs.lemmas.Bool.{cases_lt, cases_eq}
 use Rattle.std.proofs.lemmas.List.{length-append, length-replicate, same_lists, get_or_default, get_or-set_same, get_or-set_other}
@@ -81,11 +82,13 @@ length-up_to_role : (s : Superblock) → length (up_to_role s) ≡ 34
 length-up_to_role s = longer 33 1 34 (up_to_members s) (s.role ∷ []) (length-up_to_members s) refl refl
 
 length-up_to_chunk : (s : Superblock) → length (up_to_chunk s) ≡ 36
-length-up_to_chunk s = longer 34 2 36 (up_to_role s) (little_bytes 2 s.table.geometry.chunk) (length-up_to_role s) (length-little_bytes 2 s.table.geometry.chunk) refl
+length-up_to_chunk s = longer 34 2 36 (up_to_role s) (little_bytes 2 s.table.geometry.chunk) (length-up_to_role s)
+    (length-little_bytes 2 s.table.geometry.chunk) refl
 
 pub length-head_bytes : (s : Superblock) → length (head_bytes s) ≡ 40
 unfolding head_bytes
-length-head_bytes s = longer 36 4 40 (up_to_chunk s) (little_bytes 4 s.table.geometry.stripes) (length-up_to_chunk s) (length-little_bytes 4 s.table.geometry.stripes) refl
+length-head_bytes s = longer 36 4 40 (up_to_chunk s) (little_bytes 4 s.table.geometry.stripes) (length-up_to_chunk s)
+    (length-little_bytes 4 s.table.geometry.stripes) refl
 
 -- a field that ends where the chunk's begins, or earlier, is a field of the head
 in_head : (n : ℕ) (s : Superblock) (field : List ℕ) → HasAt n (up_to_role s) field → HasAt n (head_bytes s) field
@@ -101,7 +104,8 @@ in_generation : (n : ℕ) (s : Superblock) (field : List ℕ) → HasAt n (up_to
 in_generation n s field has = in_members n s field (has_left n (up_to_generation s) field (s.table.geometry.members ∷ []) has)
 
 head_id : (s : Superblock) → HasAt 8 (head_bytes s) s.table.id
-head_id s = in_generation 8 s s.table.id (has_left 8 (up_to_id s) s.table.id (little_bytes 8 s.table.generation) (has_last 8 begin_mark s.table.id length-begin_mark))
+head_id s = in_generation 8 s s.table.id (has_left 8 (up_to_id s) s.table.id (little_bytes 8 s.table.generation)
+    (has_last 8 begin_mark s.table.id length-begin_mark))
 
 head_generation : (s : Superblock) → HasAt 24 (head_bytes s) (little_bytes 8 s.table.generation)
 head_generation s = in_generation 24 s (little_bytes 8 s.table.generation) (has_last 24 (up_to_id s) (little_bytes 8 s.table.generation) (length-up_to_id s))
@@ -144,7 +148,8 @@ entries_entry (suc n) slot states incarnations within =
       | inr past ↦
           let here : n ≡ slot = omega arith in
           subst (λ (k : ℕ). HasAt (16 * k) (entries_bytes (suc n) states incarnations) (entry_bytes (state_at states k) (incarnation_at incarnations k))) here
-          (has_last (16 * n) (entries_bytes n states incarnations) (entry_bytes (state_at states n) (incarnation_at incarnations n)) (length-entries_bytes n states incarnations))
+          (has_last (16 * n) (entries_bytes n states incarnations) (entry_bytes (state_at states n) (incarnation_at incarnations n))
+          (length-entries_bytes n states incarnations))
     ]
 
 -- ---- the fields after the entries
@@ -202,22 +207,26 @@ sector_tail s = has_last 200 (head_bytes s ++ entries_of s) (tail_bytes s) (leng
 of_head : (n : ℕ) (s : Superblock) (field : List ℕ) → HasAt n (head_bytes s) field → HasAt n (superblock_sector s) field
 of_head n s field has = has_inner 0 n n (superblock_sector s) (head_bytes s) field (sector_head s) has (omega arith)
 
-of_entry : (slot n m : ℕ) (s : Superblock) (field : List ℕ) → slot < 10 → HasAt n (entry_bytes (state_at s.table.states slot) (incarnation_at s.table.incarnations slot)) field
+of_entry : (slot n m : ℕ) (s : Superblock) (field : List ℕ) → slot < 10
+    → HasAt n (entry_bytes (state_at s.table.states slot) (incarnation_at s.table.incarnations slot)) field
     → 40 + 16 * slot + n ≡ m → HasAt m (superblock_sector s) field
 of_entry slot n m s field within has ends =
     let entry = entry_bytes (state_at s.table.states slot) (incarnation_at s.table.incarnations slot) in
     has_inner (40 + 16 * slot) n m (superblock_sector s) entry field
-    (has_inner 40 (16 * slot) (40 + 16 * slot) (superblock_sector s) (entries_of s) entry (sector_entries s) (entries_entry 10 slot s.table.states s.table.incarnations within) refl)
+    (has_inner 40 (16 * slot) (40 + 16 * slot) (superblock_sector s) (entries_of s) entry (sector_entries s)
+    (entries_entry 10 slot s.table.states s.table.incarnations within) refl)
     has ends
 
 -- ---- what fits
 
 -- whether a slot is rebuilding
-not_first : (state : State) (states : List State) → state ≢ Rebuilding → ((slot : ℕ) → state_at states slot ≢ Rebuilding) → (slot : ℕ) → state_at (state ∷ states) slot ≢ Rebuilding
+not_first : (state : State) (states : List State) → state ≢ Rebuilding → ((slot : ℕ) → state_at states slot ≢ Rebuilding) → (slot : ℕ)
+    → state_at (state ∷ states) slot ≢ Rebuilding
 not_first state states first others zero = first
 not_first state states first others (suc slot) = others slot
 
-one_later : (state : State) (states : List State) → state ≢ Rebuilding → ((slot : ℕ) × (state_at states slot ≡ Rebuilding)) ⊎ ((slot : ℕ) → state_at states slot ≢ Rebuilding)
+one_later : (state : State) (states : List State) → state ≢ Rebuilding → ((slot : ℕ) × (state_at states slot ≡ Rebuilding))
+    ⊎ ((slot : ℕ) → state_at states slot ≢ Rebuilding)
     → ((slot : ℕ) × (state_at (state ∷ states) slot ≡ Rebuilding)) ⊎ ((slot : ℕ) → state_at (state ∷ states) slot ≢ Rebuilding)
 one_later state states first (inl found) = inl (suc found.0, found.1)
 one_later state states first (inr none) = inr (not_first state states first none)
@@ -237,7 +246,8 @@ chunk_fits chunk size = search (rules)
 position_fits : (s : Superblock) → s.table.position < 256 ^ 8
 position_fits s = elim (some_rebuilding s.table.states) [
   | inl found ↦ let below = s.table.allowed.position_below found.0 found.1 in
-      let rows = small_rows s.table.geometry.chunk s.table.geometry.stripes (chunk_fits s.table.geometry.chunk s.table.geometry.limits.chunk_size) s.table.geometry.limits.stripes_most in omega arith
+      let rows = small_rows s.table.geometry.chunk s.table.geometry.stripes (chunk_fits s.table.geometry.chunk s.table.geometry.limits.chunk_size)
+      s.table.geometry.limits.stripes_most in omega arith
   | inr none ↦ let zero_position = s.table.allowed.no_position none in omega arith
 ]
 
@@ -257,7 +267,8 @@ pub read_id : (s : Superblock) → take 16 (drop 8 (superblock_sector s)) ≡ s.
 read_id s = read_bytes 8 16 (superblock_sector s) s.table.id (of_head 8 s s.table.id (head_id s)) s.table.id_long
 
 pub read_generation : (s : Superblock) → little_number 8 (drop 24 (superblock_sector s)) ≡ s.table.generation
-read_generation s = read_number 24 8 s.table.generation (superblock_sector s) (of_head 24 s (little_bytes 8 s.table.generation) (head_generation s)) (generation_fits s)
+read_generation s = read_number 24 8 s.table.generation (superblock_sector s) (of_head 24 s (little_bytes 8 s.table.generation) (head_generation s))
+    (generation_fits s)
 
 pub read_members : (s : Superblock) → get_or (superblock_sector s) 32 0 ≡ s.table.geometry.members
 read_members s = read_byte 32 s.table.geometry.members (superblock_sector s) (of_head 32 s (s.table.geometry.members ∷ []) (head_members s))
@@ -275,17 +286,20 @@ read_stripes s =
     read_number 36 4 s.table.geometry.stripes (superblock_sector s) (of_head 36 s (little_bytes 4 s.table.geometry.stripes) (head_stripes s))
     (omega (arith, s.table.geometry.limits.stripes_most))
 
-pub read_state : (s : Superblock) (slot at : ℕ) → slot < 10 → 40 + 16 * slot ≡ at → get_or (superblock_sector s) at 0 ≡ state_byte (state_at s.table.states slot)
+pub read_state : (s : Superblock) (slot at : ℕ) → slot < 10 → 40 + 16 * slot ≡ at
+    → get_or (superblock_sector s) at 0 ≡ state_byte (state_at s.table.states slot)
 read_state s slot at within place =
     let state = state_at s.table.states slot in
     read_byte at (state_byte state) (superblock_sector s)
     (of_entry slot 0 at s (state_byte state ∷ []) within (entry_state state (incarnation_at s.table.incarnations slot)) (omega arith))
 
-pub read_incarnation : (s : Superblock) (slot at : ℕ) → slot < 10 → 48 + 16 * slot ≡ at → little_number 8 (drop at (superblock_sector s)) ≡ incarnation_at s.table.incarnations slot
+pub read_incarnation : (s : Superblock) (slot at : ℕ) → slot < 10 → 48 + 16 * slot ≡ at
+    → little_number 8 (drop at (superblock_sector s)) ≡ incarnation_at s.table.incarnations slot
 read_incarnation s slot at within place =
     let incarnation = incarnation_at s.table.incarnations slot in
     read_number at 8 incarnation (superblock_sector s)
-    (of_entry slot 8 at s (little_bytes 8 incarnation) within (entry_incarnation (state_at s.table.states slot) incarnation) (omega arith)) (incarnation_fits s slot)
+    (of_entry slot 8 at s (little_bytes 8 incarnation) within (entry_incarnation (state_at s.table.states slot) incarnation) (omega arith))
+    (incarnation_fits s slot)
 
 pub read_position : (s : Superblock) → little_number 8 (drop 200 (superblock_sector s)) ≡ s.table.position
 read_position s =
@@ -311,7 +325,8 @@ states_same s t same =
     let below : slot < 10 = omega (arith, s.table.allowed.ten_states) in
     get_or_default s.table.states slot d Missing within
     ∙ same_state (state_at s.table.states slot) (state_at t.table.states slot)
-    (sym (read_state s slot (40 + 16 * slot) below refl) ∙ ap (λ (x : List ℕ). get_or x (40 + 16 * slot) 0) same ∙ read_state t slot (40 + 16 * slot) below refl)
+    (sym (read_state s slot (40 + 16 * slot) below refl) ∙ ap (λ (x : List ℕ). get_or x (40 + 16 * slot) 0) same
+    ∙ read_state t slot (40 + 16 * slot) below refl)
     ∙ get_or_default t.table.states slot Missing d (omega (arith, t.table.allowed.ten_states)))
 
 incarnations_same : (s t : Superblock) → superblock_sector s ≡ superblock_sector t → s.table.incarnations ≡ t.table.incarnations
@@ -319,10 +334,12 @@ incarnations_same s t same =
     same_lists s.table.incarnations t.table.incarnations (s.table.allowed.ten_incarnations ∙ sym t.table.allowed.ten_incarnations) (λ slot d within.
     let below : slot < 10 = omega (arith, s.table.allowed.ten_incarnations) in
     get_or_default s.table.incarnations slot d 0 within
-    ∙ sym (read_incarnation s slot (48 + 16 * slot) below refl) ∙ ap (λ (x : List ℕ). little_number 8 (drop (48 + 16 * slot) x)) same ∙ read_incarnation t slot (48 + 16 * slot) below refl
+    ∙ sym (read_incarnation s slot (48 + 16 * slot) below refl) ∙ ap (λ (x : List ℕ). little_number 8 (drop (48 + 16 * slot) x)) same
+    ∙ read_incarnation t slot (48 + 16 * slot) below refl
     ∙ get_or_default t.table.incarnations slot 0 d (omega (arith, t.table.allowed.ten_incarnations)))
 
-pub fields_same : (a b : Fields) → a.id ≡ b.id → a.generation ≡ b.generation → a.members ≡ b.members → a.role ≡ b.role → a.chunk ≡ b.chunk → a.stripes ≡ b.stripes
+pub fields_same : (a b : Fields) → a.id ≡ b.id → a.generation ≡ b.generation → a.members ≡ b.members → a.role ≡ b.role → a.chunk ≡ b.chunk
+    → a.stripes ≡ b.stripes
     → a.states ≡ b.states → a.incarnations ≡ b.incarnations → a.position ≡ b.position → a ≡ b
 fields_same a b id generation members role chunk stripes states incarnations position = λ i. record {
   id = id i;
@@ -350,7 +367,8 @@ one_superblock s t same =
     (sym (read_position s) ∙ ap (λ (x : List ℕ). little_number 8 (drop 200 x)) same ∙ read_position t))
 
 -- ten states that are read are those of the superblock
-pub states_are : (s : Superblock) (states : List State) → length states ≡ 10 → ((slot : ℕ) → slot < 10 → state_at states slot ≡ state_at s.table.states slot) → states ≡ s.table.states
+pub states_are : (s : Superblock) (states : List State) → length states ≡ 10 → ((slot : ℕ) → slot < 10 → state_at states slot ≡ state_at s.table.states slot)
+    → states ≡ s.table.states
 states_are s states long each = same_lists states s.table.states (long ∙ sym s.table.allowed.ten_states) (λ slot d within.
     get_or_default states slot d Missing within ∙ each slot (omega arith)
     ∙ get_or_default s.table.states slot Missing d (omega (arith, s.table.allowed.ten_states)))
@@ -378,7 +396,8 @@ entries_none states incarnations = refl
 
 -- one entry more
 pub entries_more : (front : List ℕ) (slot : ℕ) (states : List State) (incarnations : List ℕ)
-    → ((front ++ entries_bytes slot states incarnations) ++ (state_byte (state_at states slot) ∷ [])) ++ zeros 7 ++ little_bytes 8 (incarnation_at incarnations slot)
+    → ((front ++ entries_bytes slot states incarnations) ++ (state_byte (state_at states slot) ∷ [])) ++ zeros 7
+    ++ little_bytes 8 (incarnation_at incarnations slot)
     ≡ front ++ entries_bytes (slot + 1) states incarnations
 unfolding entries_bytes entry_bytes
 entries_more front slot states incarnations = rw add-one (simp append_assoc)
@@ -387,6 +406,7 @@ regrouped : (front a b c d : List ℕ) → (((front ++ a) ++ b) ++ c) ++ d ≡ f
 regrouped front a b c d = simp append_assoc
 
 pub tail_after : (front : List ℕ) (s : Superblock)
-    → (((front ++ little_bytes 8 s.table.position) ++ little_bytes 8 (incarnation_at s.table.incarnations s.role)) ++ zeros 288) ++ end_mark ≡ front ++ tail_bytes s
+    → (((front ++ little_bytes 8 s.table.position) ++ little_bytes 8 (incarnation_at s.table.incarnations s.role)) ++ zeros 288) ++ end_mark ≡ front
+    ++ tail_bytes s
 unfolding tail_bytes
 tail_after front s = regrouped front (little_bytes 8 s.table.position) (little_bytes 8 (incarnation_at s.table.incarnations s.role)) (zeros 288) end_mark

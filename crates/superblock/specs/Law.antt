@@ -14,4 +14,5 @@ SpellingsAreSectors = (superblock : Superblock) → length (superblock_sector su
 
 -- the first of those with the greatest generation is only one
 abbrev pub FirstGreatestIsOne : Type 0
-FirstGreatestIsOne = (found : List (Option Superblock)) (first second : Superblock) → IsFirstGreatest found first → IsFirstGreatest found second → first ≡ second
+FirstGreatestIsOne = (found : List (Option Superblock)) (first second : Superblock) → IsFirstGreatest found first → IsFirstGreatest found second
+    → first ≡ second

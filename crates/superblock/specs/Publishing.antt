@@ -1,5 +1,6 @@
 -- How a table is published: its superblocks, on one device after another.
-use Rattle.std.specs.Prelude.{◌≡◌, ◌≢◌, ◌⊎◌, ℕ, ◌+◌, ◌%◌, ◌<◌, ◌≤◌, ◌&&◌, ◌==◌, Bool, false, not, List, [], ◌∷◌, ◌++◌, map, filter, Contains, Option, Some, None, Result, Ok, Err, is_ok}
+use Rattle.std.specs.Prelude.{◌≡◌, ◌≢◌, ◌⊎◌, ℕ, ◌+◌, ◌%◌, ◌<◌, ◌≤◌, ◌&&◌, ◌==◌, Bool, false, not, List, [], ◌∷◌, ◌++◌, map, filter, Contains, Option, Some}
+use Rattle.std.specs.Prelude.{None, Result, Ok, Err, is_ok}
 use Rattle.std.specs.List.{range_with_len}
 use Rattle.layout_map.specs.declared.sizes.TheConstants.{SUPERBLOCK_PLACES}
 use Rattle.sector_model.specs.declared.sector.Stop.{Stop}
@@ -57,7 +58,8 @@ IsSafeAt h device at bytes = (value : Bytes) → MayHold h device at value → v
 
 -- the images of each case choose the one table, or all of them the other
 abbrev pub ChooseEither : ℕ → (first second : Table) → Lost → History → Type 0
-ChooseEither devices first second lost h = (after : Option Lost) (image : ℕ → Option (List Bytes)) → IsLostAt (slots_of first) (Some lost) h after → MayLeave h image
+ChooseEither devices first second lost h = (after : Option Lost) (image : ℕ → Option (List Bytes)) → IsLostAt (slots_of first) (Some lost) h after
+    → MayLeave h image
     → AllChoose devices first (record { image = image; lost = after }) ⊎ AllChoose devices second (record { image = image; lost = after })
 
 -- From what a table is published: an old one, of the generation before, that all images choose; the slot that is lost is the last one,
@@ -87,7 +89,8 @@ pub record CanPublish (panel : Panel) (table : Table) (last : Option ℕ) : Type
   pub has_places : (slot : ℕ) → slot < slots_of table → state_at table.states slot ≢ Missing → panel.down slot ≡ false → SUPERBLOCK_PLACES ≤ panel.sectors slot
 
 -- What `publish` promises of a table and the slot that comes last.
-pub record Publishes (honest : Type 0) (table : Table) (last : Option ℕ) (old_panel new_panel : Panel) (old new : History) (result : Result (Unit {0}) Stop) : Type 0 where
+pub record Publishes (honest : Type 0) (table : Table) (last : Option ℕ) (old_panel new_panel : Panel) (old new : History)
+    (result : Result (Unit {0}) Stop) : Type 0 where
   -- the superblock of each slot that the table doesn't call missing
   pub sectors : ℕ → Bytes
   pub spelled : (slot : ℕ) → slot < slots_of table → state_at table.states slot ≢ Missing → StandsAt table slot (sectors slot)
@@ -100,7 +103,8 @@ pub record Publishes (honest : Type 0) (table : Table) (last : Option ℕ) (old_
   pub moments : honest → (devices : ℕ) (before : Table) (lost : Lost) → MayPublish devices before table last lost old
       → Throughout (ChooseEither devices before table lost) old new
   -- at Ok the table is safe on all of them
-  pub safe : honest → result ≡ Ok tt → (slot : ℕ) → Contains (first_slots table last ++ last_slots last) slot → IsSafeAt new slot (place_of table) (sectors slot)
+  pub safe : honest → result ≡ Ok tt → (slot : ℕ) → Contains (first_slots table last ++ last_slots last) slot
+      → IsSafeAt new slot (place_of table) (sectors slot)
   -- and, on any bank, the last device is up
   pub up : (slot : ℕ) → result ≡ Ok tt → last ≡ Some slot → new_panel.down slot ≡ false
   -- where an error names the last device, the table is safe on the others

@@ -8,7 +8,8 @@ use crate::{Superblock, Table};
 /// The table of the superblock with the greatest generation; of several such, of the first in the slice. `None` where
 /// there is no superblock at all.
 pub fn choose(found: &[Option<Superblock>]) -> Option<Table>
-    ensures some { IfSome result (λ table. (best : Superblock) × IsFirstGreatest found.now best × (best.table ≡ table)) }
+    ensures some { IfSome result (λ table. (best : Superblock) × IsFirstGreatest found.now best
+        × (best.table ≡ table)) }
     ensures none { IsNone result → (place : ℕ) → found_at found.now place ≡ None }
 {
     let mut best: Option<&Superblock> = None;

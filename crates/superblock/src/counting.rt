@@ -17,7 +17,8 @@ pub fn counted(
     place: u8,
 ) -> Option<Superblock>
     ensures some { IfSome result (λ superblock. CountsIn id.now devices slot place sector.now superblock) }
-    ensures none { IsNone result → (superblock : Superblock) → ¬ CountsIn id.now devices slot place sector.now superblock }
+    ensures none { IsNone result → (superblock : Superblock)
+        → ¬ CountsIn id.now devices slot place sector.now superblock }
 {
     let superblock = decode(sector)?;
     if is_of_set(&superblock, id, devices) && belongs_at(&superblock, slot, place) {

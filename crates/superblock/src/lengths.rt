@@ -4,8 +4,8 @@ ghost use Rattle.superblock.specs.Counted.{least_sectors};
 
 use layout_map::{FIRST_ROW, Geometry, JOURNAL_SECTORS};
 
-/// The least number of sectors of the device of a slot of a set of this geometry: a member's rows stand from sector 8 on,
-/// a journal's bodies end before sector 520.
+/// The least number of sectors of the device of a slot of a set of this geometry: a member's rows stand from sector 8
+/// on, a journal's bodies end before sector 520.
 pub fn least_of(geometry: &Geometry, slot: u8) -> u32
     ensures least { result ≡ least_sectors geometry.now slot }
     ensures fits { result < 2 ^ 32 }

@@ -43,7 +43,8 @@ pub fn own_incarnation_in(
     devices: usize,
     slot: usize,
 ) -> Option<u64>
-    ensures some { IfSome result (λ incarnation. HasIncarnation id.now devices slot (sectors_in content.now) incarnation) }
+    ensures some { IfSome result (λ incarnation. HasIncarnation id.now devices slot (sectors_in content.now)
+        incarnation) }
     ensures none { IsNone result → SlotCountsNone id.now devices slot (sectors_in content.now) }
 {
     let newest = newest_in(content, id, devices, slot)?;
@@ -67,7 +68,8 @@ pub fn is_live_in(content: &Option<Vec<Sector>>, devices: usize, table: &Table, 
 /// The table that decides in an image: that of the newest superblock of the set that counts in any slot, and of several
 /// equally new ones that in the lowest slot. `None` where none counts.
 pub fn chosen_table_in(image: &Image, id: &[u8; 16]) -> Option<Table>
-    ensures some { IfSome result (λ table. IsChosen id.now (vec_len image.now.slots) (slots_of image.now.slots.items) table) }
+    ensures some { IfSome result (λ table. IsChosen id.now (vec_len image.now.slots) (slots_of image.now.slots.items)
+        table) }
     ensures none { IsNone result → ImageCountsNone id.now (vec_len image.now.slots) (slots_of image.now.slots.items) }
 {
     let devices = image.slots.len();

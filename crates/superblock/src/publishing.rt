@@ -1,5 +1,6 @@
 //! How a table is published: its superblocks go to the devices of the set.
-ghost use Rattle.std.specs.Prelude.{◌≡◌, ◌≢◌, ◌⊎◌, ◌≤◌, ◌<◌, ◌+◌, ◌&&◌, ◌↔◌, ℕ, false, not, map, [], ◌∷◌, Contains, Err, IfErr, OnOk, is_ok};
+ghost use Rattle.std.specs.Prelude.{◌≡◌, ◌≢◌, ◌⊎◌, ◌≤◌, ◌<◌, ◌+◌, ◌&&◌, ◌↔◌, ℕ, false, not, map, [], ◌∷◌, Contains};
+ghost use Rattle.std.specs.Prelude.{Err, IfErr, OnOk, is_ok};
 ghost use Rattle.sector_model.specs.declared.sector.Stop.TheVariants.{Down};
 ghost use Rattle.sector_model.specs.Bank.{IsCauseOf, IsLater};
 ghost use Rattle.sector_model.specs.Calls.{Flush, Made, Write};
@@ -25,7 +26,8 @@ use sector_model::{Bank, Sector, Stop, flush_device, write_sector};
 pub fn publish<B: Bank>(bank: &mut B, new: &Table, last: Option<u8>) -> Result<(), Stop>
     requires { CanPublish (B.panel bank.old) new.now last }
     ensures honest { B.honest bank.old ↔ B.honest bank.new }
-    ensures publishes { Publishes (B.honest bank.old) new.now last (B.panel bank.old) (B.panel bank.new) (B.history bank.old) (B.history bank.new) result }
+    ensures publishes { Publishes (B.honest bank.old) new.now last (B.panel bank.old) (B.panel bank.new)
+        (B.history bank.old) (B.history bank.new) result }
 {
     write_first(bank, new, last)?;
     flush_first(bank, new, last)?;
@@ -41,8 +43,10 @@ fn write_first<B: Bank>(bank: &mut B, new: &Table, last: Option<u8>) -> Result<(
     ensures panel { IsLater (B.panel bank.old) (B.panel bank.new) }
     ensures honest { B.honest bank.old ↔ B.honest bank.new }
     ensures made { (sectors : ℕ → Bytes) → B.honest bank.old
-        → ((slot : ℕ) → slot < slots_of new.now → state_at new.now.states slot ≢ Missing → StandsAt new.now slot (sectors slot))
-        → Made (map (λ slot. Write slot (place_of new.now) (sectors slot)) (first_slots new.now last)) (is_ok result) (B.history bank.old) (B.history bank.new) }
+        → ((slot : ℕ) → slot < slots_of new.now → state_at new.now.states slot ≢ Missing
+        → StandsAt new.now slot (sectors slot))
+        → Made (map (λ slot. Write slot (place_of new.now) (sectors slot)) (first_slots new.now last)) (is_ok result)
+        (B.history bank.old) (B.history bank.new) }
     ensures cause { IfErr result (IsCauseOf (B.panel bank.new)) }
     ensures named { (device : ℕ) → result ≡ Err (Down device) → Contains (first_slots new.now last) device }
 {
@@ -59,7 +63,8 @@ fn flush_first<B: Bank>(bank: &mut B, new: &Table, last: Option<u8>) -> Result<(
     requires { CanPublish (B.panel bank.old) new.now last }
     ensures panel { IsLater (B.panel bank.old) (B.panel bank.new) }
     ensures honest { B.honest bank.old ↔ B.honest bank.new }
-    ensures made { B.honest bank.old → Made (map (λ slot. Flush slot) (first_slots new.now last)) (is_ok result) (B.history bank.old) (B.history bank.new) }
+    ensures made { B.honest bank.old → Made (map (λ slot. Flush slot) (first_slots new.now last)) (is_ok result)
+        (B.history bank.old) (B.history bank.new) }
     ensures cause { IfErr result (IsCauseOf (B.panel bank.new)) }
     ensures named { (device : ℕ) → result ≡ Err (Down device) → Contains (first_slots new.now last) device }
 {
@@ -80,9 +85,11 @@ fn write_last<B: Bank>(bank: &mut B, new: &Table, slot: u8) -> Result<(), Stop>
     ensures panel { IsLater (B.panel bank.old) (B.panel bank.new) }
     ensures honest { B.honest bank.old ↔ B.honest bank.new }
     ensures made { (sectors : ℕ → Bytes) → B.honest bank.old → StandsAt new.now slot (sectors slot)
-        → Made (Write slot (place_of new.now) (sectors slot) ∷ Flush slot ∷ []) (is_ok result) (B.history bank.old) (B.history bank.new) }
+        → Made (Write slot (place_of new.now) (sectors slot) ∷ Flush slot ∷ []) (is_ok result) (B.history bank.old)
+        (B.history bank.new) }
     ensures up { OnOk result ((B.panel bank.new).down slot ≡ false) }
-    ensures err { IfErr result (λ stop. IsCauseOf (B.panel bank.new) stop × ((stop ≡ Stop.Worn) ⊎ (stop ≡ Stop.Down slot))) }
+    ensures err { IfErr result (λ stop. IsCauseOf (B.panel bank.new) stop
+        × ((stop ≡ Stop.Worn) ⊎ (stop ≡ Stop.Down slot))) }
 {
     write_superblock(bank, new, slot)?;
     flush_device(bank, slot)
@@ -98,7 +105,8 @@ fn write_superblock<B: Bank>(bank: &mut B, new: &Table, slot: u8) -> Result<(), 
     ensures honest { B.honest bank.old ↔ B.honest bank.new }
     ensures made { (sector : Bytes) → B.honest bank.old → StandsAt new.now slot sector
         → Made (Write slot (place_of new.now) sector ∷ []) (is_ok result) (B.history bank.old) (B.history bank.new) }
-    ensures err { IfErr result (λ stop. IsCauseOf (B.panel bank.new) stop × ((stop ≡ Stop.Worn) ⊎ (stop ≡ Stop.Down slot))) }
+    ensures err { IfErr result (λ stop. IsCauseOf (B.panel bank.new) stop
+        × ((stop ≡ Stop.Worn) ⊎ (stop ≡ Stop.Down slot))) }
 {
     let sector = own_sector(new, slot);
     let place = (new.generation % SUPERBLOCK_PLACES as u64) as u32;

@@ -1,10 +1,12 @@
 -- Which commands the volumes of a table admit.
-use Rattle.std.proofs.Common.{◌≡◌, ◌≢◌, ⊎_elim, ◌⊎◌, ℕ, zero, suc, ◌+◌, ◌<◌, ◌≤◌, true, false, cond, not, ◌||◌, ◌==◌, nat_lt, nat_le, Bool, get_or, List, [], ◌∷◌, ◌++◌, length, take, Option, Some, None, is_none, is_some, Err, refl, sym, ap, subst, ◌∙◌, arith}
+use Rattle.std.proofs.Common.{◌≡◌, ◌≢◌, ⊎_elim, ◌⊎◌, ℕ, zero, suc, ◌+◌, ◌<◌, ◌≤◌, true, false, cond, not, ◌||◌, ◌==◌, nat_lt, nat_le, Bool, get_or, List, []}
+use Rattle.std.proofs.Common.{◌∷◌, ◌++◌, length, take, Option, Some, None, is_none, is_some, Err, refl, sym, ap, subst, ◌∙◌, arith}
 use Rattle.std.specs.Prelude.{unwrap_or}
 use Rattle.std.specs.Option.{MatchOption, ok_or}
 use Rattle.std.proofs.Props.{props}
 use Rattle.std.proofs.Math.Logic.{∥∥₁_elim}
-use Rattle.std.proofs.lemmas.Bool.{cases_lt, cond-true, cond-false, true≢false, false≢true, or_left, or_right, or_from, not_from_true, not_from_false, false_from_ne_true, eq-eqb, ne_eqb, lt-ltb, le-ltb, le-leb, lt-leb}
+use Rattle.std.proofs.lemmas.Bool.{cases_lt, cond-true, cond-false, true≢false, false≢true, or_left, or_right, or_from, not_from_true, not_from_false}
+use Rattle.std.proofs.lemmas.Bool.{false_from_ne_true, eq-eqb, ne_eqb, lt-ltb, le-ltb, le-leb, lt-leb}
 use Rattle.std.proofs.lemmas.List.{get_or_default, length-append, length-replicate}
 use Rattle.std.proofs.lemmas.Option.{none-some}
 use Rattle.sector_model.specs.declared.refusal.Refusal.{Refusal}
@@ -19,7 +21,8 @@ use Rattle.extents.proofs.Tables.{some_within}
 use Rattle.volume_table.specs.Names.{is_good_name}
 use Rattle.extents.specs.Versions.{most_name_bytes, most_volumes}
 use Rattle.volume_table.specs.Volumes.{AreVolumes, Block, Volume, VolumeList, VolumeMap, blocks_of, need, with_volume, zero_block}
-use Rattle.volume_table.specs.VolumeStep.{Create, Extend, Remove, Rename, blocks_in, changed, checks_within, first_refusal, has_no_volume, is_bad_count, is_bad_size, refusal_of, zero_blocks}
+use Rattle.volume_table.specs.VolumeStep.{Create, Extend, Remove, Rename, blocks_in, changed, checks_within, first_refusal, has_no_volume, is_bad_count}
+use Rattle.volume_table.specs.VolumeStep.{is_bad_size, refusal_of, zero_blocks}
 use Rattle.volume_table.specs.Law.{HasLength}
 use Rattle.volume_table.specs.Shows.{used_records}
 use Rattle.volume_table.specs.Admission.{AreKept, HasRecordAt, IsFirstUnused, IsGrownFrom, IsRenamedFrom, IsWithinVolume, MayGrowTo, MayRename, ShowsBy}
@@ -53,14 +56,16 @@ used_is_of_version table number entry used =
     ⊎_elim (λ below. below) (λ above. absurd (none-some entry (sym (none_beyond_end table number above) ∙ used))) (cases_lt number (most_volumes table.version))
 
 -- and its name is as short as the version's names are
-used_is_short : (table : VolumeTable) (number : ℕ) (entry : Record) → record_of table.records number ≡ Some entry → length entry.name.bytes.items ≤ most_name_bytes table.version
+used_is_short : (table : VolumeTable) (number : ℕ) (entry : Record) → record_of table.records number ≡ Some entry
+    → length entry.name.bytes.items ≤ most_name_bytes table.version
 used_is_short table number entry used = ∥∥₁_elim table.is_table (hlevel props) (λ is. is.of_version.short number entry used)
 
 pub found_at : (table : VolumeTable) (name : List ℕ) (number count : ℕ) → IsRecordFor table.records name number count → HasRecordAt table.records name number
 found_at table name number count found =
     record { of_table = used_is_of_table table number found.entry found.used; entry = found.entry; used = found.used; named = found.named }
 
-pub found_within : (table : VolumeTable) (name : List ℕ) (number long at count : ℕ) → IsRecordFor table.records name number long → 1 ≤ count → count ≤ MOST_BLOCKS_AT_ONCE → at + count ≤ long
+pub found_within : (table : VolumeTable) (name : List ℕ) (number long at count : ℕ) → IsRecordFor table.records name number long → 1 ≤ count
+    → count ≤ MOST_BLOCKS_AT_ONCE → at + count ≤ long
     → IsWithinVolume table.records name number at count
 found_within table name number long at count found least most fits =
     record {
@@ -74,14 +79,16 @@ found_within table name number long at count found least most fits =
     }
 
 -- no volume has a name that no record has
-pub absent_by : (extents : ℕ) (table : VolumeTable) (sectors : List Block) (volumes : VolumeMap) (name : List ℕ) → ShowsBy extents table sectors volumes → (HasRecord table.records name → ⊥)
+pub absent_by : (extents : ℕ) (table : VolumeTable) (sectors : List Block) (volumes : VolumeMap) (name : List ℕ) → ShowsBy extents table sectors volumes
+    → (HasRecord table.records name → ⊥)
     → blocks_of name volumes.volumes ≡ None
 absent_by extents table sectors volumes name by none =
     absent_is_shown extents sectors volumes name by.shows (λ number entry used named.
     none (record { number = number; entry = entry; used = ap (λ (t : VolumeTable). record_of t.records number) (sym by.by) ∙ used; named = named }))
 
 -- a volume is as long as its record says
-pub length_by : (extents : ℕ) (table : VolumeTable) (sectors : List Block) (volumes : VolumeMap) (name : List ℕ) (number count : ℕ) → ShowsBy extents table sectors volumes
+pub length_by : (extents : ℕ) (table : VolumeTable) (sectors : List Block) (volumes : VolumeMap) (name : List ℕ) (number count : ℕ)
+    → ShowsBy extents table sectors volumes
     → IsRecordFor table.records name number count → HasLength name count volumes.volumes
 length_by extents table sectors volumes name number count by found =
     let has : HasLength found.entry.name.bytes.items found.entry.blocks volumes.volumes =
@@ -96,35 +103,44 @@ is_there name count volumes has = ap is_none has.found
 long_blocks : (name : List ℕ) (count : ℕ) (volumes : VolumeList) → HasLength name count volumes → length (blocks_in name volumes) ≡ count
 long_blocks name count volumes has = ap (λ o. length (unwrap_or o [])) has.found ∙ has.as_long
 
-pub removal_admitted : (extents : ℕ) (name : List ℕ) (count : ℕ) (volumes : VolumeMap) → HasLength name count volumes.volumes → None ≡ refusal_of extents (Remove name) volumes
-removal_admitted extents name count volumes has = sym (cond-false (has_no_volume name volumes.volumes) (Some NoVolume) None (is_there name count volumes.volumes has))
+pub removal_admitted : (extents : ℕ) (name : List ℕ) (count : ℕ) (volumes : VolumeMap) → HasLength name count volumes.volumes
+    → None ≡ refusal_of extents (Remove name) volumes
+removal_admitted extents name count volumes has = sym (cond-false (has_no_volume name volumes.volumes) (Some NoVolume) None
+    (is_there name count volumes.volumes has))
 
 -- a count that may not be
 count_is_bad : (count : ℕ) → (count ≡ 0) ⊎ (MOST_BLOCKS_AT_ONCE < count) → is_bad_count count ≡ true
-count_is_bad count bad = ⊎_elim (λ none. or_left (count == 0) (nat_lt MOST_BLOCKS_AT_ONCE count) (eq-eqb count 0 none)) (λ above. or_right (count == 0) (nat_lt MOST_BLOCKS_AT_ONCE count) (lt-ltb MOST_BLOCKS_AT_ONCE count above)) bad
+count_is_bad count bad = ⊎_elim (λ none. or_left (count == 0) (nat_lt MOST_BLOCKS_AT_ONCE count) (eq-eqb count 0 none))
+    (λ above. or_right (count == 0) (nat_lt MOST_BLOCKS_AT_ONCE count) (lt-ltb MOST_BLOCKS_AT_ONCE count above)) bad
 
 count_is_good : (count : ℕ) → 1 ≤ count → count ≤ MOST_BLOCKS_AT_ONCE → is_bad_count count ≡ false
-count_is_good count least most = or_from (count == 0) (nat_lt MOST_BLOCKS_AT_ONCE count) (ne_eqb count 0 (λ none. omega (arith, least, none))) (le-ltb MOST_BLOCKS_AT_ONCE count most)
+count_is_good count least most = or_from (count == 0) (nat_lt MOST_BLOCKS_AT_ONCE count) (ne_eqb count 0 (λ none. omega (arith, least, none)))
+    (le-ltb MOST_BLOCKS_AT_ONCE count most)
 
 pub within_bad_count : (name : List ℕ) (long at count : ℕ) (volumes : VolumeList) → HasLength name long volumes → (count ≡ 0) ⊎ (MOST_BLOCKS_AT_ONCE < count)
     → Some BadCount ≡ first_refusal (checks_within name at count volumes)
 within_bad_count name long at count volumes has bad =
-    sym (cond-false (has_no_volume name volumes) (Some NoVolume) _ (is_there name long volumes has) ∙ cond-true (is_bad_count count) (Some BadCount) _ (count_is_bad count bad))
+    sym (cond-false (has_no_volume name volumes) (Some NoVolume) _ (is_there name long volumes has)
+    ∙ cond-true (is_bad_count count) (Some BadCount) _ (count_is_bad count bad))
 
-pub within_past : (name : List ℕ) (long at count : ℕ) (volumes : VolumeList) → HasLength name long volumes → 1 ≤ count → count ≤ MOST_BLOCKS_AT_ONCE → long < at + count
+pub within_past : (name : List ℕ) (long at count : ℕ) (volumes : VolumeList) → HasLength name long volumes → 1 ≤ count → count ≤ MOST_BLOCKS_AT_ONCE
+    → long < at + count
     → Some OutOfRange ≡ first_refusal (checks_within name at count volumes)
 within_past name long at count volumes has least most past =
-    let past_end : nat_lt (length (blocks_in name volumes)) (at + count) ≡ true = lt-ltb (length (blocks_in name volumes)) (at + count) (omega (arith, past, long_blocks name long volumes has)) in
+    let past_end : nat_lt (length (blocks_in name volumes)) (at + count) ≡ true =
+    lt-ltb (length (blocks_in name volumes)) (at + count) (omega (arith, past, long_blocks name long volumes has)) in
     sym (
     cond-false (has_no_volume name volumes) (Some NoVolume) _ (is_there name long volumes has)
     ∙ cond-false (is_bad_count count) (Some BadCount) _ (count_is_good count least most)
     ∙ cond-true (nat_lt (length (blocks_in name volumes)) (at + count)) (Some OutOfRange) None past_end
     )
 
-pub within_admitted : (name : List ℕ) (long at count : ℕ) (volumes : VolumeList) → HasLength name long volumes → 1 ≤ count → count ≤ MOST_BLOCKS_AT_ONCE → at + count ≤ long
+pub within_admitted : (name : List ℕ) (long at count : ℕ) (volumes : VolumeList) → HasLength name long volumes → 1 ≤ count → count ≤ MOST_BLOCKS_AT_ONCE
+    → at + count ≤ long
     → None ≡ first_refusal (checks_within name at count volumes)
 within_admitted name long at count volumes has least most fits =
-    let inside : nat_lt (length (blocks_in name volumes)) (at + count) ≡ false = le-ltb (length (blocks_in name volumes)) (at + count) (omega (arith, fits, long_blocks name long volumes has)) in
+    let inside : nat_lt (length (blocks_in name volumes)) (at + count) ≡ false =
+    le-ltb (length (blocks_in name volumes)) (at + count) (omega (arith, fits, long_blocks name long volumes has)) in
     sym (
     cond-false (has_no_volume name volumes) (Some NoVolume) _ (is_there name long volumes has)
     ∙ cond-false (is_bad_count count) (Some BadCount) _ (count_is_good count least most)
@@ -153,20 +169,25 @@ made_name version made name same good short =
 
 -- a size that may not be
 size_is_bad : (count : ℕ) → (count ≡ 0) ⊎ (MOST_BLOCKS < count) → is_bad_size MOST_BLOCKS count ≡ true
-size_is_bad count bad = ⊎_elim (λ none. or_left (count == 0) (nat_lt MOST_BLOCKS count) (eq-eqb count 0 none)) (λ above. or_right (count == 0) (nat_lt MOST_BLOCKS count) (lt-ltb MOST_BLOCKS count above)) bad
+size_is_bad count bad = ⊎_elim (λ none. or_left (count == 0) (nat_lt MOST_BLOCKS count) (eq-eqb count 0 none))
+    (λ above. or_right (count == 0) (nat_lt MOST_BLOCKS count) (lt-ltb MOST_BLOCKS count above)) bad
 
 size_is_good : (count : ℕ) → 1 ≤ count → count ≤ MOST_BLOCKS → is_bad_size MOST_BLOCKS count ≡ false
-size_is_good count least most = or_from (count == 0) (nat_lt MOST_BLOCKS count) (ne_eqb count 0 (λ none. omega (arith, least, none))) (le-ltb MOST_BLOCKS count most)
+size_is_good count least most = or_from (count == 0) (nat_lt MOST_BLOCKS count) (ne_eqb count 0 (λ none. omega (arith, least, none)))
+    (le-ltb MOST_BLOCKS count most)
 
 -- the free extents of a store are those that its volumes do not need
-pub free_by : (extents : ℕ) (table : VolumeTable) (owners : List (Option Owned)) (sectors : List Block) (volumes : VolumeMap) → extents ≤ MOST_EXTENTS → AreKept extents table owners
+pub free_by : (extents : ℕ) (table : VolumeTable) (owners : List (Option Owned)) (sectors : List Block) (volumes : VolumeMap) → extents ≤ MOST_EXTENTS
+    → AreKept extents table owners
     → ShowsBy extents table sectors volumes → free_of owners + need EXTENT_SECTORS volumes.volumes ≡ extents
 free_by extents table owners sectors volumes most kept by =
-    ap (λ o. free_of o + need EXTENT_SECTORS volumes.volumes) kept.same ∙ ap (λ (t : VolumeTable). free_of (take extents t.extents) + need EXTENT_SECTORS volumes.volumes) (sym by.by)
+    ap (λ o. free_of o + need EXTENT_SECTORS volumes.volumes) kept.same
+    ∙ ap (λ (t : VolumeTable). free_of (take extents t.extents) + need EXTENT_SECTORS volumes.volumes) (sym by.by)
     ∙ free_is_not_needed extents sectors volumes by.shows most
 
 -- as many volumes as used records
-used_by : (extents : ℕ) (table : VolumeTable) (sectors : List Block) (volumes : VolumeMap) → ShowsBy extents table sectors volumes → length volumes.volumes ≡ used_records table.records
+used_by : (extents : ℕ) (table : VolumeTable) (sectors : List Block) (volumes : VolumeMap) → ShowsBy extents table sectors volumes
+    → length volumes.volumes ≡ used_records table.records
 used_by extents table sectors volumes by = (records_are_counted extents sectors volumes by.shows).0 ∙ ap (λ (t : VolumeTable). used_records t.records) by.by
 
 -- the most volumes of whichever version are records of a table
@@ -174,7 +195,8 @@ pub few_by : (version n : ℕ) → n ≡ most_volumes version → n ≤ MOST_VOL
 few_by version n is = omega (arith, is, few_volumes version)
 
 -- one record more is used
-pub used_one_more : (records : List (Option Record)) (number : ℕ) (one : Option Record) (unused : Bool) → number < length records → is_some (get_or records number one) ≡ not unused → unused ≡ false
+pub used_one_more : (records : List (Option Record)) (number : ℕ) (one : Option Record) (unused : Bool) → number < length records
+    → is_some (get_or records number one) ≡ not unused → unused ≡ false
     → ((i : ℕ) → i < number → record_of records i ≡ None → ⊥) → (i : ℕ) → i < number + 1 → record_of records i ≡ None → ⊥
 used_one_more records number one unused within tested told so_far i below none = ⊎_elim (λ less. so_far i less none) at_it (cases_lt i number)
   where
@@ -185,7 +207,8 @@ used_one_more records number one unused within tested told so_far i below none =
         true≢false (sym (tested ∙ ap not told) ∙ ap is_some is_none_there)
 
 -- each of the first records is used
-all_used : (n : ℕ) (records : List (Option Record)) → n ≤ length records → ((number : ℕ) → number < n → record_of records number ≢ None) → n ≤ used_records records
+all_used : (n : ℕ) (records : List (Option Record)) → n ≤ length records → ((number : ℕ) → number < n → record_of records number ≢ None)
+    → n ≤ used_records records
 all_used zero records within none = omega arith
 all_used (suc n) [] within none = absurd (omega (arith, within))
 all_used (suc n) (None ∷ records) within none = absurd (none 0 (omega arith) refl)
@@ -211,7 +234,8 @@ few_used (suc n) (None ∷ records) none = omega (arith, few_used n records (non
 few_used (suc n) (Some entry ∷ records) none = omega (arith, few_used n records (none_from_next n (Some entry) records none))
 
 -- nor is one before it
-one_unused : (n : ℕ) (records : List (Option Record)) (number : ℕ) → number < n → record_of records number ≡ None → NoneFrom n records → used_records records < n
+one_unused : (n : ℕ) (records : List (Option Record)) (number : ℕ) → number < n → record_of records number ≡ None → NoneFrom n records
+    → used_records records < n
 one_unused zero records number below unused none = absurd (omega (arith, below))
 one_unused (suc n) [] number below unused none = omega arith
 one_unused (suc n) (None ∷ records) number below unused none = omega (arith, few_used n records (none_from_next n None records none))
@@ -220,7 +244,8 @@ one_unused (suc n) (Some entry ∷ records) (suc number) below unused none =
     omega (arith, one_unused n records number (omega (arith, below)) unused (none_from_next n (Some entry) records none))
 
 -- the version of a table is that of the volumes that are shown by it
-version_by : (extents : ℕ) (table : VolumeTable) (sectors : List Block) (volumes : VolumeMap) → ShowsBy extents table sectors volumes → table.version ≡ volumes.version
+version_by : (extents : ℕ) (table : VolumeTable) (sectors : List Block) (volumes : VolumeMap) → ShowsBy extents table sectors volumes
+    → table.version ≡ volumes.version
 version_by extents table sectors volumes by = ap (λ (t : VolumeTable). t.version) (sym by.by) ∙ by.shows.of_version
 
 pub volumes_are_full : (extents : ℕ) (table : VolumeTable) (sectors : List Block) (volumes : VolumeMap) → ShowsBy extents table sectors volumes
@@ -235,7 +260,13 @@ pub volumes_are_fewer : (extents : ℕ) (table : VolumeTable) (sectors : List Bl
     → IsFirstUnused table.version table.records number → length volumes.volumes < most_volumes volumes.version
 volumes_are_fewer extents table sectors volumes number by unused =
     let same : most_volumes table.version ≡ most_volumes volumes.version = ap most_volumes (version_by extents table sectors volumes by) in
-    omega (arith, same, used_by extents table sectors volumes by, one_unused (most_volumes table.version) table.records number unused.of_table unused.unused (none_beyond_end table))
+    omega (
+      arith,
+      same,
+      used_by extents table sectors volumes by,
+      one_unused (most_volumes table.version) table.records number unused.of_table unused.unused
+          (none_beyond_end table),
+    )
 
 -- a new volume may have this name and so many blocks
 pub record IsGoodNew (version : ℕ) (name : List ℕ) (count : ℕ) : Type 0 where
@@ -244,7 +275,8 @@ pub record IsGoodNew (version : ℕ) (name : List ℕ) (count : ℕ) : Type 0 wh
   pub most : count ≤ MOST_BLOCKS
 
 -- a name that a table may have is one that its volumes may have
-pub new_by : (extents : ℕ) (table : VolumeTable) (sectors : List Block) (volumes : VolumeMap) (name : List ℕ) (count : ℕ) → ShowsBy extents table sectors volumes
+pub new_by : (extents : ℕ) (table : VolumeTable) (sectors : List Block) (volumes : VolumeMap) (name : List ℕ) (count : ℕ)
+    → ShowsBy extents table sectors volumes
     → IsGoodNew table.version name count → IsGoodNew volumes.version name count
 new_by extents table sectors volumes name count by new = subst (λ (v : ℕ). IsGoodNew v name count) (version_by extents table sectors volumes by) new
 
@@ -252,11 +284,14 @@ pub name_by : (extents : ℕ) (table : VolumeTable) (sectors : List Block) (volu
     → IsNameOf table.version name → IsNameOf volumes.version name
 name_by extents table sectors volumes name by is = subst (λ (v : ℕ). IsNameOf v name) (version_by extents table sectors volumes by) is
 
-pub creation_bad_name : (extents : ℕ) (name : List ℕ) (count : ℕ) (volumes : VolumeMap) → (IsNameOf volumes.version name → ⊥) → Some BadName ≡ refusal_of extents (Create name count) volumes
-creation_bad_name extents name count volumes none = sym (cond-true (not (is_good_name volumes.version name)) (Some BadName) _ (name_is_bad volumes.version name none))
+pub creation_bad_name : (extents : ℕ) (name : List ℕ) (count : ℕ) (volumes : VolumeMap) → (IsNameOf volumes.version name → ⊥)
+    → Some BadName ≡ refusal_of extents (Create name count) volumes
+creation_bad_name extents name count volumes none = sym
+    (cond-true (not (is_good_name volumes.version name)) (Some BadName) _ (name_is_bad volumes.version name none))
 
 -- a name that is longer than those of the table
-pub creation_long_name : (extents : ℕ) (table : VolumeTable) (sectors : List Block) (volumes : VolumeMap) (name : List ℕ) (count : ℕ) → ShowsBy extents table sectors volumes
+pub creation_long_name : (extents : ℕ) (table : VolumeTable) (sectors : List Block) (volumes : VolumeMap) (name : List ℕ) (count : ℕ)
+    → ShowsBy extents table sectors volumes
     → most_name_bytes table.version < length name → Some BadName ≡ refusal_of extents (Create name count) volumes
 creation_long_name extents table sectors volumes name count by long =
     let same : most_name_bytes table.version ≡ most_name_bytes volumes.version = ap most_name_bytes (version_by extents table sectors volumes by) in
@@ -265,28 +300,33 @@ creation_long_name extents table sectors volumes name count by long =
 pub creation_bad_size : (extents : ℕ) (name : List ℕ) (count : ℕ) (volumes : VolumeMap) → IsNameOf volumes.version name → (count ≡ 0) ⊎ (MOST_BLOCKS < count)
     → Some BadSize ≡ refusal_of extents (Create name count) volumes
 creation_bad_size extents name count volumes is bad =
-    sym (cond-false (not (is_good_name volumes.version name)) (Some BadName) _ (name_is_good volumes.version name is) ∙ cond-true (is_bad_size MOST_BLOCKS count) (Some BadSize) _ (size_is_bad count bad))
+    sym (cond-false (not (is_good_name volumes.version name)) (Some BadName) _ (name_is_good volumes.version name is)
+    ∙ cond-true (is_bad_size MOST_BLOCKS count) (Some BadSize) _ (size_is_bad count bad))
 
 -- what a creation is refused with where name and size are good
-good_new : (extents : ℕ) (name : List ℕ) (count : ℕ) (volumes : VolumeMap) → IsGoodNew volumes.version name count → refusal_of extents (Create name count) volumes
+good_new : (extents : ℕ) (name : List ℕ) (count : ℕ) (volumes : VolumeMap) → IsGoodNew volumes.version name count
+    → refusal_of extents (Create name count) volumes
     ≡ first_refusal ((is_some (blocks_of name volumes.volumes), Exists) ∷ (nat_le (most_volumes volumes.version) (length volumes.volumes), TooManyVolumes)
     ∷ (nat_lt extents (need EXTENT_SECTORS volumes.volumes + extents_for EXTENT_SECTORS count), NoSpace) ∷ [])
 good_new extents name count volumes new =
     cond-false (not (is_good_name volumes.version name)) (Some BadName) _ (name_is_good volumes.version name new.its_name)
     ∙ cond-false (is_bad_size MOST_BLOCKS count) (Some BadSize) _ (size_is_good count new.least new.most)
 
-pub creation_exists : (extents : ℕ) (name : List ℕ) (long count : ℕ) (volumes : VolumeMap) → IsGoodNew volumes.version name count → HasLength name long volumes.volumes
+pub creation_exists : (extents : ℕ) (name : List ℕ) (long count : ℕ) (volumes : VolumeMap) → IsGoodNew volumes.version name count
+    → HasLength name long volumes.volumes
     → Some Exists ≡ refusal_of extents (Create name count) volumes
 creation_exists extents name long count volumes new has =
     sym (good_new extents name count volumes new ∙ cond-true (is_some (blocks_of name volumes.volumes)) (Some Exists) _ (ap is_some has.found))
 
-pub creation_full : (extents : ℕ) (name : List ℕ) (count : ℕ) (volumes : VolumeMap) → IsGoodNew volumes.version name count → blocks_of name volumes.volumes ≡ None
+pub creation_full : (extents : ℕ) (name : List ℕ) (count : ℕ) (volumes : VolumeMap) → IsGoodNew volumes.version name count
+    → blocks_of name volumes.volumes ≡ None
     → most_volumes volumes.version ≤ length volumes.volumes → Some TooManyVolumes ≡ refusal_of extents (Create name count) volumes
 creation_full extents name count volumes new none full =
     sym (
     good_new extents name count volumes new
     ∙ cond-false (is_some (blocks_of name volumes.volumes)) (Some Exists) _ (ap is_some none)
-    ∙ cond-true (nat_le (most_volumes volumes.version) (length volumes.volumes)) (Some TooManyVolumes) _ (le-leb (most_volumes volumes.version) (length volumes.volumes) full)
+    ∙ cond-true (nat_le (most_volumes volumes.version) (length volumes.volumes)) (Some TooManyVolumes) _
+    (le-leb (most_volumes volumes.version) (length volumes.volumes) full)
     )
 
 -- there is room for a volume more, whose name is new
@@ -296,27 +336,34 @@ pub record HasRoomFor (name : List ℕ) (volumes : VolumeMap) : Type 0 where
 
 -- what it is refused with there
 room_for_one : (extents : ℕ) (name : List ℕ) (count : ℕ) (volumes : VolumeMap) → IsGoodNew volumes.version name count → HasRoomFor name volumes
-    → refusal_of extents (Create name count) volumes ≡ cond (nat_lt extents (need EXTENT_SECTORS volumes.volumes + extents_for EXTENT_SECTORS count)) (Some NoSpace) None
+    → refusal_of extents (Create name count) volumes ≡ cond (nat_lt extents (need EXTENT_SECTORS volumes.volumes + extents_for EXTENT_SECTORS count))
+    (Some NoSpace) None
 room_for_one extents name count volumes new room =
     good_new extents name count volumes new
     ∙ cond-false (is_some (blocks_of name volumes.volumes)) (Some Exists) _ (ap is_some room.absent)
-    ∙ cond-false (nat_le (most_volumes volumes.version) (length volumes.volumes)) (Some TooManyVolumes) _ (lt-leb (most_volumes volumes.version) (length volumes.volumes) room.fewer)
+    ∙ cond-false (nat_le (most_volumes volumes.version) (length volumes.volumes)) (Some TooManyVolumes) _
+    (lt-leb (most_volumes volumes.version) (length volumes.volumes) room.fewer)
 
 pub creation_no_space : (extents free : ℕ) (name : List ℕ) (count : ℕ) (volumes : VolumeMap) → IsGoodNew volumes.version name count → HasRoomFor name volumes
-    → free + need EXTENT_SECTORS volumes.volumes ≡ extents → free < extents_for EXTENT_SECTORS count → Some NoSpace ≡ refusal_of extents (Create name count) volumes
+    → free + need EXTENT_SECTORS volumes.volumes ≡ extents → free < extents_for EXTENT_SECTORS count
+    → Some NoSpace ≡ refusal_of extents (Create name count) volumes
 creation_no_space extents free name count volumes new room all less =
     let needed = need EXTENT_SECTORS volumes.volumes + extents_for EXTENT_SECTORS count in
-    sym (room_for_one extents name count volumes new room ∙ cond-true (nat_lt extents needed) (Some NoSpace) None (lt-ltb extents needed (omega (arith, all, less))))
+    sym (room_for_one extents name count volumes new room
+    ∙ cond-true (nat_lt extents needed) (Some NoSpace) None (lt-ltb extents needed (omega (arith, all, less))))
 
 pub creation_admitted : (extents free : ℕ) (name : List ℕ) (count : ℕ) (volumes : VolumeMap) → IsGoodNew volumes.version name count → HasRoomFor name volumes
     → free + need EXTENT_SECTORS volumes.volumes ≡ extents → extents_for EXTENT_SECTORS count ≤ free → None ≡ refusal_of extents (Create name count) volumes
 creation_admitted extents free name count volumes new room all fits =
     let needed = need EXTENT_SECTORS volumes.volumes + extents_for EXTENT_SECTORS count in
-    sym (room_for_one extents name count volumes new room ∙ cond-false (nat_lt extents needed) (Some NoSpace) None (le-ltb extents needed (omega (arith, all, fits))))
+    sym (room_for_one extents name count volumes new room
+    ∙ cond-false (nat_lt extents needed) (Some NoSpace) None (le-ltb extents needed (omega (arith, all, fits))))
 
 -- a new record may be put
-pub may_create_at : (table : VolumeTable) (owners : List (Option Owned)) (number : ℕ) (entry : Record) (name : List ℕ) → IsFirstUnused table.version table.records number → 1 ≤ entry.blocks
-    → entry.name.bytes.items ≡ name → length name ≤ most_name_bytes table.version → (HasRecord table.records name → ⊥) → extents_for EXTENT_SECTORS entry.blocks ≤ free_of owners
+pub may_create_at : (table : VolumeTable) (owners : List (Option Owned)) (number : ℕ) (entry : Record) (name : List ℕ)
+    → IsFirstUnused table.version table.records number → 1 ≤ entry.blocks
+    → entry.name.bytes.items ≡ name → length name ≤ most_name_bytes table.version → (HasRecord table.records name → ⊥)
+    → extents_for EXTENT_SECTORS entry.blocks ≤ free_of owners
     → MayGrowTo table.version table.records owners number 0 entry
 may_create_at table owners number entry name unused least named short none fits =
     record {
@@ -329,21 +376,25 @@ may_create_at table owners number entry name unused least named short none fits 
     }
 
 -- a record may be put with more blocks
-pub may_extend_at : (table : VolumeTable) (owners : List (Option Owned)) (number first : ℕ) (entry : Record) (name : List ℕ) → IsRecordFor table.records name number first
-    → first < entry.blocks → entry.name.bytes.items ≡ name → extents_for EXTENT_SECTORS entry.blocks ≤ extents_for EXTENT_SECTORS first + free_of owners → MayGrowTo table.version table.records owners number first entry
+pub may_extend_at : (table : VolumeTable) (owners : List (Option Owned)) (number first : ℕ) (entry : Record) (name : List ℕ)
+    → IsRecordFor table.records name number first
+    → first < entry.blocks → entry.name.bytes.items ≡ name → extents_for EXTENT_SECTORS entry.blocks ≤ extents_for EXTENT_SECTORS first + free_of owners
+    → MayGrowTo table.version table.records owners number first entry
 may_extend_at table owners number first entry name found more named fits =
     record {
       of_table = used_is_of_version table number found.entry found.used;
       short = subst (λ (n : List ℕ). length n ≤ most_name_bytes table.version) (found.named ∙ sym named) (used_is_short table number found.entry found.used);
       from = subst (λ o. IsGrownFrom o first entry) (sym found.used) (found.as_long, found.named ∙ sym named);
       more = more;
-      apart = λ other one used same. distinct_names table.version table.records table.extents table.is_table other number one found.entry used found.used (same ∙ named ∙ sym found.named);
+      apart = λ other one used same. distinct_names table.version table.records table.extents table.is_table other number one found.entry used found.used
+          (same ∙ named ∙ sym found.named);
       fits = fits;
     }
 
 -- what the volumes need after an extend
 grown_need : (extents : ℕ) (name : List ℕ) (long growth : ℕ) (volumes : VolumeMap) → AreVolumes extents volumes → HasLength name long volumes.volumes
-    → need EXTENT_SECTORS (changed (Extend name growth) volumes.volumes) + extents_for EXTENT_SECTORS long ≡ need EXTENT_SECTORS volumes.volumes + extents_for EXTENT_SECTORS (long + growth)
+    → need EXTENT_SECTORS (changed (Extend name growth) volumes.volumes) + extents_for EXTENT_SECTORS long ≡ need EXTENT_SECTORS volumes.volumes + extents_for
+    EXTENT_SECTORS (long + growth)
 grown_need extents name long growth volumes are has =
     let old = blocks_in name volumes.volumes in
     let new : Volume = record { name = name; blocks = old ++ zero_blocks growth } in
@@ -351,9 +402,11 @@ grown_need extents name long growth volumes are has =
     let as_long = long_blocks name long volumes.volumes has in
     let new_long : length new.blocks ≡ long + growth = omega (arith, length-append old (zero_blocks growth), length-replicate growth zero_block, as_long) in
     let needed = need-with_other new volumes.volumes old are.rising found in
-    ap (λ n. need EXTENT_SECTORS (with_volume new volumes.volumes) + extents_for EXTENT_SECTORS n) (sym as_long) ∙ needed ∙ ap (λ n. need EXTENT_SECTORS volumes.volumes + extents_for EXTENT_SECTORS n) new_long
+    ap (λ n. need EXTENT_SECTORS (with_volume new volumes.volumes) + extents_for EXTENT_SECTORS n) (sym as_long) ∙ needed
+    ∙ ap (λ n. need EXTENT_SECTORS volumes.volumes + extents_for EXTENT_SECTORS n) new_long
 
-pub extension_bad_size : (extents : ℕ) (name : List ℕ) (long growth : ℕ) (volumes : VolumeMap) → HasLength name long volumes.volumes → (growth ≡ 0) ⊎ (MOST_BLOCKS < long + growth)
+pub extension_bad_size : (extents : ℕ) (name : List ℕ) (long growth : ℕ) (volumes : VolumeMap) → HasLength name long volumes.volumes → (growth ≡ 0)
+    ⊎ (MOST_BLOCKS < long + growth)
     → Some BadSize ≡ refusal_of extents (Extend name growth) volumes
 extension_bad_size extents name long growth volumes has bad =
     let all = length (blocks_in name volumes.volumes) + growth in
@@ -361,28 +414,36 @@ extension_bad_size extents name long growth volumes has bad =
     sym (
     cond-false (has_no_volume name volumes.volumes) (Some NoVolume) _ (is_there name long volumes.volumes has)
     ∙ cond-true (growth == 0 || nat_lt MOST_BLOCKS all) (Some BadSize) _
-    (⊎_elim (λ none. or_left (growth == 0) (nat_lt MOST_BLOCKS all) (eq-eqb growth 0 none)) (λ above. or_right (growth == 0) (nat_lt MOST_BLOCKS all) (lt-ltb MOST_BLOCKS all (omega (arith, above, as_long)))) bad)
+    (⊎_elim (λ none. or_left (growth == 0) (nat_lt MOST_BLOCKS all) (eq-eqb growth 0 none))
+    (λ above. or_right (growth == 0) (nat_lt MOST_BLOCKS all) (lt-ltb MOST_BLOCKS all (omega (arith, above, as_long)))) bad)
     )
 
 -- what it is refused with where the size is good
-good_growth : (extents : ℕ) (name : List ℕ) (long growth : ℕ) (volumes : VolumeMap) → HasLength name long volumes.volumes → 1 ≤ growth → long + growth ≤ MOST_BLOCKS
-    → refusal_of extents (Extend name growth) volumes ≡ cond (nat_lt extents (need EXTENT_SECTORS (changed (Extend name growth) volumes.volumes))) (Some NoSpace) None
+good_growth : (extents : ℕ) (name : List ℕ) (long growth : ℕ) (volumes : VolumeMap) → HasLength name long volumes.volumes → 1 ≤ growth
+    → long + growth ≤ MOST_BLOCKS
+    → refusal_of extents (Extend name growth) volumes ≡ cond (nat_lt extents (need EXTENT_SECTORS (changed (Extend name growth) volumes.volumes)))
+    (Some NoSpace) None
 good_growth extents name long growth volumes has least most =
     let all = length (blocks_in name volumes.volumes) + growth in
     let as_long = long_blocks name long volumes.volumes has in
     cond-false (has_no_volume name volumes.volumes) (Some NoVolume) _ (is_there name long volumes.volumes has)
     ∙ cond-false (growth == 0 || nat_lt MOST_BLOCKS all) (Some BadSize) _
-    (or_from (growth == 0) (nat_lt MOST_BLOCKS all) (ne_eqb growth 0 (λ none. omega (arith, least, none))) (le-ltb MOST_BLOCKS all (omega (arith, most, as_long))))
+    (or_from (growth == 0) (nat_lt MOST_BLOCKS all) (ne_eqb growth 0 (λ none. omega (arith, least, none)))
+    (le-ltb MOST_BLOCKS all (omega (arith, most, as_long))))
 
-pub extension_no_space : (extents free : ℕ) (name : List ℕ) (long growth : ℕ) (volumes : VolumeMap) → AreVolumes extents volumes → HasLength name long volumes.volumes → 1 ≤ growth → long + growth ≤ MOST_BLOCKS
-    → free + need EXTENT_SECTORS volumes.volumes ≡ extents → extents_for EXTENT_SECTORS long + free < extents_for EXTENT_SECTORS (long + growth) → Some NoSpace ≡ refusal_of extents (Extend name growth) volumes
+pub extension_no_space : (extents free : ℕ) (name : List ℕ) (long growth : ℕ) (volumes : VolumeMap) → AreVolumes extents volumes
+    → HasLength name long volumes.volumes → 1 ≤ growth → long + growth ≤ MOST_BLOCKS
+    → free + need EXTENT_SECTORS volumes.volumes ≡ extents → extents_for EXTENT_SECTORS long + free < extents_for EXTENT_SECTORS (long + growth)
+    → Some NoSpace ≡ refusal_of extents (Extend name growth) volumes
 extension_no_space extents free name long growth volumes are has least most all less =
     let needed = need EXTENT_SECTORS (changed (Extend name growth) volumes.volumes) in
     let above : extents < needed = omega (arith, all, less, grown_need extents name long growth volumes are has) in
     sym (good_growth extents name long growth volumes has least most ∙ cond-true (nat_lt extents needed) (Some NoSpace) None (lt-ltb extents needed above))
 
-pub extension_admitted : (extents free : ℕ) (name : List ℕ) (long growth : ℕ) (volumes : VolumeMap) → AreVolumes extents volumes → HasLength name long volumes.volumes → 1 ≤ growth → long + growth ≤ MOST_BLOCKS
-    → free + need EXTENT_SECTORS volumes.volumes ≡ extents → extents_for EXTENT_SECTORS (long + growth) ≤ extents_for EXTENT_SECTORS long + free → None ≡ refusal_of extents (Extend name growth) volumes
+pub extension_admitted : (extents free : ℕ) (name : List ℕ) (long growth : ℕ) (volumes : VolumeMap) → AreVolumes extents volumes
+    → HasLength name long volumes.volumes → 1 ≤ growth → long + growth ≤ MOST_BLOCKS
+    → free + need EXTENT_SECTORS volumes.volumes ≡ extents → extents_for EXTENT_SECTORS (long + growth) ≤ extents_for EXTENT_SECTORS long + free
+    → None ≡ refusal_of extents (Extend name growth) volumes
 extension_admitted extents free name long growth volumes are has least most all fits =
     let needed = need EXTENT_SECTORS (changed (Extend name growth) volumes.volumes) in
     let within : needed ≤ extents = omega (arith, all, fits, grown_need extents name long growth volumes are has) in
@@ -390,7 +451,8 @@ extension_admitted extents free name long growth volumes are has least most all 
 
 -- ---- a rename
 
-pub rename_bad_name : (extents : ℕ) (old new : List ℕ) (long : ℕ) (volumes : VolumeMap) → HasLength old long volumes.volumes → (IsNameOf volumes.version new → ⊥)
+pub rename_bad_name : (extents : ℕ) (old new : List ℕ) (long : ℕ) (volumes : VolumeMap) → HasLength old long volumes.volumes
+    → (IsNameOf volumes.version new → ⊥)
     → Some BadName ≡ refusal_of extents (Rename old new) volumes
 rename_bad_name extents old new long volumes has none =
     sym (
@@ -399,7 +461,8 @@ rename_bad_name extents old new long volumes has none =
     )
 
 -- a name that is longer than those of the table
-pub rename_long_name : (extents : ℕ) (table : VolumeTable) (sectors : List Block) (volumes : VolumeMap) (old new : List ℕ) (long : ℕ) → ShowsBy extents table sectors volumes
+pub rename_long_name : (extents : ℕ) (table : VolumeTable) (sectors : List Block) (volumes : VolumeMap) (old new : List ℕ) (long : ℕ)
+    → ShowsBy extents table sectors volumes
     → HasLength old long volumes.volumes → most_name_bytes table.version < length new → Some BadName ≡ refusal_of extents (Rename old new) volumes
 rename_long_name extents table sectors volumes old new long by has above =
     let same : most_name_bytes table.version ≡ most_name_bytes volumes.version = ap most_name_bytes (version_by extents table sectors volumes by) in
@@ -412,19 +475,23 @@ good_rename extents old new long volumes has is =
     cond-false (has_no_volume old volumes.volumes) (Some NoVolume) _ (is_there old long volumes.volumes has)
     ∙ cond-false (not (is_good_name volumes.version new)) (Some BadName) _ (name_is_good volumes.version new is)
 
-pub rename_exists : (extents : ℕ) (old new : List ℕ) (long other : ℕ) (volumes : VolumeMap) → HasLength old long volumes.volumes → IsNameOf volumes.version new → HasLength new other volumes.volumes
+pub rename_exists : (extents : ℕ) (old new : List ℕ) (long other : ℕ) (volumes : VolumeMap) → HasLength old long volumes.volumes → IsNameOf volumes.version new
+    → HasLength new other volumes.volumes
     → Some Exists ≡ refusal_of extents (Rename old new) volumes
 rename_exists extents old new long other volumes has is taken =
     sym (good_rename extents old new long volumes has is ∙ cond-true (is_some (blocks_of new volumes.volumes)) (Some Exists) None (ap is_some taken.found))
 
-pub rename_admitted : (extents : ℕ) (old new : List ℕ) (long : ℕ) (volumes : VolumeMap) → HasLength old long volumes.volumes → IsNameOf volumes.version new → blocks_of new volumes.volumes ≡ None
+pub rename_admitted : (extents : ℕ) (old new : List ℕ) (long : ℕ) (volumes : VolumeMap) → HasLength old long volumes.volumes → IsNameOf volumes.version new
+    → blocks_of new volumes.volumes ≡ None
     → None ≡ refusal_of extents (Rename old new) volumes
 rename_admitted extents old new long volumes has is absent =
     sym (good_rename extents old new long volumes has is ∙ cond-false (is_some (blocks_of new volumes.volumes)) (Some Exists) None (ap is_some absent))
 
 -- a record may get another name
-pub may_rename_at : (table : VolumeTable) (old new : List ℕ) (number long : ℕ) (entry : Record) → IsRecordFor table.records old number long → entry.blocks ≡ long
-    → entry.name.bytes.items ≡ new → length new ≤ most_name_bytes table.version → (HasRecord table.records new → ⊥) → MayRename table.version table.records number entry
+pub may_rename_at : (table : VolumeTable) (old new : List ℕ) (number long : ℕ) (entry : Record) → IsRecordFor table.records old number long
+    → entry.blocks ≡ long
+    → entry.name.bytes.items ≡ new → length new ≤ most_name_bytes table.version → (HasRecord table.records new → ⊥)
+    → MayRename table.version table.records number entry
 may_rename_at table old new number long entry found as_long named short none =
     record {
       of_table = used_is_of_version table number found.entry found.used;
@@ -435,7 +502,8 @@ may_rename_at table old new number long entry found as_long named short none =
 
 -- a name that was looked for, and found
 pub name_was_found : (records : List (Option Record)) (bytes name : List ℕ) (o : Option Found) → bytes ≡ name → is_some o ≡ true
-    → MatchOption o (HasRecord records bytes → ⊥) (λ found. IsRecordFor records bytes found.number found.count) → (found : Found) × IsRecordFor records name found.number found.count
+    → MatchOption o (HasRecord records bytes → ⊥) (λ found. IsRecordFor records bytes found.number found.count) → (found : Found)
+    × IsRecordFor records name found.number found.count
 name_was_found records bytes name None same some found = absurd (false≢true some)
 name_was_found records bytes name (Some one) same some found = (one, subst (λ n. IsRecordFor records n one.number one.count) same found)
 
@@ -447,10 +515,12 @@ name_was_not_found records bytes name (Some one) same some none = absurd (true�
 
 -- no record was found for the name, and that was the refusal
 pub none_found : (records : List (Option Record)) (name : List ℕ) (o : Option Found) (refusal said : Refusal) → Err refusal ≡ ok_or o NoVolume
-    → MatchOption o (HasRecord records name → ⊥) (λ found. IsRecordFor records name found.number found.count) → said ≡ refusal → (said ≡ NoVolume) × (HasRecord records name → ⊥)
+    → MatchOption o (HasRecord records name → ⊥) (λ found. IsRecordFor records name found.number found.count) → said ≡ refusal → (said ≡ NoVolume)
+    × (HasRecord records name → ⊥)
 none_found records name None refusal said is none same = (cc, none)
 none_found records name (Some found) refusal said is some same = absurd (cc)
 
 -- which comes before all others
-pub no_volume_first : (name : List ℕ) (volumes : VolumeList) (rest : Option Refusal) → blocks_of name volumes ≡ None → Some NoVolume ≡ cond (has_no_volume name volumes) (Some NoVolume) rest
+pub no_volume_first : (name : List ℕ) (volumes : VolumeList) (rest : Option Refusal) → blocks_of name volumes ≡ None
+    → Some NoVolume ≡ cond (has_no_volume name volumes) (Some NoVolume) rest
 no_volume_first name volumes rest none = sym (cond-true (has_no_volume name volumes) (Some NoVolume) rest (ap is_none none))

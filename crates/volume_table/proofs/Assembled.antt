@@ -1,5 +1,6 @@
 -- Assembling a set that is safe: what a crash in it leaves, what it gives, and that it is refused for a counter alone.
-use Rattle.std.proofs.Common.{◌≡◌, ◌≢◌, ◌⊎◌, inl, inr, ℕ, ◌+◌, ◌<◌, Bool, true, false, List, [], Option, Some, None, refl, sym, ◌∙◌, subst, subst₂, ◌==◌, ◌||◌, cond}
+use Rattle.std.proofs.Common.{◌≡◌, ◌≢◌, ◌⊎◌, inl, inr, ℕ, ◌+◌, ◌<◌, Bool, true, false, List, [], Option, Some, None, refl, sym, ◌∙◌, subst, subst₂, ◌==◌, ◌||◌}
+use Rattle.std.proofs.Common.{cond}
 use Rattle.std.specs.Prelude.{nat_lt}
 use Rattle.std.proofs.lemmas.Bool.{cases_eq}
 use Rattle.sector_model.specs.declared.event.Event.{Event}
@@ -60,7 +61,8 @@ record AtOnce (devices : ℕ) (table : Table) (image : Slots) (out : ℕ) : Type
       → ¬ IsInFull devices table first (with_slot image out None first) → ¬ IsInFull devices table second (with_slot image out None second) → first ≡ second
   pub of_set : out < slots_of table
 
-is_out_slot : (devices : ℕ) (table : Table) (image : Slots) (out slot : ℕ) → AtOnce devices table image out → slot < slots_of table → ¬ IsInFull devices table slot (image slot) → slot ≡ out
+is_out_slot : (devices : ℕ) (table : Table) (image : Slots) (out slot : ℕ) → AtOnce devices table image out → slot < slots_of table
+    → ¬ IsInFull devices table slot (image slot) → slot ≡ out
 is_out_slot devices table image out slot once below not_full = elim (cases_eq slot out) [
   | inl is ↦ is
   | inr apart ↦ once.without slot out below once.of_set
@@ -69,7 +71,8 @@ is_out_slot devices table image out slot once below not_full = elim (cases_eq sl
 ]
 
 -- whatever is out by the end is the slot
-lost_or_out : (devices : ℕ) (table : Table) (image : Slots) (h : History) (slots out slot : ℕ) → slots_of table ≡ slots → AtOnce devices table image out → OthersAreUp slots h out
+lost_or_out : (devices : ℕ) (table : Table) (image : Slots) (h : History) (slots out slot : ℕ) → slots_of table ≡ slots → AtOnce devices table image out
+    → OthersAreUp slots h out
     → slot < slots_of table → (is_down h slot ≡ true) ⊎ ¬ IsInFull devices table slot (image slot) → slot ≡ out
 lost_or_out devices table image h slots out slot same once up below (inr not_full) = is_out_slot devices table image out slot once below not_full
 lost_or_out devices table image h slots out slot same once up below (inl down) = elim (cases_eq slot out) [
@@ -102,7 +105,8 @@ two_of id devices old new two table is = subst (λ (t : Table). TwoAre devices t
   second_out = two.second_out;
 })
 
-once_by : (base : Table) (devices : ℕ) (image : Slots) (lost : Option cases.Lost) (X : List (List Bytes)) (holds : Holds base devices record { image = image; lost = lost } X) (out : ℕ)
+once_by : (base : Table) (devices : ℕ) (image : Slots) (lost : Option cases.Lost) (X : List (List Bytes))
+    (holds : Holds base devices record { image = image; lost = lost } X) (out : ℕ)
     → MayBeOut lost out → out < slots_of base → AtOnce devices holds.table image out
 once_by base devices image lost X holds out may below = record {
   without = (holds.weakened out None may (inl refl)).one_out;
@@ -110,7 +114,8 @@ once_by base devices image lost X holds out may below = record {
 }
 
 -- with one slot that may be out, both are that one
-not_two_at : (base : Table) (devices : ℕ) (image : Slots) (h : History) (lost : Option cases.Lost) (X : List (List Bytes)) (holds : Holds base devices record { image = image; lost = lost } X)
+not_two_at : (base : Table) (devices : ℕ) (image : Slots) (h : History) (lost : Option cases.Lost) (X : List (List Bytes))
+    (holds : Holds base devices record { image = image; lost = lost } X)
     (out : ℕ) → MayBeOut lost out → out < slots_of base → OthersAreUp (slots_of base) h out → TwoAre devices holds.table image h → ⊥
 not_two_at base devices image h lost X holds out may below up two =
     let once = once_by base devices image lost X holds out may below in
@@ -119,7 +124,8 @@ not_two_at base devices image h lost X holds out may below up two =
     ∙ sym (lost_or_out devices holds.table image h (slots_of base) out two.second same once up two.second_of_set two.second_out))
 
 -- with all devices up, at most one slot was not in full
-not_two_up : (base : Table) (devices : ℕ) (image : Slots) (h : History) (lost : Option cases.Lost) (X : List (List Bytes)) (holds : Holds base devices record { image = image; lost = lost } X)
+not_two_up : (base : Table) (devices : ℕ) (image : Slots) (h : History) (lost : Option cases.Lost) (X : List (List Bytes))
+    (holds : Holds base devices record { image = image; lost = lost } X)
     → ((other : ℕ) → other < slots_of base → is_down h other ≡ false) → TwoAre devices holds.table image h → ⊥
 not_two_up base devices image h lost X holds up two =
     two.apart (holds.whole.one_out two.first two.second two.first_of_set two.second_of_set
@@ -128,12 +134,14 @@ not_two_up base devices image h lost X holds up two =
     differ : true ≡ false → ⊥
     differ is = cc
 
-    not_full : (slot : ℕ) → slot < slots_of holds.table → (is_down h slot ≡ true) ⊎ ¬ IsInFull devices holds.table slot (image slot) → ¬ IsInFull devices holds.table slot (image slot)
+    not_full : (slot : ℕ) → slot < slots_of holds.table → (is_down h slot ≡ true) ⊎ ¬ IsInFull devices holds.table slot (image slot)
+        → ¬ IsInFull devices holds.table slot (image slot)
     not_full slot below (inl down) = absurd (differ (sym down ∙ up slot (subst (λ (n : ℕ). slot < n) (same_slots base holds.table holds.not_older) below)))
     not_full slot below (inr not) = not
 
 -- the table that was chosen then is that of the case
-then_table : (base : Table) (devices : ℕ) (image : Slots) (lost : Option cases.Lost) (X : List (List Bytes)) (holds : Holds base devices record { image = image; lost = lost } X)
+then_table : (base : Table) (devices : ℕ) (image : Slots) (lost : Option cases.Lost) (X : List (List Bytes))
+    (holds : Holds base devices record { image = image; lost = lost } X)
     (table : Table) → IsChosen base.id devices image table → table ≡ holds.table
 then_table base devices image lost X holds table chosen =
     chosen_is_one devices holds.table X image holds.whole table (subst (λ (i : List ℕ). IsChosen i devices image table) (sym holds.not_older.same_id) chosen)
@@ -142,7 +150,8 @@ then_table base devices image lost X holds table chosen =
 not_two_then : (base : Table) (devices : ℕ) (lost : Option cases.Lost) (X : List (List Bytes)) (old new : History) → HoldsThroughout base devices lost X old new
     → IsSingleFailure (slots_of base) lost new → IsTwoLostThen base.id devices old new → ⊥
 not_two_then base devices None X old new moments (after, inl (none, up)) two =
-    let holds = throughout_cut new moments two.t two.from None (readable (cut_at two.t new)) (inl (refl, λ other below. up_cut two.t new other (up other below))) (readable_left (cut_at two.t new)) in
+    let holds = throughout_cut new moments two.t two.from None (readable (cut_at two.t new))
+    (inl (refl, λ other below. up_cut two.t new other (up other below))) (readable_left (cut_at two.t new)) in
     not_two_up base devices (readable (cut_at two.t new)) new None X holds up
     (two_of base.id devices old new two holds.table (then_table base devices (readable (cut_at two.t new)) None X holds two.table two.chosen))
 not_two_then base devices None X old new moments (after, inr failure) two = by_then (is_down (cut_at two.t new) failure.slot) refl
@@ -173,7 +182,8 @@ not_two_then base devices (Some lost) X old new moments (after, (of_set, is, up)
     (two_of base.id devices old new two holds.table (then_table base devices (readable (cut_at two.t new)) (Some lost) X holds two.table two.chosen))
 
 -- there is a superblock that counts
-not_none : (base : Table) (devices : ℕ) (lost : Option cases.Lost) (X : List (List Bytes)) (h : History) → HoldsNow base devices lost X h → IsSingleFailure (slots_of base) lost h
+not_none : (base : Table) (devices : ℕ) (lost : Option cases.Lost) (X : List (List Bytes)) (h : History) → HoldsNow base devices lost X h
+    → IsSingleFailure (slots_of base) lost h
     → ((slot : ℕ) → HasNone base.id devices slot (readable h slot)) → ⊥
 not_none base devices lost X h now (after, is) none =
     let holds = now after (readable h) is (readable_left h) in
@@ -182,7 +192,8 @@ not_none base devices lost X h now (after, is) none =
     (subst (λ (i : List ℕ). Counts i devices chosen.slot (readable h chosen.slot) chosen.place chosen.best) holds.not_older.same_id chosen.counted)
 
 -- A run that begins safely: what assembling starts from, and what holds at each moment of it.
-pub may_start : (made : Table) (devices : ℕ) (maps : List VolumeMap) (world : World) (panel : Panel) → panel.devices ≡ devices → (safe : IsSafe made devices maps world)
+pub may_start : (made : Table) (devices : ℕ) (maps : List VolumeMap) (world : World) (panel : Panel) → panel.devices ≡ devices
+    → (safe : IsSafe made devices maps world)
     → MayAssemble safe.base world.fate.lost safe.stands.lists (begun_with panel world.image)
 may_start made devices maps world panel of_bank safe =
     let begun = a_run_begins safe.base devices world.image world.fate.lost safe.stands.lists safe.stands.holds in
@@ -204,12 +215,15 @@ pub assembling_stands : (made : Table) (devices : ℕ) (maps : List VolumeMap) (
 assembling_stands made devices maps world h safe moments =
     throughout_more (λ g now after image is may. record { lists = safe.stands.lists; holds = now after image is may; shown = safe.stands.shown }) h moments
 
-single_failure_by : (slots : ℕ) (base : Table) (lost : Option cases.Lost) (h : History) → slots ≡ slots_of base → IsSingleFailure slots lost h → IsSingleFailure (slots_of base) lost h
+single_failure_by : (slots : ℕ) (base : Table) (lost : Option cases.Lost) (h : History) → slots ≡ slots_of base → IsSingleFailure slots lost h
+    → IsSingleFailure (slots_of base) lost h
 single_failure_by slots base lost h same one = subst (λ (n : ℕ). IsSingleFailure n lost h) same one
 
-refused_for : (made : Table) (devices : ℕ) (maps : List VolumeMap) (world : World) (panel : Panel) (bank : recovery.BankView) (refusal : Refusal) (safe : IsSafe made devices maps world)
+refused_for : (made : Table) (devices : ℕ) (maps : List VolumeMap) (world : World) (panel : Panel) (bank : recovery.BankView) (refusal : Refusal)
+    (safe : IsSafe made devices maps world)
     → bank.panel.devices ≡ devices
-    → HoldsThroughout safe.base devices world.fate.lost safe.stands.lists (Began world.image) bank.history → IsSingleFailure (slots_of safe.base) world.fate.lost bank.history
+    → HoldsThroughout safe.base devices world.fate.lost safe.stands.lists (Began world.image) bank.history
+    → IsSingleFailure (slots_of safe.base) world.fate.lost bank.history
     → IsOfAssembly refusal → IsNoAssembly made.id (begun_with panel world.image) bank refusal
     → (refusal ≡ Worn) × IsNoAssembly made.id (begun_with panel world.image) bank Worn
 refused_for made devices maps world panel bank NoSet safe of_bank moments one of why =

@@ -1,5 +1,6 @@
 -- A create, by what its calls of the array do.
-use Rattle.std.proofs.Common.{◌≡◌, ◌⊎◌, inl, inr, ℕ, zero, suc, ◌+◌, ◌-◌, ◌<◌, ◌≤◌, List, [], ◌∷◌, slice_set, Option, Some, None, Ok, Err, OnOk, refl, sym, ◌∙◌, ap, subst, arith}
+use Rattle.std.proofs.Common.{◌≡◌, ◌⊎◌, inl, inr, ℕ, zero, suc, ◌+◌, ◌-◌, ◌<◌, ◌≤◌, List, [], ◌∷◌, slice_set, Option, Some, None, Ok, Err, OnOk, refl, sym, ◌∙◌}
+use Rattle.std.proofs.Common.{ap, subst, arith}
 use Rattle.std.specs.Prelude.{Contains}
 use Rattle.sector_model.specs.declared.refusal.Refusal.{Refusal}
 use Rattle.sector_model.specs.declared.refusal.Refusal.TheVariants.{BadName, BadSize, Exists, NoSpace, TooManyVolumes}
@@ -36,7 +37,8 @@ pub begins_with : (extents : ℕ) (table : VolumeTable) (V : List Block) (volume
 begins_with extents table V volumes by = subst (Spell V) by.by by.shows.spelled
 
 -- What `grow` did, with the store before and after it.
-pub record HasGrown (honest : Type 0) (old new : StoreView) (owners owners' : List (Option Owned)) (number first : ℕ) (entry : Record) (result : Answer) : Type 0 where
+pub record HasGrown (honest : Type 0) (old new : StoreView) (owners owners' : List (Option Owned)) (number first : ℕ) (entry : Record) (result : Answer) : Type
+    0 where
   pub kept : AreKept (extents_for_store old) old.keeps owners
   pub kept_then : AreKept (extents_for_store new) new.keeps owners'
   pub version : new.keeps.version ≡ old.keeps.version
@@ -53,41 +55,54 @@ pub record HasGrown (honest : Type 0) (old new : StoreView) (owners owners' : Li
 module _ (honest : Type 0) (old new : StoreView) (owners owners' : List (Option Owned)) (number first : ℕ) (entry : Record) (result : Answer)
     (grown : HasGrown honest old new owners owners' number first entry result) where
   pub growth : IsGrowth (extents_for_store old) old.keeps new.keeps number first entry
-  growth = is_growth (extents_for_store old) old.keeps new.keeps owners owners' number first (extents_for EXTENT_SECTORS entry.blocks - extents_for EXTENT_SECTORS first) entry grown.version
-      (omega (arith, table_all_records old.keeps.records old.keeps.extents old.keeps.is_table, grown.may.of_table, most_volumes_most old.keeps.version)) grown.kept
+  growth = is_growth (extents_for_store old) old.keeps new.keeps owners owners' number first
+      (extents_for EXTENT_SECTORS entry.blocks - extents_for EXTENT_SECTORS first) entry grown.version
+      (omega (arith, table_all_records old.keeps.records old.keeps.extents old.keeps.is_table, grown.may.of_table, most_volumes_most old.keeps.version))
+      grown.kept
       (subst (λ (geometry : Geometry). AreKept (extents_in geometry) new.keeps owners') grown.changes.goes_on.not_older.same_geometry grown.kept_then)
       grown.records grown.taken grown.may.from
 
 -- A command that is admitted and grows a volume, where the grown volume shows what the command changes.
-pub growing_applies : (honest : Type 0) (command : Command) (old new : StoreView) (owners owners' : List (Option Owned)) (number first : ℕ) (entry : Record) (result : Answer)
-    → HasGrown honest old new owners owners' number first entry result → HasBlocks command → IsOfItsKind command Done → ((volumes : VolumeMap) → Done ≡ answer command volumes.volumes) → entry.blocks ≤ MOST_BLOCKS
-    → ((sectors : List Block) (volumes : VolumeMap) → ShowsBy (extents_for_store old) old.keeps sectors volumes → None ≡ refusal_of (extents_for_store old) command volumes)
+pub growing_applies : (honest : Type 0) (command : Command) (old new : StoreView) (owners owners' : List (Option Owned)) (number first : ℕ) (entry : Record)
+    (result : Answer)
+    → HasGrown honest old new owners owners' number first entry result → HasBlocks command → IsOfItsKind command Done
+    → ((volumes : VolumeMap) → Done ≡ answer command volumes.volumes) → entry.blocks ≤ MOST_BLOCKS
+    → ((sectors : List Block) (volumes : VolumeMap) → ShowsBy (extents_for_store old) old.keeps sectors volumes
+    → None ≡ refusal_of (extents_for_store old) command volumes)
     → ((V W : List Block) (volumes : VolumeMap) → ShowsBy (extents_for_store old) old.keeps V volumes → IsGrown new.keeps number first entry.blocks V W
     → ShowsBy (extents_for_store old) new.keeps W (done command volumes))
     → Applies honest (OnVolumes command) old new (done_reply result)
 growing_applies honest command old new owners owners' number first entry result grown whole kind answers most admitted shows = by_result result grown
   where
-    on_the_way : (V W : List Block) (volumes : VolumeMap) → ShowsBy (extents_for_store old) old.keeps V volumes → MayGrow old.keeps new.keeps number first entry.blocks V W
+    on_the_way : (V W : List Block) (volumes : VolumeMap) → ShowsBy (extents_for_store old) old.keeps V volumes
+        → MayGrow old.keeps new.keeps number first entry.blocks V W
         → Shows (extents_for_store old) W volumes ⊎ Shows (extents_for_store old) W (done command volumes)
     on_the_way V W volumes by may = elim (may (begins_with (extents_for_store old) old.keeps V volumes by)) [
-      | inl partly ↦ inl (shown_on_the_way (extents_for_store old) old.keeps new.keeps number first entry.blocks entry V W volumes (growth honest old new owners owners' number first entry result grown) by partly)
+      | inl partly ↦ inl (shown_on_the_way (extents_for_store old) old.keeps new.keeps number first entry.blocks entry V W volumes
+          (growth honest old new owners owners' number first entry result grown) by partly)
       | inr is ↦ inr (shows V W volumes by is).shows
     ]
 
-    by_result : (result : Answer) → HasGrown honest old new owners owners' number first entry result → Applies honest (OnVolumes command) old new (done_reply result)
+    by_result : (result : Answer) → HasGrown honest old new owners owners' number first entry result
+        → Applies honest (OnVolumes command) old new (done_reply result)
     by_result (Ok unit) is =
         done_with_volumes honest command (entry.blocks - first + 1) (MayGrow old.keeps new.keeps number first entry.blocks)
-        (Grows old.keeps new.keeps number first entry.blocks) old new Done whole (omega (arith, most)) is.going (is.goes refl) is.true_to is.changes kind admitted
+        (Grows old.keeps new.keeps number first entry.blocks) old new Done whole (omega (arith, most)) is.going (is.goes refl) is.true_to is.changes kind
+        admitted
         (λ fair lost V volumes rests by. answers volumes) on_the_way
         (λ V W volumes by leaves. shows V W volumes by (leaves (begins_with (extents_for_store old) old.keeps V volumes by)))
     by_result (Err refusal) is =
         ended_with_volumes honest command (entry.blocks - first + 1) (MayGrow old.keeps new.keeps number first entry.blocks)
-        (Grows old.keeps new.keeps number first entry.blocks) old new refusal whole (omega (arith, most)) is.going (is.ends refusal refl) is.true_to is.changes admitted on_the_way
+        (Grows old.keeps new.keeps number first entry.blocks) old new refusal whole (omega (arith, most)) is.going (is.ends refusal refl) is.true_to is.changes
+        admitted on_the_way
 
 -- A create that is admitted.
-pub create_applies : (honest : Type 0) (name : List ℕ) (count : ℕ) (old new : StoreView) (owners owners' : List (Option Owned)) (number first : ℕ) (entry : Record) (result : Answer)
-    → HasGrown honest old new owners owners' number first entry result → record_of old.keeps.records number ≡ None → entry.name.bytes.items ≡ name → entry.blocks ≡ count → entry.blocks ≤ MOST_BLOCKS
-    → ((sectors : List Block) (volumes : VolumeMap) → ShowsBy (extents_for_store old) old.keeps sectors volumes → None ≡ refusal_of (extents_for_store old) (Create name count) volumes)
+pub create_applies : (honest : Type 0) (name : List ℕ) (count : ℕ) (old new : StoreView) (owners owners' : List (Option Owned)) (number first : ℕ)
+    (entry : Record) (result : Answer)
+    → HasGrown honest old new owners owners' number first entry result → record_of old.keeps.records number ≡ None → entry.name.bytes.items ≡ name
+    → entry.blocks ≡ count → entry.blocks ≤ MOST_BLOCKS
+    → ((sectors : List Block) (volumes : VolumeMap) → ShowsBy (extents_for_store old) old.keeps sectors volumes
+    → None ≡ refusal_of (extents_for_store old) (Create name count) volumes)
     → CreatesVolume honest name count old new result
 create_applies honest name count old new owners owners' number first entry result grown unused named same_count most admitted =
     growing_applies honest (Create name count) old new owners owners' number first entry result grown tt refl (λ volumes. refl) most admitted shows
@@ -100,7 +115,8 @@ create_applies honest name count old new owners owners' number first entry resul
     shows V W volumes by is =
         subst (λ (n : ℕ). ShowsBy (extents_for_store old) new.keeps W (done (Create name n) volumes)) same_count
         (created_is_shown (extents_for_store old) old.keeps new.keeps name number entry V W volumes
-        (subst (λ (n : ℕ). IsGrowth (extents_for_store old) old.keeps new.keeps number n entry) none_first (growth honest old new owners owners' number first entry result grown)) unused named by
+        (subst (λ (n : ℕ). IsGrowth (extents_for_store old) old.keeps new.keeps number n entry) none_first
+        (growth honest old new owners owners' number first entry result grown)) unused named by
         (subst (λ (n : ℕ). None ≡ refusal_of (extents_for_store old) (Create name n) volumes) (sym same_count) (admitted V volumes by))
         (subst (λ (n : ℕ). IsGrown new.keeps number n entry.blocks V W) none_first is))
 
@@ -115,13 +131,17 @@ not_ended refusal (suc (suc (suc (suc (suc k)))), below, is) ends = absurd (omeg
 
 pub create_is_refused : (honest : Type 0) (name : List ℕ) (count : ℕ) (store : StoreView) (refusal : Refusal) → store.ended ≡ None
     → Contains (BadName ∷ BadSize ∷ Exists ∷ TooManyVolumes ∷ NoSpace ∷ []) refusal
-    → ((sectors : List Block) (volumes : VolumeMap) → ShowsBy (extents_for_store store) store.keeps sectors volumes → Some refusal ≡ refusal_of (extents_for_store store) (Create name count) volumes)
+    → ((sectors : List Block) (volumes : VolumeMap) → ShowsBy (extents_for_store store) store.keeps sectors volumes
+    → Some refusal ≡ refusal_of (extents_for_store store) (Create name count) volumes)
     → CreatesVolume honest name count store store (Err refusal)
-create_is_refused honest name count store refusal going among refuses = refused_at_once honest (Create name count) store refusal going among (not_ended refusal among) refuses
+create_is_refused honest name count store refusal going among refuses =
+    refused_at_once honest (Create name count) store refusal going among (not_ended refusal among) refuses
 
 -- the new volume's record is the lowest one that was not used
-pub takes_lowest : (before : VolumeTable) (after : List (Option Record)) (name : List ℕ) (number : ℕ) (entry : Record) (result : Answer) → IsFirstUnused before.version before.records number
-    → entry.name.bytes.items ≡ name → after ≡ slice_set before.records number (Some entry) → OnOk result ∥ TakesLowest before.version before.records after name ∥₁
+pub takes_lowest : (before : VolumeTable) (after : List (Option Record)) (name : List ℕ) (number : ℕ) (entry : Record) (result : Answer)
+    → IsFirstUnused before.version before.records number
+    → entry.name.bytes.items ≡ name → after ≡ slice_set before.records number (Some entry)
+    → OnOk result ∥ TakesLowest before.version before.records after name ∥₁
 takes_lowest before after name number entry (Err refusal) lowest named is = tt
 takes_lowest before after name number entry (Ok unit) lowest named is =
     let long = table_all_records before.records before.extents before.is_table in

@@ -11,7 +11,8 @@ use Rattle.volume_table.specs.StoreCalls.{Applies, EndsStore}
 use Rattle.volume_table.specs.StoreFunctions.{Answer, RunsEvents, TellsStatus}
 
 -- it answers that refusal, and nothing is changed
-pub stays_ended : (honest : Type 0) (event : Event) (store : StoreView) (refusal : Refusal) → store.ended ≡ Some refusal → Applies honest event store store (Refused refusal)
+pub stays_ended : (honest : Type 0) (event : Event) (store : StoreView) (refusal : Refusal) → store.ended ≡ Some refusal
+    → Applies honest event store store (Refused refusal)
 stays_ended honest event store refusal is = record {
   ended = λ other said. record { same = refl; refused = λ third that. ap Refused (same_Some refusal third (sym is ∙ that)) };
   going = λ goes. absurd (none-some refusal (sym goes ∙ is));
@@ -21,7 +22,11 @@ stays_ended honest event store refusal is = record {
 pub run_stays_ended : (honest : Type 0) (events : List Event) (store : StoreView) (acks : List ℕ) (refusal : Refusal) → store.ended ≡ Some refusal
     → RunsEvents honest events store store acks acks (Err refusal)
 run_stays_ended honest events store acks refusal is = record {
-  ended = λ other said. record { refused = ap (λ (r : Refusal). Err r) (same_Some refusal other (sym is ∙ said)); nothing = record { same = refl; none_acknowledged = refl } };
+  ended = λ other said. record {
+    refused = ap (λ (r : Refusal). Err r) (same_Some refusal other (sym is ∙ said));
+    nothing =
+        record { same = refl; none_acknowledged = refl };
+  };
   going = λ goes. absurd (none-some refusal (sym goes ∙ is));
 }
 
@@ -50,12 +55,14 @@ ends_by_these Worn ends = inr refl
 ends_by_these refusal ends = absurd ends
 
 -- a store that is open after an event was not ended by it
-pub not_ended : (honest : Type 0) (event : Event) (old new : StoreView) (reply : Reply) → Applies honest event old new reply → old.ended ≡ None → new.ended ≡ None → ¬ EndsStore reply
+pub not_ended : (honest : Type 0) (event : Event) (old new : StoreView) (reply : Reply) → Applies honest event old new reply → old.ended ≡ None
+    → new.ended ≡ None → ¬ EndsStore reply
 not_ended honest event old new (Refused refusal) applies goes on = λ ends. none-some refusal (sym on ∙ ((applies.going goes).ends refusal refl ends).0)
 not_ended honest event old new reply applies goes on = λ no. no
 
 -- one that is not was ended by what the event answered
-pub was_ended : (honest : Type 0) (event : Event) (old new : StoreView) (acks : List ℕ) (refusal : Refusal) (reply : Reply) → Applies honest event old new reply → old.ended ≡ None
+pub was_ended : (honest : Type 0) (event : Event) (old new : StoreView) (acks : List ℕ) (refusal : Refusal) (reply : Reply) → Applies honest event old new reply
+    → old.ended ≡ None
     → new.ended ≡ Some refusal → EndsWithoutAck honest event old new acks acks refusal
 was_ended honest event old new acks refusal (Refused said) applies goes ended = elim (ends_or_not said) [
   | inl ends ↦

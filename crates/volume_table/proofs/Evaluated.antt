@@ -1,5 +1,6 @@
 -- What the evaluation of a logical list finds is what the list shows.
-use Rattle.std.proofs.Common.{◌≡◌, ⊎_elim, ℕ, ◌/◌, ◌<◌, ◌≤◌, min, List, [], ◌++◌, length, take, drop, get_or, All, Option, Some, None, refl, sym, ap, subst, ◌∙◌, arith, Bor}
+use Rattle.std.proofs.Common.{◌≡◌, ⊎_elim, ℕ, ◌/◌, ◌<◌, ◌≤◌, min, List, [], ◌++◌, length, take, drop, get_or, All, Option, Some, None, refl, sym, ap, subst}
+use Rattle.std.proofs.Common.{◌∙◌, arith, Bor}
 use Rattle.std.specs.List.{slice_get}
 use Rattle.std.specs.Option.{option_map, option_and_then, option_copied}
 use Rattle.std.specs.Slice.{IsItemAt}
@@ -29,7 +30,8 @@ spelled_long sectors table spelled =
     omega (arith, ap length spelled, (fills table).0, length-take (table_length table.version) sectors)
 
 -- where other sectors begin with the same ones, they begin with the spelling too
-pub spelled_there : (n : ℕ) (sectors first : List Block) (table : VolumeTable) → take n first ≡ take n sectors → table_length table.version ≤ n → Spell sectors table → Spell first table
+pub spelled_there : (n : ℕ) (sectors first : List Block) (table : VolumeTable) → take n first ≡ take n sectors → table_length table.version ≤ n
+    → Spell sectors table → Spell first table
 spelled_there n sectors first table same within spelled =
     sym (shorter first) ∙ ap (take (table_length table.version)) same ∙ shorter sectors ∙ spelled
   where
@@ -37,38 +39,45 @@ spelled_there n sectors first table same within spelled =
     shorter list = take-take (table_length table.version) n list within
 
 -- a list that shows volumes has the sectors of their table
-pub has_table_there : (extents there : ℕ) (sectors : List Block) (volumes : VolumeMap) (shows : Shows extents sectors volumes) → there ≡ min (length sectors) TABLE_SECTORS
+pub has_table_there : (extents there : ℕ) (sectors : List Block) (volumes : VolumeMap) (shows : Shows extents sectors volumes)
+    → there ≡ min (length sectors) TABLE_SECTORS
     → table_length shows.table.version ≤ there
 has_table_there extents there sectors volumes shows is =
     omega (arith, is, spelled_long sectors shows.table shows.spelled, table_short shows.table.version)
 
 -- so they are spelled in a copy of the first of its sectors
-pub shown_in_copy : (extents there : ℕ) (sectors first : List Block) (volumes : VolumeMap) (shows : Shows extents sectors volumes) → there ≡ min (length sectors) TABLE_SECTORS
+pub shown_in_copy : (extents there : ℕ) (sectors first : List Block) (volumes : VolumeMap) (shows : Shows extents sectors volumes)
+    → there ≡ min (length sectors) TABLE_SECTORS
     → take there first ≡ take there sectors → Spell first shows.table
 shown_in_copy extents there sectors first volumes shows is same =
     spelled_there there sectors first shows.table same (has_table_there extents there sectors volumes shows is) shows.spelled
 
 -- the copy begins with them
-pub copied_first : (there : ℕ) (sectors copied zeros : List Block) → there ≡ min (length sectors) TABLE_SECTORS → copied ≡ take there sectors → take there (copied ++ drop there zeros) ≡ take there sectors
+pub copied_first : (there : ℕ) (sectors copied zeros : List Block) → there ≡ min (length sectors) TABLE_SECTORS → copied ≡ take there sectors
+    → take there (copied ++ drop there zeros) ≡ take there sectors
 copied_first there sectors copied zeros is same =
     take_at copied (drop there zeros) there (ap length same ∙ length-take-le there sectors (omega (arith, is))) ∙ same
 
 -- where the table that is shown has no record of the name, no volume has it
-no_record : (extents : ℕ) (sectors : List Block) (volumes : VolumeMap) (name : List ℕ) (table : VolumeTable) (shows : Shows extents sectors volumes) → table ≡ shows.table
+no_record : (extents : ℕ) (sectors : List Block) (volumes : VolumeMap) (name : List ℕ) (table : VolumeTable) (shows : Shows extents sectors volumes)
+    → table ≡ shows.table
     → (HasRecord table.records name → ⊥) → blocks_of name volumes.volumes ≡ None
 no_record extents sectors volumes name table shows same none =
     absent_is_shown extents sectors volumes name shows (λ number entry used named.
     none (record { number = number; entry = entry; used = ap (λ (t : VolumeTable). record_of t.records number) same ∙ used; named = named }))
 
 -- so it has no number of blocks
-pub no_count : (extents : ℕ) (sectors : List Block) (volumes : VolumeMap) (name : List ℕ) (table : VolumeTable) (shows : Shows extents sectors volumes) → table ≡ shows.table
+pub no_count : (extents : ℕ) (sectors : List Block) (volumes : VolumeMap) (name : List ℕ) (table : VolumeTable) (shows : Shows extents sectors volumes)
+    → table ≡ shows.table
     → (HasRecord table.records name → ⊥) → block_count name volumes ≡ None
 no_count extents sectors volumes name table shows same none = ap (option_map length) (no_record extents sectors volumes name table shows same none)
 
 -- and no block
-pub no_volume : (extents : ℕ) (sectors : List Block) (volumes : VolumeMap) (name : List ℕ) (at : ℕ) (table : VolumeTable) (shows : Shows extents sectors volumes) → table ≡ shows.table
+pub no_volume : (extents : ℕ) (sectors : List Block) (volumes : VolumeMap) (name : List ℕ) (at : ℕ) (table : VolumeTable)
+    (shows : Shows extents sectors volumes) → table ≡ shows.table
     → (HasRecord table.records name → ⊥) → block_at name at volumes ≡ None
-no_volume extents sectors volumes name at table shows same none = ap (option_and_then (λ blocks. slice_get blocks at)) (no_record extents sectors volumes name table shows same none)
+no_volume extents sectors volumes name at table shows same none =
+    ap (option_and_then (λ blocks. slice_get blocks at)) (no_record extents sectors volumes name table shows same none)
 
 -- the volume of a record that was found
 record IsFound (table : VolumeTable) (sectors : List Block) (volumes : VolumeMap) (name : List ℕ) (number count : ℕ) : Type 0 where
@@ -76,33 +85,39 @@ record IsFound (table : VolumeTable) (sectors : List Block) (volumes : VolumeMap
   is : blocks_of name volumes.volumes ≡ Some blocks
   as_long : length blocks ≡ count
   whole : All IsBlock blocks
-  stand : (at extent : ℕ) → at < count → IsAt table.extents extent number (at / EXTENT_SECTORS) → get_or sectors (sector_of_block EXTENT_SECTORS extent at) [] ≡ get_or blocks at []
+  stand : (at extent : ℕ) → at < count → IsAt table.extents extent number (at / EXTENT_SECTORS)
+      → get_or sectors (sector_of_block EXTENT_SECTORS extent at) [] ≡ get_or blocks at []
 
-is_found : (extents : ℕ) (sectors : List Block) (volumes : VolumeMap) (name : List ℕ) (number count : ℕ) (table : VolumeTable) (shows : Shows extents sectors volumes) → table ≡ shows.table
+is_found : (extents : ℕ) (sectors : List Block) (volumes : VolumeMap) (name : List ℕ) (number count : ℕ) (table : VolumeTable)
+    (shows : Shows extents sectors volumes) → table ≡ shows.table
     → IsRecordFor table.records name number count → IsFound table sectors volumes name number count
 is_found extents sectors volumes name number count table shows same found =
     let used : record_of shows.table.records number ≡ Some found.entry = ap (λ (t : VolumeTable). record_of t.records number) (sym same) ∙ found.used in
     let was : IsOfVolume EXTENT_SECTORS shows.table.extents sectors volumes.volumes number found.entry = shows.shown.used number found.entry used in
     let is : blocks_of name volumes.volumes ≡ Some was.blocks = ap (λ n. blocks_of n volumes.volumes) (sym found.named) ∙ was.named in
-    let volume : IsVolume volumes.version (record { name = name; blocks = was.blocks }) = found_has (IsVolume volumes.version) name volumes.volumes was.blocks shows.limits.each is in
+    let volume : IsVolume volumes.version (record { name = name; blocks = was.blocks }) =
+    found_has (IsVolume volumes.version) name volumes.volumes was.blocks shows.limits.each is in
     record {
       blocks = was.blocks;
       is = is;
       as_long = was.as_long ∙ found.as_long;
       whole = volume.whole;
       stand = λ at extent within at_extent.
-          was.stand at extent (omega (arith, within, was.as_long, found.as_long)) (subst (λ (t : VolumeTable). IsAt t.extents extent number (at / EXTENT_SECTORS)) same at_extent);
+          was.stand at extent (omega (arith, within, was.as_long, found.as_long))
+          (subst (λ (t : VolumeTable). IsAt t.extents extent number (at / EXTENT_SECTORS)) same at_extent);
     }
 
 -- it has as many blocks as its record says
-pub found_count : (extents : ℕ) (sectors : List Block) (volumes : VolumeMap) (name : List ℕ) (number count : ℕ) (table : VolumeTable) (shows : Shows extents sectors volumes) → table ≡ shows.table
+pub found_count : (extents : ℕ) (sectors : List Block) (volumes : VolumeMap) (name : List ℕ) (number count : ℕ) (table : VolumeTable)
+    (shows : Shows extents sectors volumes) → table ≡ shows.table
     → IsRecordFor table.records name number count → Some count ≡ block_count name volumes
 found_count extents sectors volumes name number count table shows same found =
     let volume = is_found extents sectors volumes name number count table shows same found in
     rw volume.is (ap Some (sym volume.as_long))
 
 -- no block after them
-pub no_block : (extents : ℕ) (sectors : List Block) (volumes : VolumeMap) (name : List ℕ) (number count at : ℕ) (table : VolumeTable) (shows : Shows extents sectors volumes) → table ≡ shows.table
+pub no_block : (extents : ℕ) (sectors : List Block) (volumes : VolumeMap) (name : List ℕ) (number count at : ℕ) (table : VolumeTable)
+    (shows : Shows extents sectors volumes) → table ≡ shows.table
     → IsRecordFor table.records name number count → count ≤ at → block_at name at volumes ≡ None
 no_block extents sectors volumes name number count at table shows same found beyond =
     let volume = is_found extents sectors volumes name number count table shows same found in
@@ -113,15 +128,19 @@ pub has_extent : (name : List ℕ) (number count at : ℕ) (table : VolumeTable)
     → ((extent : ℕ) → IsAt table.extents extent number (at / EXTENT_SECTORS) → ⊥) → ⊥
 has_extent name number count at table found within none = ∥∥₁_elim table.is_table (hlevel props) (λ is_table.
     let has : HasPlaces table.extents number (extents_of EXTENT_SECTORS (record_of table.records number)) = is_table.places number in
-    let takes : extents_of EXTENT_SECTORS (record_of table.records number) ≡ extents_for EXTENT_SECTORS found.entry.blocks = ap (extents_of EXTENT_SECTORS) found.used in
+    let takes : extents_of EXTENT_SECTORS (record_of table.records number) ≡ extents_for EXTENT_SECTORS found.entry.blocks =
+    ap (extents_of EXTENT_SECTORS) found.used in
     let here = has.extent_at (at / EXTENT_SECTORS) (omega (arith, takes, found.as_long, within)) in
     none here.0 here.1)
 
 -- what stands in a sector that is not empty
-found_there : (sectors blocks : List Block) (sector at : ℕ) → All IsBlock blocks → at < length blocks → get_or sectors sector [] ≡ get_or blocks at [] → slice_get sectors sector ≡ slice_get blocks at
+found_there : (sectors blocks : List Block) (sector at : ℕ) → All IsBlock blocks → at < length blocks → get_or sectors sector [] ≡ get_or blocks at []
+    → slice_get sectors sector ≡ slice_get blocks at
 found_there sectors blocks sector at whole within same =
     let long : length (get_or blocks at []) ≡ 512 = whole at [] within in
-    let there : sector < length sectors = ⊎_elim (λ below. below) (λ beyond. absurd (let none : get_or sectors sector [] ≡ [] = get_or_past sectors sector [] beyond in omega (arith, long, ap length (sym same ∙ none)))) (cases_lt sector (length sectors)) in
+    let there : sector < length sectors = ⊎_elim (λ below. below)
+    (λ beyond. absurd (let none : get_or sectors sector [] ≡ [] = get_or_past sectors sector [] beyond in omega (arith, long, ap length (sym same ∙ none))))
+    (cases_lt sector (length sectors)) in
     slice_get-get_or sectors sector [] there ∙ ap Some same ∙ sym (slice_get-get_or blocks at [] within)
 
 -- what is read of a list by its place
@@ -130,8 +149,11 @@ read_item xs i None gets = sym (slice_get_past xs i gets.3)
 read_item xs i (Some x) gets = sym (slice_get_read xs (length xs) i x.now refl gets.3.0 gets.1)
 
 -- a block stands in its extent
-pub block_stands : (extents : ℕ) (sectors : List Block) (volumes : VolumeMap) (name : List ℕ) (number count at extent : ℕ) (table : VolumeTable) (shows : Shows extents sectors volumes) → table ≡ shows.table
-    → IsRecordFor table.records name number count → at < count → IsAt table.extents extent number (at / EXTENT_SECTORS) → slice_get sectors (sector_of_block EXTENT_SECTORS extent at) ≡ block_at name at volumes
+pub block_stands : (extents : ℕ) (sectors : List Block) (volumes : VolumeMap) (name : List ℕ) (number count at extent : ℕ) (table : VolumeTable)
+    (shows : Shows extents sectors volumes) → table ≡ shows.table
+    → IsRecordFor table.records name number count → at < count → IsAt table.extents extent number (at / EXTENT_SECTORS)
+    → slice_get sectors (sector_of_block EXTENT_SECTORS extent at) ≡ block_at name at volumes
 block_stands extents sectors volumes name number count at extent table shows same found within at_extent =
     let volume = is_found extents sectors volumes name number count table shows same found in
-    rw volume.is (found_there sectors volume.blocks (sector_of_block EXTENT_SECTORS extent at) at volume.whole (omega (arith, within, volume.as_long)) (volume.stand at extent within at_extent))
+    rw volume.is (found_there sectors volume.blocks (sector_of_block EXTENT_SECTORS extent at) at volume.whole (omega (arith, within, volume.as_long))
+    (volume.stand at extent within at_extent))

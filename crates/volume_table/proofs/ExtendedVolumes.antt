@@ -1,5 +1,6 @@
 -- An extend, by what its calls of the array do.
-use Rattle.std.proofs.Common.{◌≡◌, inl, inr, ℕ, zero, suc, ◌+◌, ◌-◌, ◌/◌, ◌<◌, ◌≤◌, List, [], ◌∷◌, ◌++◌, length, get_or, Option, Some, None, Err, refl, sym, ◌∙◌, ap, subst, arith}
+use Rattle.std.proofs.Common.{◌≡◌, inl, inr, ℕ, zero, suc, ◌+◌, ◌-◌, ◌/◌, ◌<◌, ◌≤◌, List, [], ◌∷◌, ◌++◌, length, get_or, Option, Some, None, Err, refl, sym}
+use Rattle.std.proofs.Common.{◌∙◌, ap, subst, arith}
 use Rattle.std.proofs.Props.{props}
 use Rattle.std.proofs.Math.Logic.{∥∥₁_elim}
 use Rattle.std.specs.Prelude.{Contains, unwrap_or}
@@ -32,16 +33,21 @@ use Rattle.extents.specs.declared.record.TheConstants.{MOST_BLOCKS}
 use Rattle.layout_map.specs.declared.sizes.TheConstants.{EXTENT_SECTORS}
 
 -- an extent that the volume had at a place is the one that it has there in the new table
-old_extent : (extents : ℕ) (old new : VolumeTable) (number first : ℕ) (entry one : Record) (j extent : ℕ) → IsGrowth extents old new number first entry → record_of old.records number ≡ Some one
+old_extent : (extents : ℕ) (old new : VolumeTable) (number first : ℕ) (entry one : Record) (j extent : ℕ) → IsGrowth extents old new number first entry
+    → record_of old.records number ≡ Some one
     → j < one.blocks → IsAt new.extents extent number (j / EXTENT_SECTORS) → IsAt old.extents extent number (j / EXTENT_SECTORS)
 old_extent extents old new number first entry one j extent growth used below at =
     ∥∥₁_elim old.is_table (hlevel props) (λ was. ∥∥₁_elim new.is_table (hlevel props) (λ is.
-    let there = (was.places number).extent_at (j / EXTENT_SECTORS) (subst (λ (r : Option Record). j / EXTENT_SECTORS < extents_of EXTENT_SECTORS r) (sym used) (omega (arith, below))) in
-    subst (λ (e : ℕ). IsAt old.extents e number (j / EXTENT_SECTORS)) ((is.places number).once there.0 extent (j / EXTENT_SECTORS) (growth.stays there.0 number (j / EXTENT_SECTORS) there.1) at) there.1))
+    let there = (was.places number).extent_at (j / EXTENT_SECTORS)
+    (subst (λ (r : Option Record). j / EXTENT_SECTORS < extents_of EXTENT_SECTORS r) (sym used) (omega (arith, below))) in
+    subst (λ (e : ℕ). IsAt old.extents e number (j / EXTENT_SECTORS))
+    ((is.places number).once there.0 extent (j / EXTENT_SECTORS) (growth.stays there.0 number (j / EXTENT_SECTORS) there.1) at) there.1))
 
 -- A volume is extended.
-extended_is_shown : (extents : ℕ) (old new : VolumeTable) (number : ℕ) (entry one : Record) (growth_by : ℕ) (V W : List Block) (volumes : VolumeMap) → IsGrowth extents old new number one.blocks entry
-    → record_of old.records number ≡ Some one → entry.name.bytes.items ≡ one.name.bytes.items → entry.blocks ≡ one.blocks + growth_by → (by : ShowsBy extents old V volumes)
+extended_is_shown : (extents : ℕ) (old new : VolumeTable) (number : ℕ) (entry one : Record) (growth_by : ℕ) (V W : List Block) (volumes : VolumeMap)
+    → IsGrowth extents old new number one.blocks entry
+    → record_of old.records number ≡ Some one → entry.name.bytes.items ≡ one.name.bytes.items → entry.blocks ≡ one.blocks + growth_by
+    → (by : ShowsBy extents old V volumes)
     → None ≡ refusal_of extents (Extend one.name.bytes.items growth_by) volumes
     → IsGrown new number one.blocks entry.blocks V W → ShowsBy extents new W (done (Extend one.name.bytes.items growth_by) volumes)
 extended_is_shown extents old new number entry one growth_by V W volumes growth used named blocks by admitted grown =
@@ -49,13 +55,20 @@ extended_is_shown extents old new number entry one growth_by V W volumes growth 
     let t : VolumeTable = by.shows.table in
     shows_by extents new W (done (Extend name growth_by) volumes)
     (subst (Shows extents W) (changed_if_done extents (Extend name growth_by) volumes (sym admitted))
-    (extend_is_shown extents V W volumes growth_by new number one by.shows used' (done_reply extents (Extend name growth_by) volumes admitted) grown.put.spelled (growth'.version ∙ by.shows.of_version) growth.free_beyond
+    (extend_is_shown extents V W volumes growth_by new number one by.shows used' (done_reply extents (Extend name growth_by) volumes admitted) grown.put.spelled
+    (growth'.version ∙ by.shows.of_version) growth.free_beyond
     (changes_one extents t new number one.blocks entry growth' entry.blocks V W grown)
     record {
       entry = entry;
       used = entry_used extents t new number one.blocks entry growth' entry.blocks V W grown;
       named = named;
-      as_long = omega (arith, length-append (blocks_in name volumes.volumes) (zero_blocks growth_by), length-replicate {A = Block} growth_by zero_block, long, blocks);
+      as_long = omega (
+        arith,
+        length-append (blocks_in name volumes.volumes) (zero_blocks growth_by),
+        length-replicate {A = Block} growth_by zero_block,
+        long,
+        blocks,
+      );
       stand = stands;
     }))
     grown.put.spelled
@@ -72,11 +85,13 @@ extended_is_shown extents old new number entry one growth_by V W volumes growth 
     long : length (blocks_in one.name.bytes.items volumes.volumes) ≡ one.blocks
     long = ap length in_map ∙ (by.shows.shown.used number one used').as_long
 
-    stands : (j extent : ℕ) → j < length (blocks_in one.name.bytes.items volumes.volumes ++ zero_blocks growth_by) → IsAt new.extents extent number (j / EXTENT_SECTORS)
+    stands : (j extent : ℕ) → j < length (blocks_in one.name.bytes.items volumes.volumes ++ zero_blocks growth_by)
+        → IsAt new.extents extent number (j / EXTENT_SECTORS)
         → get_or W (sector_of_block EXTENT_SECTORS extent j) [] ≡ get_or (blocks_in one.name.bytes.items volumes.volumes ++ zero_blocks growth_by) j []
     stands j extent within at = elim (cases_lt j one.blocks) [
       | inl below ↦
-          let was : IsAt by.shows.table.extents extent number (j / EXTENT_SECTORS) = old_extent extents by.shows.table new number one.blocks entry one j extent growth' used' below at in
+          let was : IsAt by.shows.table.extents extent number (j / EXTENT_SECTORS) =
+          old_extent extents by.shows.table new number one.blocks entry one j extent growth' used' below at in
           old_block extents by.shows.table new number one.blocks entry growth' entry.blocks V W grown one j extent used' below was
           ∙ (by.shows.shown.used number one used').stand j extent (omega (arith, below, (by.shows.shown.used number one used').as_long)) was
           ∙ ap (λ (bs : List Block). get_or bs j []) (sym in_map)
@@ -84,17 +99,26 @@ extended_is_shown extents old new number entry one growth_by V W volumes growth 
       | inr past ↦
           let k : ℕ = j - one.blocks in
           let its_long : length (blocks_in one.name.bytes.items volumes.volumes ++ zero_blocks growth_by) ≡ one.blocks + growth_by =
-          omega (arith, length-append (blocks_in one.name.bytes.items volumes.volumes) (zero_blocks growth_by), length-replicate {A = Block} growth_by zero_block, long) in
+          omega (
+            arith,
+            length-append (blocks_in one.name.bytes.items volumes.volumes) (zero_blocks growth_by),
+            length-replicate {A = Block} growth_by zero_block,
+            long,
+          ) in
           let below : k < growth_by = omega (arith, past, within, its_long) in
           new_block extents by.shows.table new number one.blocks entry growth' entry.blocks V W grown j extent past (omega (arith, within, its_long, blocks)) at
           ∙ sym (ap (λ (n : ℕ). get_or (blocks_in one.name.bytes.items volumes.volumes ++ zero_blocks growth_by) n []) (omega (arith, past, long) ∙ refl)
-          ∙ get_or-append-add (blocks_in one.name.bytes.items volumes.volumes) (zero_blocks growth_by) k [] ∙ get_or-replicate {A = Block} growth_by k zero_block [] below)
+          ∙ get_or-append-add (blocks_in one.name.bytes.items volumes.volumes) (zero_blocks growth_by) k []
+          ∙ get_or-replicate {A = Block} growth_by k zero_block [] below)
     ]
 
 -- An extend that is admitted, of a record that is used.
-applies_to : (honest : Type 0) (name : List ℕ) (growth_by : ℕ) (old new : StoreView) (owners owners' : List (Option Owned)) (number first : ℕ) (entry : Record) (result : Answer)
-    → HasGrown honest old new owners owners' number first entry result → IsRecordFor old.keeps.records name number first → entry.name.bytes.items ≡ name → entry.blocks ≡ first + growth_by → entry.blocks ≤ MOST_BLOCKS
-    → ((sectors : List Block) (volumes : VolumeMap) → ShowsBy (extents_for_store old) old.keeps sectors volumes → None ≡ refusal_of (extents_for_store old) (Extend name growth_by) volumes)
+applies_to : (honest : Type 0) (name : List ℕ) (growth_by : ℕ) (old new : StoreView) (owners owners' : List (Option Owned)) (number first : ℕ) (entry : Record)
+    (result : Answer)
+    → HasGrown honest old new owners owners' number first entry result → IsRecordFor old.keeps.records name number first → entry.name.bytes.items ≡ name
+    → entry.blocks ≡ first + growth_by → entry.blocks ≤ MOST_BLOCKS
+    → ((sectors : List Block) (volumes : VolumeMap) → ShowsBy (extents_for_store old) old.keeps sectors volumes
+    → None ≡ refusal_of (extents_for_store old) (Extend name growth_by) volumes)
     → ((V W : List Block) (volumes : VolumeMap) → ShowsBy (extents_for_store old) old.keeps V volumes → IsGrown new.keeps number first entry.blocks V W
     → ShowsBy (extents_for_store old) new.keeps W (done (Extend name growth_by) volumes))
 applies_to honest name growth_by old new owners owners' number first entry result grown found named blocks most admitted V W volumes by is =
@@ -102,13 +126,15 @@ applies_to honest name growth_by old new owners owners' number first entry resul
     let first_is : first ≡ one.blocks = sym found.as_long in
     subst (λ (n : List ℕ). ShowsBy (extents_for_store old) new.keeps W (done (Extend n growth_by) volumes)) found.named
     (extended_is_shown (extents_for_store old) old.keeps new.keeps number entry one growth_by V W volumes
-    (subst (λ (n : ℕ). IsGrowth (extents_for_store old) old.keeps new.keeps number n entry) first_is (growth honest old new owners owners' number first entry result grown)) found.used
+    (subst (λ (n : ℕ). IsGrowth (extents_for_store old) old.keeps new.keeps number n entry) first_is
+    (growth honest old new owners owners' number first entry result grown)) found.used
     (named ∙ sym found.named) (blocks ∙ ap (λ (n : ℕ). n + growth_by) first_is) by
     (subst (λ (n : List ℕ). None ≡ refusal_of (extents_for_store old) (Extend n growth_by) volumes) (sym found.named) (admitted V volumes by))
     (subst (λ (n : ℕ). IsGrown new.keeps number n entry.blocks V W) first_is is))
 
 -- the record that was found
-found_for : (records : List (Option Record)) (name : List ℕ) (number first : ℕ) → ∥ IsRecordFor records name number first ∥₁ → IsRecordFor records name number first
+found_for : (records : List (Option Record)) (name : List ℕ) (number first : ℕ) → ∥ IsRecordFor records name number first ∥₁
+    → IsRecordFor records name number first
 found_for records name number first found = by_record (record_of records number) refl
   where
     by_record : (one : Option Record) → record_of records number ≡ one → IsRecordFor records name number first
@@ -120,13 +146,17 @@ found_for records name number first found = by_record (record_of records number)
       as_long = ∥∥₁_elim found (hlevel props) (λ it. ap (λ (r : Record). r.blocks) (same_Some entry it.entry (sym used ∙ it.used)) ∙ it.as_long);
     }
 
-pub extend_applies : (honest : Type 0) (name : List ℕ) (growth_by : ℕ) (old new : StoreView) (owners owners' : List (Option Owned)) (number first : ℕ) (entry : Record) (result : Answer)
-    → HasGrown honest old new owners owners' number first entry result → ∥ IsRecordFor old.keeps.records name number first ∥₁ → entry.name.bytes.items ≡ name → entry.blocks ≡ first + growth_by → entry.blocks ≤ MOST_BLOCKS
-    → ((sectors : List Block) (volumes : VolumeMap) → ShowsBy (extents_for_store old) old.keeps sectors volumes → None ≡ refusal_of (extents_for_store old) (Extend name growth_by) volumes)
+pub extend_applies : (honest : Type 0) (name : List ℕ) (growth_by : ℕ) (old new : StoreView) (owners owners' : List (Option Owned)) (number first : ℕ)
+    (entry : Record) (result : Answer)
+    → HasGrown honest old new owners owners' number first entry result → ∥ IsRecordFor old.keeps.records name number first ∥₁ → entry.name.bytes.items ≡ name
+    → entry.blocks ≡ first + growth_by → entry.blocks ≤ MOST_BLOCKS
+    → ((sectors : List Block) (volumes : VolumeMap) → ShowsBy (extents_for_store old) old.keeps sectors volumes
+    → None ≡ refusal_of (extents_for_store old) (Extend name growth_by) volumes)
     → ExtendsVolume honest name growth_by old new result
 extend_applies honest name growth_by old new owners owners' number first entry result grown found named blocks most admitted =
     growing_applies honest (Extend name growth_by) old new owners owners' number first entry result grown tt refl (λ volumes. refl) most admitted
-    (applies_to honest name growth_by old new owners owners' number first entry result grown (found_for old.keeps.records name number first found) named blocks most admitted)
+    (applies_to honest name growth_by old new owners owners' number first entry result grown (found_for old.keeps.records name number first found) named blocks
+    most admitted)
 
 -- What an extend is refused with at once does not end the store.
 not_ended : (refusal : Refusal) → Contains (NoVolume ∷ BadSize ∷ NoSpace ∷ []) refusal → ¬ EndsIt refusal
@@ -137,6 +167,8 @@ not_ended refusal (suc (suc (suc k)), below, is) ends = absurd (omega (arith, be
 
 pub extend_is_refused : (honest : Type 0) (name : List ℕ) (growth_by : ℕ) (store : StoreView) (refusal : Refusal) → store.ended ≡ None
     → Contains (NoVolume ∷ BadSize ∷ NoSpace ∷ []) refusal
-    → ((sectors : List Block) (volumes : VolumeMap) → ShowsBy (extents_for_store store) store.keeps sectors volumes → Some refusal ≡ refusal_of (extents_for_store store) (Extend name growth_by) volumes)
+    → ((sectors : List Block) (volumes : VolumeMap) → ShowsBy (extents_for_store store) store.keeps sectors volumes
+    → Some refusal ≡ refusal_of (extents_for_store store) (Extend name growth_by) volumes)
     → ExtendsVolume honest name growth_by store store (Err refusal)
-extend_is_refused honest name growth_by store refusal going among refuses = refused_at_once honest (Extend name growth_by) store refusal going among (not_ended refusal among) refuses
+extend_is_refused honest name growth_by store refusal going among refuses =
+    refused_at_once honest (Extend name growth_by) store refusal going among (not_ended refusal among) refuses

@@ -1,5 +1,6 @@
 -- A slot of a store's set is given up.
-use Rattle.std.proofs.Common.{◌≡◌, ◌≢◌, ◌⊎◌, inl, inr, ℕ, zero, suc, ◌+◌, ◌<◌, ◌≤◌, Bool, true, false, cond, not, nat_le, List, [], ◌∷◌, length, take, Option, Some, None, Result, Ok, Err, refl, sym, ap, ap₂, subst, ◌∙◌, arith}
+use Rattle.std.proofs.Common.{◌≡◌, ◌≢◌, ◌⊎◌, inl, inr, ℕ, zero, suc, ◌+◌, ◌<◌, ◌≤◌, Bool, true, false, cond, not, nat_le, List, [], ◌∷◌, length, take, Option}
+use Rattle.std.proofs.Common.{Some, None, Result, Ok, Err, refl, sym, ap, ap₂, subst, ◌∙◌, arith}
 use Rattle.std.specs.Prelude.{is_ok, slice_set}
 use Rattle.std.proofs.lemmas.Bool.{cases_eq, le-leb, lt-leb, true≢false}
 use Rattle.std.proofs.lemmas.List.{get_or-set_other, get_or-set_same, length-set, set-get_or}
@@ -38,8 +39,10 @@ use Rattle.volume_table.specs.StoreCalls.{Applies, GivesUp, IncarnationsStay, lo
 use Rattle.volume_table.specs.StoreFunctions.{FailsSlot}
 use Rattle.volume_table.specs.VolumeStep.{Done, Fail, OnSet, Refused, Scrub}
 use Rattle.volume_table.specs.Volumes.{VolumeMap}
-use Rattle.volume_table.proofs.OnSet.{are_devices, devices_leave, none_ended, none_rebuilding, refused_differ, refused_on_set, set_left_by, settled_still, stands_for, state_in, states_in}
-use Rattle.volume_table.proofs.StoreSteps.{devices_in, generation_marked, generation_same, incarnations_marked, incarnations_same, length-set_of, made, no_position}
+use Rattle.volume_table.proofs.OnSet.{are_devices, devices_leave, none_ended, none_rebuilding, refused_differ, refused_on_set, set_left_by, settled_still}
+use Rattle.volume_table.proofs.OnSet.{stands_for, state_in, states_in}
+use Rattle.volume_table.proofs.StoreSteps.{devices_in, generation_marked, generation_same, incarnations_marked, incarnations_same, length-set_of, made}
+use Rattle.volume_table.proofs.StoreSteps.{no_position}
 
 -- ---- whether another slot is out
 
@@ -54,7 +57,8 @@ all_in_sync (state ∷ states) each = by_first state (each 0 (omega arith)) (all
     by_first Rebuilding is rest = absurd (cc)
 
 -- where all others are in sync, the set is complete but for the slot
-pub complete_but : (table : Table) (slot : ℕ) → ((other : ℕ) → other < slots_of table → other ≢ slot → state_at table.states other ≡ InSync) → is_complete (slice_set (states_in table) slot InSync) ≡ true
+pub complete_but : (table : Table) (slot : ℕ) → ((other : ℕ) → other < slots_of table → other ≢ slot → state_at table.states other ≡ InSync)
+    → is_complete (slice_set (states_in table) slot InSync) ≡ true
 complete_but table slot each = all_in_sync (slice_set (states_in table) slot InSync) (λ k below.
     let of_set : k < slots_of table = omega (arith, below, length-set (states_in table) slot InSync, length-set_of table) in
     elim (cases_eq k slot) [
@@ -106,7 +110,8 @@ beside_out table slot false out in_sync = sym (ap not (complete_but table slot (
 pub would_lose : (table : Table) (slot : ℕ) → is_out_beside table slot ≡ true → set_refusal no_devices (Fail slot) (set_of table) ≡ Some WouldLose
 would_lose table slot out = ap (λ (b : Bool). refusal_by b (nat_le (length (states_in table)) slot)) out
 
-pub not_missing : (table : Table) (slot : ℕ) → is_out_beside table slot ≡ false → slots_of table ≤ slot → set_refusal no_devices (Fail slot) (set_of table) ≡ Some NotMissing
+pub not_missing : (table : Table) (slot : ℕ) → is_out_beside table slot ≡ false → slots_of table ≤ slot
+    → set_refusal no_devices (Fail slot) (set_of table) ≡ Some NotMissing
 not_missing table slot none past =
     ap₂ refusal_by none (le-leb (length (states_in table)) slot (omega (arith, past, length-set_of table)))
 
@@ -173,14 +178,17 @@ module _ (honest : Type 0) (slot : ℕ) (old new : StoreView) (answer : Answer) 
   may_give_up : (lost : Option Lost) (V : List Bytes) → RestsOn old.array lost V → MayGiveUp old.array slot lost (V ∷ [])
   may_give_up lost V rests = record {
     may = may_be_out lost rests.lost_slot;
-    chosen = chosen_as_lost old.array.panel.devices old.array.table slot lost old.array.history (λ image. IsChosen old.array.table.id old.array.panel.devices image old.array.table) rests.chosen;
+    chosen = chosen_as_lost old.array.panel.devices old.array.table slot lost old.array.history
+        (λ image. IsChosen old.array.table.id old.array.panel.devices image old.array.table) rests.chosen;
     holds = gives_up old.array.panel.devices old.array.table old.array.number slot lost V old.array.history rests is.of_set;
   }
 
   moments : honest → (lost : Option Lost) (volumes : VolumeMap) → IsSettledOn old lost volumes
-      → StandsThroughout old.array.table old.array.panel.devices (lost_in (OnSet (Fail slot)) old.array.table lost) (volumes ∷ volumes ∷ []) old.array.history new.array.history
+      → StandsThroughout old.array.table old.array.panel.devices (lost_in (OnSet (Fail slot)) old.array.table lost) (volumes ∷ volumes ∷ []) old.array.history
+      new.array.history
   moments fair lost volumes settled =
-      subst (λ (l : Option Lost). StandsThroughout old.array.table old.array.panel.devices l (volumes ∷ volumes ∷ []) old.array.history new.array.history) (sym (lost_is lost))
+      subst (λ (l : Option Lost). StandsThroughout old.array.table old.array.panel.devices l (volumes ∷ volumes ∷ []) old.array.history new.array.history)
+      (sym (lost_is lost))
       (throughout_more (stands_for old.array.table old.array.panel.devices (lost_from lost slot) settled.logical volumes settled.shown) new.array.history
       (is.marks.moments fair lost (settled.logical ∷ []) (may_give_up lost settled.logical settled.rests)))
 
@@ -236,8 +244,10 @@ module _ (honest : Type 0) (slot : ℕ) (old new : StoreView) (answer : Answer) 
       let of_new : k < slots_of new.array.table = omega (arith, below, length-set_of new.array.table) in
       let now : state_at new.array.table.states k ≡ Rebuilding = sym (state_in new.array.table k of_new) ∙ rebuilding in
       elim (cases_eq k slot) [
-        | inl same ↦ let gone : state_at new.array.table.states k ≡ Missing = ap (state_at new.array.table.states) same ∙ missing_now ok in let never : Missing ≡ Rebuilding = sym gone ∙ now in cc
-        | inr apart ↦ let kept : state_at new.array.table.states k ≡ InSync = in_sync_now k (omega (arith, of_new, same_slots)) apart in let never : InSync ≡ Rebuilding = sym kept ∙ now in cc
+        | inl same ↦ let gone : state_at new.array.table.states k ≡ Missing = ap (state_at new.array.table.states) same
+            ∙ missing_now ok in let never : Missing ≡ Rebuilding = sym gone ∙ now in cc
+        | inr apart ↦ let kept : state_at new.array.table.states k ≡ InSync =
+            in_sync_now k (omega (arith, of_new, same_slots)) apart in let never : InSync ≡ Rebuilding = sym kept ∙ now in cc
       ])
 
   position_then : answer ≡ Ok tt → position_in (states_in new.array.table) old.array.table.position ≡ new.array.table.position
@@ -245,7 +255,8 @@ module _ (honest : Type 0) (slot : ℕ) (old new : StoreView) (answer : Answer) 
 
 -- it was marked
 pub fail_done : (honest : Type 0) (slot : ℕ) (old new : StoreView) → MarksOwn honest slot old new (Ok tt) → new.ended ≡ None
-    → (honest → (other : ℕ) → other < slots_of old.array.table → DeviceFailed other old.array.panel new.array.panel → state_at new.array.table.states other ≡ Missing)
+    → (honest → (other : ℕ) → other < slots_of old.array.table → DeviceFailed other old.array.panel new.array.panel
+    → state_at new.array.table.states other ≡ Missing)
     → Applies honest (OnSet (Fail slot)) old new Done
 fail_done honest slot old new is goes failure = record {
   ended = λ other kept. absurd (none_ended other (sym kept ∙ is.going));
@@ -314,13 +325,17 @@ fail_ended honest slot old new refusal is ended = record {
 
 -- ---- by what marking the slot did
 
-pub fail_marked : (honest : Type 0) (slot : ℕ) (old new : StoreView) (answer : Answer) → old.ended ≡ None → new.keeps ≡ old.keeps → slot < slots_of old.array.table
-    → is_out_beside old.array.table slot ≡ false → (answer ≡ Ok tt → new.ended ≡ old.ended) → ((refusal : Refusal) → answer ≡ Err refusal → new.ended ≡ Some refusal)
+pub fail_marked : (honest : Type 0) (slot : ℕ) (old new : StoreView) (answer : Answer) → old.ended ≡ None → new.keeps ≡ old.keeps
+    → slot < slots_of old.array.table
+    → is_out_beside old.array.table slot ≡ false → (answer ≡ Ok tt → new.ended ≡ old.ended)
+    → ((refusal : Refusal) → answer ≡ Err refusal → new.ended ≡ Some refusal)
     → MarksMissing honest slot old.array new.array answer
-    → (honest → answer ≡ Ok tt → (other : ℕ) → other < slots_of old.array.table → DeviceFailed other old.array.panel new.array.panel → state_at new.array.table.states other ≡ Missing)
+    → (honest → answer ≡ Ok tt → (other : ℕ) → other < slots_of old.array.table → DeviceFailed other old.array.panel new.array.panel
+    → state_at new.array.table.states other ≡ Missing)
     → FailsSlot honest slot old new answer
 fail_marked honest slot old new (Ok done) going same of_set none goes_on ends marks failure =
-    fail_done honest slot old new record { going = going; same = same; of_set = of_set; none_out = none; marks = marks } (goes_on refl ∙ going) (λ fair. failure fair refl)
+    fail_done honest slot old new record { going = going; same = same; of_set = of_set; none_out = none; marks = marks } (goes_on refl ∙ going)
+    (λ fair. failure fair refl)
 fail_marked honest slot old new (Err refusal) going same of_set none goes_on ends marks failure =
     fail_ended honest slot old new refusal record { going = going; same = same; of_set = of_set; none_out = none; marks = marks } (ends refusal refl)
 
@@ -338,14 +353,16 @@ module _ (honest : Type 0) (slot : ℕ) (old_panel new_panel : Panel) (old_table
   ]
 
   -- where the slot was marked, each other device of the set is up; and where nothing was done, none failed
-  pub marks_failed : slot < slots_of old_table → (honest → IsTrueTo new_panel new) → honest → answer ≡ Ok tt → (other : ℕ) → other < slots_of old_table → DeviceFailed other old_panel new_panel
+  pub marks_failed : slot < slots_of old_table → (honest → IsTrueTo new_panel new) → honest → answer ≡ Ok tt → (other : ℕ) → other < slots_of old_table
+      → DeviceFailed other old_panel new_panel
       → state_at new_table.states other ≡ Missing
   marks_failed of_set true_new fair ok other within failed = elim marks [
     | inl left ↦ absurd (true≢false (sym failed.is_down ∙ ap (λ (p : Panel). p.down other) left.same_panel ∙ failed.was_up))
     | inr is ↦ elim (cases_eq other slot) [
       | inl same ↦ ap (state_at new_table.states) same ∙ missing_then old_table new_table slot is.marked of_set
       | inr apart ↦
-          let made = subst (λ (b : Bool). Made (publish_calls new_table None is.publishes.sectors) b old new) (answered_ok is.result (sym is.answered ∙ ok)) (is.publishes.made fair) in
+          let made = subst (λ (b : Bool). Made (publish_calls new_table None is.publishes.sectors) b old new) (answered_ok is.result (sym is.answered ∙ ok))
+          (is.publishes.made fair) in
           let within_new : other < slots_of new_table = omega (arith, within, ap (λ (g : Geometry). g.members + 2) is.marked.same_geometry) in
           let up = marking_up new_table is.publishes.sectors old new made other
           (gets_it new_table other within_new (state_stays old_table new_table slot is.marked other apart ∙ is.others other within apart)) in

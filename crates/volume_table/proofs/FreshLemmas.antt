@@ -58,10 +58,16 @@ fresh_set_shows_none geometry = ∥∥₁_map empty_exists (shown_by geometry)
 no_map : (list : List Bytes) (lists : List (List Bytes)) → Contains [] list → ⊥
 no_map list lists (k, below, is) = omega (arith, below)
 
-only_zeros : (geometry : Geometry) (logical : List Bytes) → Shows (extents_in geometry) (zeros_of geometry) no_volumes → Contains (zeros_of geometry ∷ []) logical → ShowsOneOf geometry (no_volumes ∷ []) logical
+only_zeros : (geometry : Geometry) (logical : List Bytes) → Shows (extents_in geometry) (zeros_of geometry) no_volumes
+    → Contains (zeros_of geometry ∷ []) logical → ShowsOneOf geometry (no_volumes ∷ []) logical
 only_zeros geometry logical shows among = elim (Contains-push_cases [] (zeros_of geometry) logical among) [
   | inl none ↦ absurd (no_map logical [] none)
-  | inr is ↦ record { volumes = no_volumes; among = Contains-push [] no_volumes; shown = subst (λ (list : List Bytes). Shows (extents_in geometry) list no_volumes) is shows }
+  | inr is ↦ record {
+    volumes = no_volumes;
+    among = Contains-push [] no_volumes;
+    shown =
+        subst (λ (list : List Bytes). Shows (extents_in geometry) list no_volumes) is shows;
+  }
 ]
 
 pub fresh_set_stands_for_none : FreshSetStandsForNone

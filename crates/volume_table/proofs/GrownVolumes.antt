@@ -1,5 +1,6 @@
 -- What a list shows on the way to a volume with new blocks, and then.
-use Rattle.std.proofs.Common.{◌≡◌, ◌≢◌, inl, inr, ℕ, ◌/◌, ◌<◌, ◌≤◌, List, [], length, get_or, take, slice_set, Option, Some, None, refl, sym, ◌∙◌, ap, subst, arith}
+use Rattle.std.proofs.Common.{◌≡◌, ◌≢◌, inl, inr, ℕ, ◌/◌, ◌<◌, ◌≤◌, List, [], length, get_or, take, slice_set, Option, Some, None, refl, sym, ◌∙◌, ap, subst}
+use Rattle.std.proofs.Common.{arith}
 use Rattle.std.proofs.lemmas.List.{ext_get_or, get_or-take, length-take, get_or-set_same, get_or-set_other, get_or-replicate, length-replicate}
 use Rattle.sector_model.specs.declared.refusal.Refusal.{Refusal}
 use Rattle.extents.specs.declared.owned.Owned.{Owned}
@@ -33,7 +34,8 @@ pub record IsGrowth (extents : ℕ) (old new : VolumeTable) (number first : ℕ)
   pub was : (extent other place : ℕ) → other ≢ number → IsAt new.extents extent other place → IsAt old.extents extent other place
   pub free_beyond : (extent : ℕ) → extents ≤ extent → owner_of new.extents extent ≡ None
 
-pub is_growth : (extents : ℕ) (old new : VolumeTable) (owners owners' : List (Option Owned)) (number first n : ℕ) (entry : Record) → new.version ≡ old.version → number < length old.records → AreKept extents old owners → AreKept extents new owners'
+pub is_growth : (extents : ℕ) (old new : VolumeTable) (owners owners' : List (Option Owned)) (number first n : ℕ) (entry : Record) → new.version ≡ old.version
+    → number < length old.records → AreKept extents old owners → AreKept extents new owners'
     → new.records ≡ slice_set old.records number (Some entry) → IsTaken owners owners' number n → IsGrownFrom (record_of old.records number) first entry
     → IsGrowth extents old new number first entry
 is_growth extents old new owners owners' number first n entry version long kept kept' records taken from = record {
@@ -41,9 +43,11 @@ is_growth extents old new owners owners' number first n entry version long kept 
   long = long;
   records = records;
   from = from;
-  stays = λ extent other place at. sym (kept_owner extents new owners' kept' extent) ∙ taken.kept extent other place (kept_owner extents old owners kept extent ∙ at);
+  stays = λ extent other place at. sym (kept_owner extents new owners' kept' extent)
+      ∙ taken.kept extent other place (kept_owner extents old owners kept extent ∙ at);
   was = λ extent other place apart at.
-      sym (kept_owner extents old owners kept extent) ∙ taken_kept owners owners' number (count_of owners number) n extent other place taken apart (kept_owner extents new owners' kept' extent ∙ at);
+      sym (kept_owner extents old owners kept extent) ∙ taken_kept owners owners' number (count_of owners number) n extent other place taken apart
+      (kept_owner extents new owners' kept' extent ∙ at);
   free_beyond = kept'.free_beyond;
 }
 
@@ -53,7 +57,8 @@ same_owned a b both = cc
 -- a sector is of one extent, and at one place in it
 module _ (extents : ℕ) (old new : VolumeTable) (number first : ℕ) (entry : Record) (growth : IsGrowth extents old new number first entry) (last : ℕ) where
   -- a block that a volume has is none of the new ones
-  not_new : (other : ℕ) (one : Record) (j extent : ℕ) → record_of old.records other ≡ Some one → j < one.blocks → IsAt old.extents extent other (j / EXTENT_SECTORS)
+  not_new : (other : ℕ) (one : Record) (j extent : ℕ) → record_of old.records other ≡ Some one → j < one.blocks
+      → IsAt old.extents extent other (j / EXTENT_SECTORS)
       → ¬ IsOfBlocks EXTENT_SECTORS new.extents number first last (sector_of_block EXTENT_SECTORS extent j)
   not_new other one j extent used below at is =
       let same_extent : is.extent ≡ extent = omega (arith, is.is) in
@@ -63,7 +68,8 @@ module _ (extents : ℕ) (old new : VolumeTable) (number first : ℕ) (entry : R
       let same_number : number ≡ other = ap (λ (o : Owned). o.volume) both in
       let same_place : is.block / EXTENT_SECTORS ≡ j / EXTENT_SECTORS = ap (λ (o : Owned). o.place) both in
       let same_block : is.block ≡ j = omega (arith, same_place, same_extent, is.is) in
-      let from : IsGrownFrom (Some one) first entry = subst (λ (r : Option Record). IsGrownFrom r first entry) (ap (record_of old.records) same_number ∙ used) growth.from in
+      let from : IsGrownFrom (Some one) first entry = subst (λ (r : Option Record). IsGrownFrom r first entry) (ap (record_of old.records) same_number ∙ used)
+      growth.from in
       omega (arith, is.least, same_block, below, from.0)
 
   -- with some of the new blocks zero each volume's blocks are as before
@@ -95,7 +101,8 @@ module _ (extents : ℕ) (old new : VolumeTable) (number first : ℕ) (entry : R
 
     pub changes_one : ChangesOneRecord EXTENT_SECTORS old.records new.records old.extents new.extents V W number
     changes_one = record {
-      same_records = λ other apart. ap (λ (rs : List (Option Record)). record_of rs other) growth.records ∙ get_or-set_other old.records number other (Some entry) None apart;
+      same_records = λ other apart. ap (λ (rs : List (Option Record)). record_of rs other) growth.records
+          ∙ get_or-set_other old.records number other (Some entry) None apart;
       same_extents = λ other extent place apart at. growth.was extent other place apart at;
       same_blocks = λ other one apart used j extent below at. beyond extent j ∙ same_blocks V grown.mid grown.zeroed.partly other one used j extent below at;
     }
@@ -104,33 +111,42 @@ module _ (extents : ℕ) (old new : VolumeTable) (number first : ℕ) (entry : R
     entry_used = ap (λ (rs : List (Option Record)). record_of rs number) growth.records ∙ get_or-set_same old.records number (Some entry) None growth.long
 
     -- a new block is zero
-    pub new_block : (j extent : ℕ) → first ≤ j → j < last → IsAt new.extents extent number (j / EXTENT_SECTORS) → get_or W (sector_of_block EXTENT_SECTORS extent j) [] ≡ zero_block
-    new_block j extent least most at = beyond extent j ∙ grown.zeroed.zero (sector_of_block EXTENT_SECTORS extent j) record { block = j; extent = extent; least = least; most = most; at = at; is = refl }
+    pub new_block : (j extent : ℕ) → first ≤ j → j < last → IsAt new.extents extent number (j / EXTENT_SECTORS)
+        → get_or W (sector_of_block EXTENT_SECTORS extent j) [] ≡ zero_block
+    new_block j extent least most at = beyond extent j
+        ∙ grown.zeroed.zero (sector_of_block EXTENT_SECTORS extent j) record { block = j; extent = extent; least = least; most = most; at = at; is = refl }
 
     -- and a block that the volume had is as before
-    pub old_block : (one : Record) (j extent : ℕ) → record_of old.records number ≡ Some one → j < one.blocks → IsAt old.extents extent number (j / EXTENT_SECTORS)
+    pub old_block : (one : Record) (j extent : ℕ) → record_of old.records number ≡ Some one → j < one.blocks
+        → IsAt old.extents extent number (j / EXTENT_SECTORS)
         → get_or W (sector_of_block EXTENT_SECTORS extent j) [] ≡ get_or V (sector_of_block EXTENT_SECTORS extent j) []
     old_block one j extent used below at = beyond extent j ∙ same_blocks V grown.mid grown.zeroed.partly number one used j extent below at
 
 -- the list shows these volumes by the table that its first sectors spell
-pub shows_by : (extents : ℕ) (table : VolumeTable) (W : List Block) (volumes : VolumeMap) → Shows extents W volumes → Spell W table → ShowsBy extents table W volumes
+pub shows_by : (extents : ℕ) (table : VolumeTable) (W : List Block) (volumes : VolumeMap) → Shows extents W volumes → Spell W table
+    → ShowsBy extents table W volumes
 shows_by extents table W volumes shows spelled = record { shows = shows; by = one_table W shows.table table shows.spelled spelled }
 
 -- what is not refused is answered as done
-pub done_reply : (extents : ℕ) (command : Command) (volumes : VolumeMap) → None ≡ refusal_of extents command volumes → reply_to extents command volumes ≡ answer command volumes.volumes
+pub done_reply : (extents : ℕ) (command : Command) (volumes : VolumeMap) → None ≡ refusal_of extents command volumes
+    → reply_to extents command volumes ≡ answer command volumes.volumes
 done_reply extents command volumes none = ap (λ (r : Option Refusal). or_refused r (answer command volumes.volumes)) (sym none)
 
 -- On the way the old volumes are shown, or the new ones.
-pub shown_on_the_way : (extents : ℕ) (old new : VolumeTable) (number first last : ℕ) (entry : Record) (V W : List Block) (volumes : VolumeMap) → IsGrowth extents old new number first entry
+pub shown_on_the_way : (extents : ℕ) (old new : VolumeTable) (number first last : ℕ) (entry : Record) (V W : List Block) (volumes : VolumeMap)
+    → IsGrowth extents old new number first entry
     → (by : ShowsBy extents old V volumes) → IsPartlyZero EXTENT_SECTORS new.extents number first last V W → Shows extents W volumes
 shown_on_the_way extents old new number first last entry V W volumes growth by partly =
-    let growth' : IsGrowth extents by.shows.table new number first entry = subst (λ (t : VolumeTable). IsGrowth extents t new number first entry) (sym by.by) growth in
+    let growth' : IsGrowth extents by.shows.table new number first entry =
+    subst (λ (t : VolumeTable). IsGrowth extents t new number first entry) (sym by.by) growth in
     unused_may_change extents V W volumes by.shows (same_table extents by.shows.table new number first entry growth' last V W partly volumes.version)
     (same_blocks extents by.shows.table new number first entry growth' last V W partly)
 
 -- A new volume is there.
-pub created_is_shown : (extents : ℕ) (old new : VolumeTable) (name : List ℕ) (number : ℕ) (entry : Record) (V W : List Block) (volumes : VolumeMap) → IsGrowth extents old new number 0 entry
-    → record_of old.records number ≡ None → entry.name.bytes.items ≡ name → (by : ShowsBy extents old V volumes) → None ≡ refusal_of extents (Create name entry.blocks) volumes
+pub created_is_shown : (extents : ℕ) (old new : VolumeTable) (name : List ℕ) (number : ℕ) (entry : Record) (V W : List Block) (volumes : VolumeMap)
+    → IsGrowth extents old new number 0 entry
+    → record_of old.records number ≡ None → entry.name.bytes.items ≡ name → (by : ShowsBy extents old V volumes)
+    → None ≡ refusal_of extents (Create name entry.blocks) volumes
     → IsGrown new number 0 entry.blocks V W → ShowsBy extents new W (done (Create name entry.blocks) volumes)
 created_is_shown extents old new name number entry V W volumes growth unused named by admitted grown =
     let t : VolumeTable = by.shows.table in
@@ -138,7 +154,8 @@ created_is_shown extents old new name number entry V W volumes growth unused nam
     let last : ℕ = entry.blocks in
     shows_by extents new W (done (Create name last) volumes)
     (subst (Shows extents W) (changed_if_done extents (Create name last) volumes (sym admitted))
-    (create_is_shown extents V W volumes name last new number by.shows (done_reply extents (Create name last) volumes admitted) grown.put.spelled (growth'.version ∙ by.shows.of_version) growth'.free_beyond
+    (create_is_shown extents V W volumes name last new number by.shows (done_reply extents (Create name last) volumes admitted) grown.put.spelled
+    (growth'.version ∙ by.shows.of_version) growth'.free_beyond
     (changes_one extents t new number 0 entry growth' last V W grown)
     record {
       entry = entry;
@@ -147,7 +164,8 @@ created_is_shown extents old new name number entry V W volumes growth unused nam
       as_long = length-replicate {A = Block} last zero_block;
       stand = λ j extent within at.
           let below : j < last = omega (arith, within, length-replicate {A = Block} last zero_block) in
-          new_block extents t new number 0 entry growth' last V W grown j extent (omega arith) below at ∙ sym (get_or-replicate {A = Block} last j zero_block [] below);
+          new_block extents t new number 0 entry growth' last V W grown j extent (omega arith) below at
+          ∙ sym (get_or-replicate {A = Block} last j zero_block [] below);
     }
     (subst (λ (table : VolumeTable). record_of table.records number ≡ None) (sym by.by) unused)))
     grown.put.spelled

@@ -2,7 +2,9 @@
 use Rattle.std.proofs.Common.{◌≡◌, ◌⊎◌, inl, inr, ℕ, ◌-◌, List, [], ◌∷◌, ◌++◌, length, Option, Some, None, Ok, Err, refl, sym, ap, subst, ◌∙◌}
 use Rattle.std.proofs.lemmas.Option.{none-some}
 use Rattle.sector_model.specs.declared.refusal.Refusal.{Refusal}
-use Rattle.sector_model.specs.declared.refusal.Refusal.TheVariants.{BadName, BadSize, Exists, TooManyVolumes, NoSpace, NoVolume, BadCount, OutOfRange, WouldLose, NotMissing, NotUsable, NothingToRebuild, Incomplete, Memory, TwoLost, Worn, NoSet, BadTable, BadGeometry, BadLine, ReadFault, WriteFault}
+use Rattle.sector_model.specs.declared.refusal.Refusal.TheVariants.{BadName, BadSize, Exists, TooManyVolumes, NoSpace, NoVolume, BadCount, OutOfRange}
+use Rattle.sector_model.specs.declared.refusal.Refusal.TheVariants.{WouldLose, NotMissing, NotUsable, NothingToRebuild, Incomplete, Memory, TwoLost, Worn}
+use Rattle.sector_model.specs.declared.refusal.Refusal.TheVariants.{NoSet, BadTable, BadGeometry, BadLine, ReadFault, WriteFault}
 use Rattle.array_io.specs.Believed.Holds.{row_count}
 use Rattle.array_io.specs.Believed.Views.{EndsIt}
 use Rattle.superblock.specs.Cases.{Lost}
@@ -13,7 +15,9 @@ use Rattle.volume_table.specs.Stands.{IsSettledOn, StoreView}
 use Rattle.volume_table.specs.Shows.{records_need, used_records}
 use Rattle.volume_table.specs.ShowsLaw.{TablesHaveOneSpelling}
 use Rattle.volume_table.specs.StoreCalls.{Applies, EndsStore, extents_for_store}
-use Rattle.volume_table.specs.StoreFunctions.{Answer, Chain, CreatesVolume, EndsAtEvent, ExtendsVolume, FailsSlot, ListsVolumes, ReadsBlocks, RebuildsRows, RemovesVolume, RenamesVolume, ReplacesDevice, RunsEvents, ScrubsSet, TellsStatus, UpgradesTable, WritesBlocks, none_done, then_done}
+use Rattle.volume_table.specs.StoreFunctions.{Answer, Chain, CreatesVolume, EndsAtEvent, ExtendsVolume, FailsSlot, ListsVolumes, ReadsBlocks, RebuildsRows}
+use Rattle.volume_table.specs.StoreFunctions.{RemovesVolume, RenamesVolume, ReplacesDevice, RunsEvents, ScrubsSet, TellsStatus, UpgradesTable, WritesBlocks}
+use Rattle.volume_table.specs.StoreFunctions.{none_done, then_done}
 use Rattle.volume_table.proofs.CountLemmas.{records_are_counted}
 use Rattle.volume_table.proofs.EndedStore.{run_stays_ended, stays_ended, tells_ended}
 use Rattle.volume_table.proofs.StatusTold.{counts_told, status_by}
@@ -36,7 +40,8 @@ pub remove_of_ended : (honest : Type 0) (name : List ℕ) (store : StoreView) (r
 remove_of_ended honest name store refusal kept = stays_ended honest _ store refusal kept
 
 -- also where the read leaves something else in its places
-pub read_of_ended : (honest : Type 0) (name : List ℕ) (at : ℕ) (to_before to_after : List Block) (store : StoreView) (refusal : Refusal) → store.ended ≡ Some refusal
+pub read_of_ended : (honest : Type 0) (name : List ℕ) (at : ℕ) (to_before to_after : List Block) (store : StoreView) (refusal : Refusal)
+    → store.ended ≡ Some refusal
     → ReadsBlocks honest name at to_before to_after store store (Err refusal)
 read_of_ended honest name at to_before to_after store refusal kept = stays_ended honest _ store refusal kept
 
@@ -54,13 +59,16 @@ list_of_ended honest store refusal kept = stays_ended honest _ store refusal kep
 pub upgrade_of_ended : (honest : Type 0) (store : StoreView) (refusal : Refusal) → store.ended ≡ Some refusal → UpgradesTable honest store store (Err refusal)
 upgrade_of_ended honest store refusal kept = stays_ended honest _ store refusal kept
 
-pub fail_of_ended : (honest : Type 0) (slot : ℕ) (store : StoreView) (refusal : Refusal) → store.ended ≡ Some refusal → FailsSlot honest slot store store (Err refusal)
+pub fail_of_ended : (honest : Type 0) (slot : ℕ) (store : StoreView) (refusal : Refusal) → store.ended ≡ Some refusal
+    → FailsSlot honest slot store store (Err refusal)
 fail_of_ended honest slot store refusal kept = stays_ended honest _ store refusal kept
 
-pub replace_of_ended : (honest : Type 0) (slot : ℕ) (store : StoreView) (refusal : Refusal) → store.ended ≡ Some refusal → ReplacesDevice honest slot store store (Err refusal)
+pub replace_of_ended : (honest : Type 0) (slot : ℕ) (store : StoreView) (refusal : Refusal) → store.ended ≡ Some refusal
+    → ReplacesDevice honest slot store store (Err refusal)
 replace_of_ended honest slot store refusal kept = stays_ended honest _ store refusal kept
 
-pub rebuild_of_ended : (honest : Type 0) (rows : ℕ) (store : StoreView) (refusal : Refusal) → store.ended ≡ Some refusal → RebuildsRows honest rows store store (Err refusal)
+pub rebuild_of_ended : (honest : Type 0) (rows : ℕ) (store : StoreView) (refusal : Refusal) → store.ended ≡ Some refusal
+    → RebuildsRows honest rows store store (Err refusal)
 rebuild_of_ended honest rows store refusal kept = stays_ended honest _ store refusal kept
 
 pub scrub_of_ended : (honest : Type 0) (store : StoreView) (refusal : Refusal) → store.ended ≡ Some refusal → ScrubsSet honest store store (Err refusal)
@@ -84,18 +92,22 @@ run_without_memory honest events store acks goes = record {
 
 -- a status that the table of the array and the table of volumes tell is that of each store that goes on
 pub status_is_told : TablesHaveOneSpelling → (store : StoreView) → store.ended ≡ None
-    → TellsStatus store (Ok (status_by store (row_count store.array.table) (extents_for_store store) (extents_for_store store - records_need EXTENT_SECTORS store.keeps.records) (used_records store.keeps.records) store.keeps.version))
+    → TellsStatus store (Ok (status_by store (row_count store.array.table) (extents_for_store store)
+    (extents_for_store store - records_need EXTENT_SECTORS store.keeps.records) (used_records store.keeps.records) store.keeps.version))
 status_is_told one_spelling store goes =
-    counts_told store (row_count store.array.table) (extents_for_store store) (extents_for_store store - records_need EXTENT_SECTORS store.keeps.records) (used_records store.keeps.records) store.keeps.version goes refl refl counted
+    counts_told store (row_count store.array.table) (extents_for_store store) (extents_for_store store - records_need EXTENT_SECTORS store.keeps.records)
+    (used_records store.keeps.records) store.keeps.version goes refl refl counted
   where
     same_table : (those : VolumeMap) (lost : Option Lost) (rests : IsSettledOn store lost those) → rests.shown.table ≡ store.keeps
     same_table those lost rests = one_spelling rests.logical rests.shown.table store.keeps rests.shown.spelled rests.spelled
 
     counted : (lost : Option Lost) (those : VolumeMap) → IsSettledOn store lost those
-        → (extents_for_store store - records_need EXTENT_SECTORS store.keeps.records ≡ extents_for_store store - need EXTENT_SECTORS those.volumes) × (used_records store.keeps.records ≡ length those.volumes) × (store.keeps.version ≡ those.version)
+        → (extents_for_store store - records_need EXTENT_SECTORS store.keeps.records ≡ extents_for_store store - need EXTENT_SECTORS those.volumes)
+        × (used_records store.keeps.records ≡ length those.volumes) × (store.keeps.version ≡ those.version)
     counted lost those rests =
         let are = records_are_counted (extents_for_store store) rests.logical those rests.shown in (
-          ap (λ (t : VolumeTable). extents_for_store store - records_need EXTENT_SECTORS t.records) (sym (same_table those lost rests)) ∙ ap (λ n. extents_for_store store - n) (sym are.1),
+          ap (λ (t : VolumeTable). extents_for_store store - records_need EXTENT_SECTORS t.records) (sym (same_table those lost rests))
+              ∙ ap (λ n. extents_for_store store - n) (sym are.1),
           ap (λ (t : VolumeTable). used_records t.records) (sym (same_table those lost rests)) ∙ sym are.0,
           ap (λ (t : VolumeTable). t.version) (sym (same_table those lost rests)) ∙ rests.shown.of_version,
         )
@@ -161,7 +173,8 @@ ran_first {honest} {events} {old} event mid reply applies others = by_reply repl
     on : (answered : Reply) → Applies honest event old mid answered → ¬ EndsStore answered → Ran honest (event ∷ events) old
     on answered applied goes = ran_on event (record { new = mid; reply = answered; applies = applied }) goes others
 
-    by_refusal : (refusal : Refusal) → Applies honest event old mid (Refused refusal) → ((refusal ≡ TwoLost) ⊎ (refusal ≡ Worn)) ⊎ (¬ EndsIt refusal) → Ran honest (event ∷ events) old
+    by_refusal : (refusal : Refusal) → Applies honest event old mid (Refused refusal) → ((refusal ≡ TwoLost) ⊎ (refusal ≡ Worn)) ⊎ (¬ EndsIt refusal)
+        → Ran honest (event ∷ events) old
     by_refusal refusal applied (inl ends) = stopped [] events event old mid [] refusal refl none_done applied ends
     by_refusal refusal applied (inr goes) = on (Refused refusal) applied goes
 
@@ -181,7 +194,8 @@ ran honest apply (event ∷ events) old =
     ran_first event first.new first.reply first.applies (ran honest apply events first.new)
 
 -- so `run` is met, over whatever meets `apply`, for all events
-pub run_is_met : (honest : Type 0) → ((event : Event) (store : StoreView) → Applied honest event store) → (events : List Event) (old : StoreView) (acks_before : List ℕ)
+pub run_is_met : (honest : Type 0) → ((event : Event) (store : StoreView) → Applied honest event store)
+    → (events : List Event) (old : StoreView) (acks_before : List ℕ)
     → old.ended ≡ None → AnswersRun honest events old acks_before
 run_is_met honest apply events old acks_before goes = by_case (ran honest apply events old)
   where
@@ -217,7 +231,8 @@ run_is_met honest apply events old acks_before goes = by_case (ran honest apply 
       result = Err TwoLost;
       runs = record {
         ended = λ other kept. ended_too other kept;
-        going = λ going. ended_at done undone event mid new acks TwoLost parts chain (subst (λ (r : Refusal). Applies honest event mid new (Refused r)) lost applies) tt;
+        going = λ going. ended_at done undone event mid new acks TwoLost parts chain
+            (subst (λ (r : Refusal). Applies honest event mid new (Refused r)) lost applies) tt;
       };
     }
     by_case (stopped done undone event mid new acks refusal parts chain applies (inr worn)) = record {
@@ -226,7 +241,8 @@ run_is_met honest apply events old acks_before goes = by_case (ran honest apply 
       result = Err Worn;
       runs = record {
         ended = λ other kept. ended_too other kept;
-        going = λ going. ended_at done undone event mid new acks Worn parts chain (subst (λ (r : Refusal). Applies honest event mid new (Refused r)) worn applies) tt;
+        going = λ going. ended_at done undone event mid new acks Worn parts chain
+            (subst (λ (r : Refusal). Applies honest event mid new (Refused r)) worn applies) tt;
       };
     }
 

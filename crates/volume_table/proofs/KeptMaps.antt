@@ -19,10 +19,12 @@ use Rattle.layout_map.specs.declared.sizes.TheConstants.{EXTENT_SECTORS}
 use Rattle.volume_table.specs.declared.event.TheConstants.{MOST_BLOCKS_AT_ONCE}
 
 -- its extents have the owners that they have in the table
-pub kept_owner : (extents : ℕ) (table : VolumeTable) (owners : List (Option Owned)) → AreKept extents table owners → (extent : ℕ) → owner_of owners extent ≡ owner_of table.extents extent
+pub kept_owner : (extents : ℕ) (table : VolumeTable) (owners : List (Option Owned)) → AreKept extents table owners → (extent : ℕ)
+    → owner_of owners extent ≡ owner_of table.extents extent
 kept_owner extents table owners kept extent = elim (cases_lt extent extents) [
   | inl below ↦ ap (λ (its : List (Option Owned)). owner_of its extent) kept.same ∙ get_or-take extents table.extents extent None below
-  | inr beyond ↦ get_or_past owners extent None (omega (arith, beyond, ap length kept.same, length-take extents table.extents)) ∙ sym (kept.free_beyond extent beyond)
+  | inr beyond ↦ get_or_past owners extent None (omega (arith, beyond, ap length kept.same, length-take extents table.extents))
+      ∙ sym (kept.free_beyond extent beyond)
 ]
 
 -- it has no more extents than the set
@@ -50,7 +52,8 @@ find_place (owner ∷ owners) volume place = elim (is_it owner) [
       ]
     ]
 
-    neither : ¬ (owner ≡ Some record { volume = volume; place = place }) → ¬ (HasPlace owners volume place) → (extent : ℕ) → IsAt (owner ∷ owners) extent volume place → ⊥
+    neither : ¬ (owner ≡ Some record { volume = volume; place = place }) → ¬ (HasPlace owners volume place) → (extent : ℕ)
+        → IsAt (owner ∷ owners) extent volume place → ⊥
     neither not_here not_there zero at = not_here at
     neither not_here not_there (suc extent) at = not_there (extent, at)
 
@@ -65,7 +68,8 @@ pub within_is_placed : (extents : ℕ) (table : VolumeTable) (owners : List (Opt
     → ∥ IsWithinVolume table.records name number at count ∥₁ → AllPlaced EXTENT_SECTORS owners number at (at + count)
 within_is_placed extents table owners name number at count kept within block least below =
     found_place owners number (block / EXTENT_SECTORS) (∥∥₁_elim table.is_table (hlevel props) (λ is_table. ∥∥₁_elim within (hlevel props) (λ it.
-    let many : extents_of EXTENT_SECTORS (record_of table.records number) ≡ extents_for EXTENT_SECTORS it.entry.blocks = ap (extents_of EXTENT_SECTORS) it.used in
+    let many : extents_of EXTENT_SECTORS (record_of table.records number) ≡ extents_for EXTENT_SECTORS it.entry.blocks =
+    ap (extents_of EXTENT_SECTORS) it.used in
     let there = (is_table.places number).extent_at (block / EXTENT_SECTORS) (omega (arith, many, below, it.fits)) in
     ∣ (there.0, kept_owner extents table owners kept there.0 ∙ there.1) ∣₁)))
 
@@ -73,10 +77,12 @@ within_is_placed extents table owners name number at count kept within block lea
 pub within_least : (records : List (Option Record)) (name : List ℕ) (number at count : ℕ) → ∥ IsWithinVolume records name number at count ∥₁ → 1 ≤ count
 within_least records name number at count within = ∥∥₁_elim within (hlevel props) (λ it. it.least)
 
-pub within_most : (records : List (Option Record)) (name : List ℕ) (number at count : ℕ) → ∥ IsWithinVolume records name number at count ∥₁ → count ≤ MOST_BLOCKS_AT_ONCE
+pub within_most : (records : List (Option Record)) (name : List ℕ) (number at count : ℕ) → ∥ IsWithinVolume records name number at count ∥₁
+    → count ≤ MOST_BLOCKS_AT_ONCE
 within_most records name number at count within = ∥∥₁_elim within (hlevel props) (λ it. it.most)
 
-pub within_fits : (records : List (Option Record)) (name : List ℕ) (number at count : ℕ) → ∥ IsWithinVolume records name number at count ∥₁ → at + count ≤ MOST_BLOCKS
+pub within_fits : (records : List (Option Record)) (name : List ℕ) (number at count : ℕ) → ∥ IsWithinVolume records name number at count ∥₁
+    → at + count ≤ MOST_BLOCKS
 within_fits records name number at count within = ∥∥₁_elim within (hlevel props) (λ it. omega (arith, it.fits, it.entry.most))
 
 -- the record that was found
@@ -92,6 +98,7 @@ found_record records name number found = by_record (record_of records number) re
       named = ∥∥₁_elim found (hlevel props) (λ it. ap (λ (r : Record). r.name.bytes.items) (same_Some entry it.entry (sym used ∙ it.used)) ∙ it.named);
     }
 
-pub within_record : (records : List (Option Record)) (name : List ℕ) (number at count : ℕ) → ∥ IsWithinVolume records name number at count ∥₁ → HasRecordAt records name number
+pub within_record : (records : List (Option Record)) (name : List ℕ) (number at count : ℕ) → ∥ IsWithinVolume records name number at count ∥₁
+    → HasRecordAt records name number
 within_record records name number at count within = found_record records name number (∥∥₁_elim within (hlevel props) (λ it.
     ∣ record { of_table = it.of_table; entry = it.entry; used = it.used; named = it.named } ∣₁))

@@ -1,5 +1,6 @@
 -- What rows of calls of an array do to its logical list: none, one call, and two rows of them.
-use Rattle.std.proofs.Common.{◌≡◌, ◌⊎◌, inl, inr, ℕ, ◌+◌, ◌<◌, ◌≤◌, ◌||◌, Bool, true, false, List, [], ◌∷◌, length, Contains, Option, Some, None, Ok, Err, refl, sym, ◌∙◌, ap, subst, arith}
+use Rattle.std.proofs.Common.{◌≡◌, ◌⊎◌, inl, inr, ℕ, ◌+◌, ◌<◌, ◌≤◌, ◌||◌, Bool, true, false, List, [], ◌∷◌, length, Contains, Option, Some, None, Ok, Err, refl}
+use Rattle.std.proofs.Common.{sym, ◌∙◌, ap, subst, arith}
 use Rattle.std.proofs.lemmas.Bool.{cases_eq}
 use Rattle.std.proofs.lemmas.List.Elements.{Contains-append_cases, Contains-push_cases}
 use Rattle.sector_model.specs.declared.event.Event.{Event}
@@ -26,7 +27,8 @@ use Rattle.array_io.specs.Believed.ArrayCalls.{Answer, Commits, Reads, written}
 use Rattle.array_io.specs.Believed.Holds.{Holds}
 use Rattle.array_io.specs.Believed.Moments.{HoldsNow}
 use Rattle.array_io.specs.Believed.Settled.{IsLostSlot, rows_by}
-use Rattle.array_io.specs.Believed.Views.{ArrayView, EndsIt, DeviceFailed as HasOneFailed, GoesOn, HasEnded, HasLostOne, IsEndOf, IsWorn, RestsOn, StaysButForFailures}
+use Rattle.array_io.specs.Believed.Views.{ArrayView, EndsIt, DeviceFailed as HasOneFailed, GoesOn, HasEnded, HasLostOne, IsEndOf, IsWorn, RestsOn}
+use Rattle.array_io.specs.Believed.Views.{StaysButForFailures}
 use Rattle.array_io.proofs.Laws.Beginning.{holds_at_rest, lost_at_rest, state_in_sync}
 use Rattle.array_io.proofs.Calls.CallSteps.{goes_on_both, one_more, stays_both}
 use Rattle.array_io.proofs.Images.Codecs.{spellings}
@@ -94,7 +96,10 @@ out_at_rest table lost of_set is = elim (state_in_sync (state_at table.states lo
 still_lost : (array : ArrayView) (lost : Option Lost) (V : List Bytes) → RestsOn array lost V → IsLostAfter lost array.table lost
 still_lost array None V rests = inl (complete_at_rest array.table rests.lost_slot, refl)
 still_lost array (Some lost) V rests =
-    inr (out_at_rest array.table lost (lost_at_rest spellings array.panel.devices array.table array.number array.history (Some lost) V rests).0 rests.lost_slot, refl)
+    inr (
+      out_at_rest array.table lost (lost_at_rest spellings array.panel.devices array.table array.number array.history (Some lost) V rests).0 rests.lost_slot,
+      refl,
+    )
 
 -- none was lost before, and one failed, with nothing away
 record HasFailedSince (slots : ℕ) (before : Option Lost) (h : History) (after : Option Lost) : Type 0 where
@@ -112,7 +117,8 @@ missing_differs : Missing ≡ InSync → ⊥
 missing_differs is = cc
 
 -- where a slot was marked missing
-lost_by_failure : (old mid : ArrayView) → HasLostOne old mid → IsTrueTo mid.panel mid.history → (before after : Option Lost) → IsLostAfter before mid.table after
+lost_by_failure : (old mid : ArrayView) → HasLostOne old mid → IsTrueTo mid.panel mid.history → (before after : Option Lost)
+    → IsLostAfter before mid.table after
     → IsLostSince (slots_of old.table) before mid.history after
 lost_by_failure old mid failure true_to before after is = by_lost before after is
   where
@@ -137,7 +143,8 @@ lost_by_failure old mid failure true_to before after is = by_lost before after i
     }
 
 -- what is lost after a row of calls that was answered
-lost_since : (honest : Type 0) (old mid : ArrayView) (lost after : Option Lost) (V : List Bytes) → RestsOn old lost V → StaysButForFailures honest old mid ⊥ → IsTrueTo mid.panel mid.history
+lost_since : (honest : Type 0) (old mid : ArrayView) (lost after : Option Lost) (V : List Bytes) → RestsOn old lost V → StaysButForFailures honest old mid ⊥
+    → IsTrueTo mid.panel mid.history
     → IsLostAfter lost mid.table after → IsLostSince (slots_of old.table) lost mid.history after
 lost_since honest old mid lost after V rests stays true_to is = elim stays.table [
   | inl same ↦ inl (lost_after_is_one lost old.table after lost (subst (λ (t : Table). IsLostAfter lost t after) same is) (still_lost old lost V rests))
@@ -145,7 +152,8 @@ lost_since honest old mid lost after V rests stays true_to is = elim stays.table
 ]
 
 -- a slot whose device is down is the lost one, where none was lost
-failed_at : (slots slot : ℕ) (h : History) (after : Option Lost) → slot < slots → is_down h slot ≡ true → IsLostAt slots None h after → IsLostAt slots (Some (alone slot)) h after
+failed_at : (slots slot : ℕ) (h : History) (after : Option Lost) → slot < slots → is_down h slot ≡ true → IsLostAt slots None h after
+    → IsLostAt slots (Some (alone slot)) h after
 failed_at slots slot h after of_set down (inl (none, up)) = absurd (differ (sym down ∙ up slot of_set))
 failed_at slots slot h after of_set down (inr failure) = elim (cases_eq slot failure.slot) [
   | inr apart ↦ absurd (differ (sym down ∙ failure.others slot of_set apart))
@@ -157,19 +165,23 @@ failed_at slots slot h after of_set down (inr failure) = elim (cases_eq slot fai
 ]
 
 -- what is lost at a later moment, by what was lost at the first
-lost_at_later : (slots : ℕ) (lost between after : Option Lost) (mid h : History) → IsLostSince slots lost mid between → StaysDown mid h → IsLostAt slots lost h after
+lost_at_later : (slots : ℕ) (lost between after : Option Lost) (mid h : History) → IsLostSince slots lost mid between → StaysDown mid h
+    → IsLostAt slots lost h after
     → IsLostAt slots between h after
 lost_at_later slots lost between after mid h (inl same) stays lost_at = subst (λ (l : Option Lost). IsLostAt slots l h after) (sym same) lost_at
 lost_at_later slots lost between after mid h (inr failure) stays lost_at =
     subst (λ (l : Option Lost). IsLostAt slots l h after) (sym failure.lost)
-    (failed_at slots failure.slot h after failure.of_set (stays failure.slot failure.down) (subst (λ (l : Option Lost). IsLostAt slots l h after) failure.none lost_at))
+    (failed_at slots failure.slot h after failure.of_set (stays failure.slot failure.down)
+    (subst (λ (l : Option Lost). IsLostAt slots l h after) failure.none lost_at))
 
 -- and what is lost after the second row of calls, by what was lost before the first
-lost_after_later : (slots : ℕ) (table : Table) (lost between after : Option Lost) (mid : History) → IsLostSince slots lost mid between → IsLostAfter between table after
+lost_after_later : (slots : ℕ) (table : Table) (lost between after : Option Lost) (mid : History) → IsLostSince slots lost mid between
+    → IsLostAfter between table after
     → IsLostAfter lost table after
 lost_after_later slots table lost between after mid (inl same) is = subst (λ (l : Option Lost). IsLostAfter l table after) same is
 lost_after_later slots table lost between after mid (inr failure) is =
-    subst (λ (l : Option Lost). IsLostAfter l table after) (sym failure.none) (by_failure (subst (λ (l : Option Lost). IsLostAfter l table after) failure.lost is))
+    subst (λ (l : Option Lost). IsLostAfter l table after) (sym failure.none)
+    (by_failure (subst (λ (l : Option Lost). IsLostAfter l table after) failure.lost is))
   where
     by_failure : IsLostAfter (Some (alone failure.slot)) table after → IsLostAfter None table after
     by_failure (inl complete) = inl complete
@@ -196,7 +208,8 @@ stays_down new (then_also event h so_far is) =
 
 -- moments by a later table, and by what was lost then
 
-holds_before : (base later : Table) (devices devices' : ℕ) (case : Case) (X : List (List Bytes)) → devices' ≡ devices → IsNotOlder base later → Holds later devices' case X
+holds_before : (base later : Table) (devices devices' : ℕ) (case : Case) (X : List (List Bytes)) → devices' ≡ devices → IsNotOlder base later
+    → Holds later devices' case X
     → Holds base devices case X
 holds_before base later devices devices' case X same older holds = subst (λ (d : ℕ). Holds base d case X) same record {
   table = holds.table;
@@ -207,27 +220,33 @@ holds_before base later devices devices' case X same older holds = subst (λ (d 
   one_counts = holds.one_counts;
 }
 
-for_some_before : (old mid : ArrayView) (lost between : Option Lost) (kind kind' : Kind) (h : History) → GoesOn old mid → IsLostSince (slots_of old.table) lost mid.history between
+for_some_before : (old mid : ArrayView) (lost between : Option Lost) (kind kind' : Kind) (h : History) → GoesOn old mid
+    → IsLostSince (slots_of old.table) lost mid.history between
     → ((logical : List Bytes) → kind' logical → kind logical) → StaysDown mid.history h → HoldsForSomeNow mid.table mid.panel.devices between kind' h
     → HoldsForSomeNow old.table old.panel.devices lost kind h
 for_some_before old mid lost between kind kind' h goes since more stays now after image lost_at may = record {
   lists = some.lists;
-  holds = holds_before old.table mid.table old.panel.devices mid.panel.devices record { image = image; lost = after } some.lists goes.later.devices goes.not_older some.holds;
+  holds = holds_before old.table mid.table old.panel.devices mid.panel.devices record { image = image; lost = after } some.lists goes.later.devices
+      goes.not_older some.holds;
   each = λ logical among. more logical (some.each logical among);
 }
   where
     some : HoldsForSome mid.table mid.panel.devices record { image = image; lost = after } kind'
     some = now after image
-        (subst (λ (g : Geometry). IsLostAt (g.members + 2) between h after) (sym goes.not_older.same_geometry) (lost_at_later (slots_of old.table) lost between after mid.history h since stays lost_at))
+        (subst (λ (g : Geometry). IsLostAt (g.members + 2) between h after) (sym goes.not_older.same_geometry)
+        (lost_at_later (slots_of old.table) lost between after mid.history h since stays lost_at))
         may
 
-moments_before : (old mid : ArrayView) (lost between : Option Lost) (kind kind' : Kind) (new : History) → GoesOn old mid → IsLostSince (slots_of old.table) lost mid.history between
+moments_before : (old mid : ArrayView) (lost between : Option Lost) (kind kind' : Kind) (new : History) → GoesOn old mid
+    → IsLostSince (slots_of old.table) lost mid.history between
     → ((logical : List Bytes) → kind' logical → kind logical) → Throughout (HoldsForSomeNow mid.table mid.panel.devices between kind') mid.history new
     → Throughout (HoldsForSomeNow old.table old.panel.devices lost kind) mid.history new
 moments_before old mid lost between kind kind' new goes since more moments =
-    throughout_more (λ h both. for_some_before old mid lost between kind kind' h goes since more both.0 both.1) new (throughout_both new (stays_down new moments) moments)
+    throughout_more (λ h both. for_some_before old mid lost between kind kind' h goes since more both.0 both.1) new
+    (throughout_both new (stays_down new moments) moments)
 
-for_some_more : (base : Table) (devices : ℕ) (before : Option Lost) (kind kind' : Kind) → ((logical : List Bytes) → kind' logical → kind logical) → (old new : History)
+for_some_more : (base : Table) (devices : ℕ) (before : Option Lost) (kind kind' : Kind) → ((logical : List Bytes) → kind' logical → kind logical)
+    → (old new : History)
     → Throughout (HoldsForSomeNow base devices before kind') old new → Throughout (HoldsForSomeNow base devices before kind) old new
 for_some_more base devices before kind kind' more old new moments = throughout_more (λ h now after image lost_at may.
     let some : HoldsForSome base devices record { image = image; lost = after } kind' = now after image lost_at may in
@@ -235,27 +254,34 @@ for_some_more base devices before kind kind' more old new moments = throughout_m
 
 -- two rows of calls, the second from where the first left the array
 
-module _ (honest still : Type 0) (goes_honest : honest → still) (first second : ℕ) (passes1 leaves1 passes2 leaves2 passes leaves : Change) (old mid new : ArrayView) (answer : Answer)
-    (true_to : honest → IsTrueTo mid.panel mid.history) (one : ChangesList honest first passes1 leaves1 old mid (Ok tt)) (two : ChangesList still second passes2 leaves2 mid new answer) where
+module _ (honest still : Type 0) (goes_honest : honest → still) (first second : ℕ) (passes1 leaves1 passes2 leaves2 passes leaves : Change)
+    (old mid new : ArrayView) (answer : Answer)
+    (true_to : honest → IsTrueTo mid.panel mid.history) (one : ChangesList honest first passes1 leaves1 old mid (Ok tt))
+    (two : ChangesList still second passes2 leaves2 mid new answer) where
   both_stay : StaysButForFailures honest old new (HasEnded answer)
-  both_stay = stays_both honest old mid new (HasEnded answer) one.goes_on two.goes_on one.stays record { table = two.stays.table; failure = λ is. two.stays.failure (goes_honest is) }
+  both_stay = stays_both honest old mid new (HasEnded answer) one.goes_on two.goes_on one.stays
+      record { table = two.stays.table; failure = λ is. two.stays.failure (goes_honest is) }
 
-  lost_between : (is : honest) (lost : Option Lost) (V : List Bytes) (rests : RestsOn old lost V) → IsLostSince (slots_of old.table) lost mid.history (one.rests is refl lost V rests).rests.lost
+  lost_between : (is : honest) (lost : Option Lost) (V : List Bytes) (rests : RestsOn old lost V)
+      → IsLostSince (slots_of old.table) lost mid.history (one.rests is refl lost V rests).rests.lost
   lost_between is lost V rests =
       let after = (one.rests is refl lost V rests).rests in
       lost_since honest old mid lost after.lost V rests one.stays (true_to is) after.is_lost
 
-  moments_both : ((V W : List Bytes) → passes1 V W → passes V W) → ((V U W : List Bytes) → leaves1 V U → passes2 U W → passes V W) → honest → (lost : Option Lost) (V : List Bytes) → RestsOn old lost V
+  moments_both : ((V W : List Bytes) → passes1 V W → passes V W) → ((V U W : List Bytes) → leaves1 V U → passes2 U W → passes V W) → honest
+      → (lost : Option Lost) (V : List Bytes) → RestsOn old lost V
       → Throughout (HoldsForSomeNow old.table old.panel.devices lost (passes V)) old.history new.history
   moments_both more then_more is lost V rests =
       let half = one.rests is refl lost V rests in
       throughout_on mid.history
       (for_some_more old.table old.panel.devices lost (passes V) (passes1 V) (more V) old.history mid.history (one.moments is lost V rests))
       new.history
-      (moments_before old mid lost half.rests.lost (passes V) (passes2 half.logical) new.history one.goes_on (lost_between is lost V rests) (λ W. then_more V half.logical W half.is)
+      (moments_before old mid lost half.rests.lost (passes V) (passes2 half.logical) new.history one.goes_on (lost_between is lost V rests)
+      (λ W. then_more V half.logical W half.is)
       (two.moments (goes_honest is) half.rests.lost half.logical half.rests.rests))
 
-  rests_both : ((V U W : List Bytes) → leaves1 V U → leaves2 U W → leaves V W) → honest → answer ≡ Ok tt → (lost : Option Lost) (V : List Bytes) → RestsOn old lost V → RestsOnSome lost new (leaves V)
+  rests_both : ((V U W : List Bytes) → leaves1 V U → leaves2 U W → leaves V W) → honest → answer ≡ Ok tt → (lost : Option Lost) (V : List Bytes)
+      → RestsOn old lost V → RestsOnSome lost new (leaves V)
   rests_both leave is ok lost V rests =
       let half = one.rests is refl lost V rests in
       let whole = two.rests (goes_honest is) ok half.rests.lost half.logical half.rests.rests in
@@ -264,7 +290,8 @@ module _ (honest still : Type 0) (goes_honest : honest → still) (first second 
         is = leave V half.logical whole.logical half.is whole.is;
         rests = record {
           lost = whole.rests.lost;
-          is_lost = lost_after_later (slots_of old.table) new.table lost half.rests.lost whole.rests.lost mid.history (lost_between is lost V rests) whole.rests.is_lost;
+          is_lost = lost_after_later (slots_of old.table) new.table lost half.rests.lost whole.rests.lost mid.history (lost_between is lost V rests)
+              whole.rests.is_lost;
           rests = whole.rests.rests;
         };
       }
@@ -277,22 +304,28 @@ module _ (honest still : Type 0) (goes_honest : honest → still) (first second 
       (worn_before old mid new (one_more honest old new (HasEnded answer) both_stay)) number_both refusal (two.cause refusal is)
 
 -- Two rows of calls are one: from each list that the first may leave the second goes on; what is honest at the start is so between them.
-pub changes_both : (honest still : Type 0) → (honest → still) → (first second : ℕ) (passes1 leaves1 passes2 leaves2 passes leaves : Change) (old mid new : ArrayView) (answer : Answer)
-    → (honest → IsTrueTo mid.panel mid.history) → ChangesList honest first passes1 leaves1 old mid (Ok tt) → ChangesList still second passes2 leaves2 mid new answer
-    → ((V W : List Bytes) → passes1 V W → passes V W) → ((V U W : List Bytes) → leaves1 V U → passes2 U W → passes V W) → ((V U W : List Bytes) → leaves1 V U → leaves2 U W → leaves V W)
+pub changes_both : (honest still : Type 0) → (honest → still)
+    → (first second : ℕ) (passes1 leaves1 passes2 leaves2 passes leaves : Change) (old mid new : ArrayView) (answer : Answer)
+    → (honest → IsTrueTo mid.panel mid.history) → ChangesList honest first passes1 leaves1 old mid (Ok tt)
+    → ChangesList still second passes2 leaves2 mid new answer
+    → ((V W : List Bytes) → passes1 V W → passes V W) → ((V U W : List Bytes) → leaves1 V U → passes2 U W → passes V W)
+    → ((V U W : List Bytes) → leaves1 V U → leaves2 U W → leaves V W)
     → ChangesList honest (first + second) passes leaves old new answer
-changes_both honest still goes_honest first second passes1 leaves1 passes2 leaves2 passes leaves old mid new answer true_to one two more then_more leave = record {
-  goes_on = goes_on_both old mid new one.goes_on two.goes_on;
-  stays = both_stay honest still goes_honest first second passes1 leaves1 passes2 leaves2 passes leaves old mid new answer true_to one two;
-  number = λ ok. omega (arith, one.number refl, two.number ok);
-  moments = moments_both honest still goes_honest first second passes1 leaves1 passes2 leaves2 passes leaves old mid new answer true_to one two more then_more;
-  rests = rests_both honest still goes_honest first second passes1 leaves1 passes2 leaves2 passes leaves old mid new answer true_to one two leave;
-  cause = cause_both honest still goes_honest first second passes1 leaves1 passes2 leaves2 passes leaves old mid new answer true_to one two;
-}
+changes_both honest still goes_honest first second passes1 leaves1 passes2 leaves2 passes leaves old mid new answer true_to one two more then_more leave =
+    record {
+      goes_on = goes_on_both old mid new one.goes_on two.goes_on;
+      stays = both_stay honest still goes_honest first second passes1 leaves1 passes2 leaves2 passes leaves old mid new answer true_to one two;
+      number = λ ok. omega (arith, one.number refl, two.number ok);
+      moments = moments_both honest still goes_honest first second passes1 leaves1 passes2 leaves2 passes leaves old mid new answer true_to one two more
+          then_more;
+      rests = rests_both honest still goes_honest first second passes1 leaves1 passes2 leaves2 passes leaves old mid new answer true_to one two leave;
+      cause = cause_both honest still goes_honest first second passes1 leaves1 passes2 leaves2 passes leaves old mid new answer true_to one two;
+    }
 
 -- no call
 
-pub changes_none : (honest : Type 0) (entries : ℕ) (passes leaves : Change) (array : ArrayView) → ((V : List Bytes) → passes V V) → ((V : List Bytes) → leaves V V)
+pub changes_none : (honest : Type 0) (entries : ℕ) (passes leaves : Change) (array : ArrayView) → ((V : List Bytes) → passes V V)
+    → ((V : List Bytes) → leaves V V)
     → ChangesList honest entries passes leaves array array (Ok tt)
 changes_none honest entries passes leaves array pass leave = record {
   goes_on = record { later = later_same array.panel; not_older = not_older_same array.table; number = omega arith; its_slots = λ slots. slots };
@@ -321,7 +354,8 @@ changes_commit honest sectors old new answer commits = record {
   stays = commits.stays;
   number = λ ok. omega (arith, commits.number ok);
   moments = λ is lost V rests. throughout_more
-      (λ h. for_some old.table old.panel.devices lost (V ∷ written V sectors ∷ []) (λ W. (W ≡ V) ⊎ (W ≡ written V sectors)) h (one_of_two V (written V sectors)))
+      (λ h. for_some old.table old.panel.devices lost (V ∷ written V sectors ∷ []) (λ W. (W ≡ V) ⊎ (W ≡ written V sectors)) h
+      (one_of_two V (written V sectors)))
       new.history (commits.moments is lost V rests);
   rests = λ is ok lost V rests. record { logical = written V sectors; is = refl; rests = commits.rests is ok lost V rests };
   cause = λ refusal is. ends_so old old new (GREATEST_COUNT ≤ old.number) (IsNumberFull 1 old new) (same_worn old new)
@@ -339,7 +373,8 @@ changes_read honest logical old new to answer reads = record {
   goes_on = reads.goes_on;
   stays = reads.stays;
   number = λ ok. omega (arith, reads.number);
-  moments = λ is lost V rests. throughout_more (λ h. for_some old.table old.panel.devices lost (V ∷ []) (IsSame V) h (one_of V)) new.history (reads.keeps.moments is lost V rests);
+  moments = λ is lost V rests. throughout_more (λ h. for_some old.table old.panel.devices lost (V ∷ []) (IsSame V) h (one_of V)) new.history
+      (reads.keeps.moments is lost V rests);
   rests = λ is ok lost V rests. record { logical = V; is = refl; rests = reads.keeps.rests is (not_ended answer ok) lost V rests };
   cause = λ refusal is. ends_so old old new ⊥ (IsNumberFull 0 old new) (same_worn old new) (λ none. absurd none) refusal (reads.cause refusal is);
 }
@@ -350,30 +385,37 @@ full_more : (few many : ℕ) (old new : ArrayView) → few ≤ many → IsNumber
 full_more few many old new less (before, full) = (omega (arith, less, before), full)
 
 -- more entries and more lists, from each list on which the array is settled
-pub changes_more : (honest : Type 0) (few many : ℕ) (passes leaves passes' leaves' : Change) (old new : ArrayView) (answer : Answer) → few ≤ many → ChangesList honest few passes leaves old new answer
-    → ((lost : Option Lost) (V W : List Bytes) → RestsOn old lost V → passes V W → passes' V W) → ((lost : Option Lost) (V W : List Bytes) → RestsOn old lost V → leaves V W → leaves' V W)
+pub changes_more : (honest : Type 0) (few many : ℕ) (passes leaves passes' leaves' : Change) (old new : ArrayView) (answer : Answer) → few ≤ many
+    → ChangesList honest few passes leaves old new answer
+    → ((lost : Option Lost) (V W : List Bytes) → RestsOn old lost V → passes V W → passes' V W)
+    → ((lost : Option Lost) (V W : List Bytes) → RestsOn old lost V → leaves V W → leaves' V W)
     → ChangesList honest many passes' leaves' old new answer
 changes_more honest few many passes leaves passes' leaves' old new answer less changes more leave = record {
   goes_on = changes.goes_on;
   stays = changes.stays;
   number = λ ok. omega (arith, less, changes.number ok);
-  moments = λ is lost V rests. for_some_more old.table old.panel.devices lost (passes' V) (passes V) (λ W. more lost V W rests) old.history new.history (changes.moments is lost V rests);
+  moments = λ is lost V rests. for_some_more old.table old.panel.devices lost (passes' V) (passes V) (λ W. more lost V W rests) old.history new.history
+      (changes.moments is lost V rests);
   rests = λ is ok lost V rests.
       let some = changes.rests is ok lost V rests in
       record { logical = some.logical; is = leave lost V some.logical rests some.is; rests = some.rests };
-  cause = λ refusal is. ends_so old old new (IsNumberFull few old new) (IsNumberFull many old new) (same_worn old new) (full_more few many old new less) refusal (changes.cause refusal is);
+  cause = λ refusal is. ends_so old old new (IsNumberFull few old new) (IsNumberFull many old new) (same_worn old new) (full_more few many old new less) refusal
+      (changes.cause refusal is);
 }
 
 -- a row that was refused leaves nothing that could be said
 pub changes_refused : (honest : Type 0) (few many : ℕ) (passes leaves passes' leaves' : Change) (old new : ArrayView) (refusal : Refusal) → few ≤ many
-    → ChangesList honest few passes leaves old new (Err refusal) → ((V W : List Bytes) → passes V W → passes' V W) → ChangesList honest many passes' leaves' old new (Err refusal)
+    → ChangesList honest few passes leaves old new (Err refusal) → ((V W : List Bytes) → passes V W → passes' V W)
+    → ChangesList honest many passes' leaves' old new (Err refusal)
 changes_refused honest few many passes leaves passes' leaves' old new refusal less changes more = record {
   goes_on = changes.goes_on;
   stays = changes.stays;
   number = λ ok. absurd (cc);
-  moments = λ is lost V rests. for_some_more old.table old.panel.devices lost (passes' V) (passes V) (more V) old.history new.history (changes.moments is lost V rests);
+  moments = λ is lost V rests. for_some_more old.table old.panel.devices lost (passes' V) (passes V) (more V) old.history new.history
+      (changes.moments is lost V rests);
   rests = λ is ok. absurd (cc);
-  cause = λ why is. ends_so old old new (IsNumberFull few old new) (IsNumberFull many old new) (same_worn old new) (full_more few many old new less) why (changes.cause why is);
+  cause = λ why is. ends_so old old new (IsNumberFull few old new) (IsNumberFull many old new) (same_worn old new) (full_more few many old new less) why
+      (changes.cause why is);
 }
 
 -- a refusal of such a row is 15 or 16
@@ -383,7 +425,8 @@ end_of old new counter TwoLost end = tt
 end_of old new counter Worn end = tt
 end_of old new counter refusal end = absurd end
 
-pub end_is : (honest : Type 0) (entries : ℕ) (passes leaves : Change) (old new : ArrayView) (refusal : Refusal) → ChangesList honest entries passes leaves old new (Err refusal) → EndsIt refusal
+pub end_is : (honest : Type 0) (entries : ℕ) (passes leaves : Change) (old new : ArrayView) (refusal : Refusal)
+    → ChangesList honest entries passes leaves old new (Err refusal) → EndsIt refusal
 end_is honest entries passes leaves old new refusal changes = end_of old new (IsNumberFull entries old new) refusal (changes.cause refusal refl)
 
 -- the list on which an array is settled has all its data sectors

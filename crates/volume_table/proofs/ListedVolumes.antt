@@ -1,5 +1,6 @@
 -- The list of the volumes of a table.
-use Rattle.std.proofs.Common.{◌≡◌, inl, inr, ℕ, zero, suc, ◌+◌, ◌<◌, ◌≤◌, List, [], ◌∷◌, length, drop, cond, Option, Some, None, refl, sym, ap, ap₂, subst, ◌∙◌, arith}
+use Rattle.std.proofs.Common.{◌≡◌, inl, inr, ℕ, zero, suc, ◌+◌, ◌<◌, ◌≤◌, List, [], ◌∷◌, length, drop, cond, Option, Some, None, refl, sym, ap, ap₂, subst, ◌∙◌}
+use Rattle.std.proofs.Common.{arith}
 use Rattle.std.specs.declared.cmp.Ordering.{Ordering}
 use Rattle.std.specs.declared.cmp.Ordering.TheVariants.{Less, Equal, Greater}
 use Rattle.std.specs.Ordering.{is_eq, match_ordering}
@@ -64,7 +65,8 @@ told_of : (new : Listed) (volume : Volume) → IsToldOf new volume → told_one 
 told_of new volume is = ap₂ (λ (n : List ℕ) (c : ℕ). (n, c)) is.named is.as_long
 
 -- put there, it is told where the volume is
-put_in_order : (items : List Listed) (volumes : VolumeList) (place : ℕ) (new : Listed) (volume : Volume) → told items ≡ lengths_of volumes → IsToldOf new volume → blocks_of volume.name volumes ≡ None
+put_in_order : (items : List Listed) (volumes : VolumeList) (place : ℕ) (new : Listed) (volume : Volume) → told items ≡ lengths_of volumes → IsToldOf new volume
+    → blocks_of volume.name volumes ≡ None
     → IsPlaceFor items new.name.bytes.items place → told (insert items place new) ≡ lengths_of (with_volume volume volumes)
 put_in_order [] [] zero new volume same is none at = ap (λ (pair : List ℕ × ℕ). pair ∷ []) (told_of new volume is)
 put_in_order [] [] (suc place) new volume same is none at = absurd (omega (arith, at.within))
@@ -79,7 +81,8 @@ put_in_order (item ∷ items) (one ∷ volumes) zero new volume same is none at 
 
     less : Less ≡ name_order volume.name one.name
     less = sym (at.before item (omega arith)) ∙ ap₂ name_order is.named named
-put_in_order (item ∷ items) (one ∷ volumes) (suc place) new volume same is none at = by_case (put_in_order items volumes place new volume rest is) (name_order volume.name one.name) refl
+put_in_order (item ∷ items) (one ∷ volumes) (suc place) new volume same is none at =
+    by_case (put_in_order items volumes place new volume rest is) (name_order volume.name one.name) refl
   where
     first : told_one item ≡ length_of one
     first = first_same (told_one item) (length_of one) (told items) (lengths_of volumes) same
@@ -94,7 +97,8 @@ put_in_order (item ∷ items) (one ∷ volumes) (suc place) new volume same is n
       before = λ blank below. at.before blank (omega (arith, below));
     }
 
-    by_case : (blocks_of volume.name volumes ≡ None → IsPlaceFor items new.name.bytes.items place → told (insert items place new) ≡ lengths_of (with_volume volume volumes))
+    by_case : (blocks_of volume.name volumes ≡ None → IsPlaceFor items new.name.bytes.items place
+        → told (insert items place new) ≡ lengths_of (with_volume volume volumes))
         → (o : Ordering) → name_order volume.name one.name ≡ o
         → told (item ∷ insert items place new) ≡ lengths_of (match_ordering o (volume ∷ one ∷ volumes) (volume ∷ volumes) (one ∷ with_volume volume volumes))
     by_case rec Less e = absurd (at.not_before 0 item (omega arith) (ap₂ name_order is.named (ap (λ (pair : List ℕ × ℕ). pair.0) first) ∙ e))
@@ -114,36 +118,47 @@ lists_none table extents sectors volumes by =
     ap (λ (records : List (Option Record)). lengths_of (listed volumes.volumes records)) (sym (drop_all MOST_VOLUMES table.records all))
 
 -- the records from one on
-from_record : (table : VolumeTable) (number : ℕ) (one : Option Record) → number < MOST_VOLUMES → record_of table.records number ≡ one → drop number table.records ≡ one ∷ drop (number + 1) table.records
+from_record : (table : VolumeTable) (number : ℕ) (one : Option Record) → number < MOST_VOLUMES → record_of table.records number ≡ one
+    → drop number table.records ≡ one ∷ drop (number + 1) table.records
 from_record table number one below is =
     let all : number < length table.records = omega (arith, below, all_records table) in
     drop_more table.records number None all ∙ ap (λ (o : Option Record). o ∷ drop (number + 1) table.records) is
 
-pub lists_unused : (table : VolumeTable) (number : ℕ) (items : List Listed) → number < MOST_VOLUMES → record_of table.records number ≡ None → ListsFrom table (number + 1) items → ListsFrom table number items
+pub lists_unused : (table : VolumeTable) (number : ℕ) (items : List Listed) → number < MOST_VOLUMES → record_of table.records number ≡ None
+    → ListsFrom table (number + 1) items → ListsFrom table number items
 lists_unused table number items below none so_far extents sectors volumes by =
-    so_far extents sectors volumes by ∙ ap (λ (records : List (Option Record)). lengths_of (listed volumes.volumes records)) (sym (from_record table number None below none))
+    so_far extents sectors volumes by ∙ ap (λ (records : List (Option Record)). lengths_of (listed volumes.volumes records))
+    (sym (from_record table number None below none))
 
 distinct_from : (records : List (Option Record)) (n : ℕ) → AreDistinct records → AreDistinct (drop n records)
 distinct_from records n distinct i j first second one two same =
-    let next : n + i ≡ n + j = distinct (n + i) (n + j) first second (sym (get_or-drop n records i None) ∙ one) (sym (get_or-drop n records j None) ∙ two) same in
+    let next : n + i ≡ n + j = distinct (n + i) (n + j) first second (sym (get_or-drop n records i None) ∙ one) (sym (get_or-drop n records j None) ∙ two)
+    same in
     omega (arith, next)
 
-shown_by_table : (extents : ℕ) (table : VolumeTable) (sectors : List Block) (volumes : VolumeMap) → ShowsBy extents table sectors volumes → AreShown EXTENT_SECTORS table.records table.extents sectors volumes.volumes
-shown_by_table extents table sectors volumes by = subst (λ (t : VolumeTable). AreShown EXTENT_SECTORS t.records t.extents sectors volumes.volumes) by.by by.shows.shown
+shown_by_table : (extents : ℕ) (table : VolumeTable) (sectors : List Block) (volumes : VolumeMap) → ShowsBy extents table sectors volumes
+    → AreShown EXTENT_SECTORS table.records table.extents sectors volumes.volumes
+shown_by_table extents table sectors volumes by = subst (λ (t : VolumeTable). AreShown EXTENT_SECTORS t.records t.extents sectors volumes.volumes) by.by
+    by.shows.shown
 
-pub lists_used : (table : VolumeTable) (number : ℕ) (items more : List Listed) (new : Listed) (entry : Record) → number < MOST_VOLUMES → record_of table.records number ≡ Some entry
-    → new.name.bytes.items ≡ entry.name.bytes.items → new.blocks ≡ entry.blocks → IsPutInto items more new → ListsFrom table (number + 1) items → ListsFrom table number more
+pub lists_used : (table : VolumeTable) (number : ℕ) (items more : List Listed) (new : Listed) (entry : Record) → number < MOST_VOLUMES
+    → record_of table.records number ≡ Some entry
+    → new.name.bytes.items ≡ entry.name.bytes.items → new.blocks ≡ entry.blocks → IsPutInto items more new → ListsFrom table (number + 1) items
+    → ListsFrom table number more
 lists_used table number items more new entry below used named as_long put so_far extents sectors volumes by =
     let rest = drop (number + 1) table.records in
     let parts = from_record table number (Some entry) below used in
-    let distinct : AreDistinct (Some entry ∷ rest) = subst AreDistinct parts (distinct_from table.records number (distinct_names table.version table.records table.extents table.is_table)) in
+    let distinct : AreDistinct (Some entry ∷ rest) = subst AreDistinct parts
+    (distinct_from table.records number (distinct_names table.version table.records table.extents table.is_table)) in
     let long = record_blocks table.records table.extents sectors volumes.volumes (shown_by_table extents table sectors volumes by) number entry used in
     ap told put.is
-    ∙ put_in_order items (listed volumes.volumes rest) put.place new (volume_of volumes.volumes entry) (so_far extents sectors volumes by) (record { named = named; as_long = as_long ∙ sym long })
+    ∙ put_in_order items (listed volumes.volumes rest) put.place new (volume_of volumes.volumes entry) (so_far extents sectors volumes by)
+    (record { named = named; as_long = as_long ∙ sym long })
     (not_again volumes.volumes entry rest distinct) put.at
     ∙ ap (λ (records : List (Option Record)). lengths_of (listed volumes.volumes records)) (sym parts)
 
-pub lists_all : (table : VolumeTable) (items : List Listed) → ListsFrom table 0 items → (extents : ℕ) (sectors : List Block) (volumes : VolumeMap) → ShowsBy extents table sectors volumes
+pub lists_all : (table : VolumeTable) (items : List Listed) → ListsFrom table 0 items → (extents : ℕ) (sectors : List Block) (volumes : VolumeMap)
+    → ShowsBy extents table sectors volumes
     → told items ≡ lengths_of volumes.volumes
 lists_all table items so_far extents sectors volumes by =
     so_far extents sectors volumes by

@@ -1,5 +1,6 @@
 -- What commands on a set share: by what their array calls keep they leave the volumes as they are, and the set as their replies say.
-use Rattle.std.proofs.Common.{◌≡◌, ◌≢◌, ◌⊎◌, inl, inr, ℕ, suc, ◌+◌, ◌<◌, ◌≤◌, Bool, true, false, cond, List, [], ◌∷◌, length, map, take, Option, Some, None, Result, Ok, Err, refl, sym, ap, ap₂, subst, ◌∙◌, arith}
+use Rattle.std.proofs.Common.{◌≡◌, ◌≢◌, ◌⊎◌, inl, inr, ℕ, suc, ◌+◌, ◌<◌, ◌≤◌, Bool, true, false, cond, List, [], ◌∷◌, length, map, take, Option, Some, None}
+use Rattle.std.proofs.Common.{Result, Ok, Err, refl, sym, ap, ap₂, subst, ◌∙◌, arith}
 use Rattle.std.proofs.lemmas.Bool.{and_from, and_parts, true≢false}
 use Rattle.std.proofs.lemmas.List.{get_or-take}
 use Rattle.std.proofs.lemmas.List.Elements.{Contains-push, Contains-push_cases}
@@ -29,7 +30,8 @@ use Rattle.volume_table.specs.StoreCalls.{Applies, AreDevicesOf, EndsStore, Goes
 use Rattle.volume_table.specs.VolumeStep.{Names, OnSet, OnVolumes, Refused, Reply, Scrub, Scrubbed, SetCommand, Volumes, or_refused}
 use Rattle.volume_table.specs.Volumes.{VolumeMap}
 use Rattle.volume_table.proofs.OpenInstances.{array_goes_on, list_at_rest}
-use Rattle.volume_table.proofs.StoreSteps.{are_unsound, devices_in, generation_same, has_fault, incarnations_same, length-set_of, made, missing_is, no_position, unsound_rows}
+use Rattle.volume_table.proofs.StoreSteps.{are_unsound, devices_in, generation_same, has_fault, incarnations_same, length-set_of, made, missing_is, no_position}
+use Rattle.volume_table.proofs.StoreSteps.{unsound_rows}
 
 -- ---- the states of a table's set
 
@@ -120,7 +122,8 @@ are_devices_with honest old new unsound are failure = record {
 pub are_devices : (honest : Type 0) (old new : ArrayView)
     → (honest → (slot : ℕ) → slot < slots_of old.table → DeviceFailed slot old.panel new.panel → state_at new.table.states slot ≡ Missing)
     → AreDevicesOf honest old.table old.panel new.panel new.history (devices_in old new)
-are_devices honest old new failure = are_devices_with honest old new (unsound_rows old.table (readable new.history)) (λ fair. are_unsound old.table (readable new.history)) failure
+are_devices honest old new failure = are_devices_with honest old new (unsound_rows old.table (readable new.history))
+    (λ fair. are_unsound old.table (readable new.history)) failure
 
 -- What a command leaves of the set, by whether it is refused.
 pub set_left_by : (honest : Type 0) (command : SetCommand) (old new : StoreView) (reply : Reply) (devices : Devices) (refusal : Option Refusal)
@@ -134,7 +137,8 @@ set_left_by honest command old new reply devices refusal are refuses replied lea
   are = are;
   left = record {
     replied = replied ∙ sym (ap (λ o. or_refused o (set_answer devices command (set_of old.array.table))) refuses);
-    leaves = sym (ap (λ o. settled devices (set_or_same o (changed_set devices.rows command (set_of old.array.table)) (set_of old.array.table))) refuses ∙ leaves);
+    leaves = sym (ap (λ o. settled devices (set_or_same o (changed_set devices.rows command (set_of old.array.table)) (set_of old.array.table))) refuses
+        ∙ leaves);
   };
 }
 
@@ -149,7 +153,12 @@ stands_for base devices lost V volumes shown h now after image is may = record {
   holds = now after image is may;
   shown = λ logical among. elim (Contains-push_cases [] V logical among) [
     | inl (k, below, at) ↦ absurd (omega (arith, below))
-    | inr same ↦ record { volumes = volumes; among = Contains-push (volumes ∷ []) volumes; shown = subst (λ (l : List Bytes). Shows (extents_in base.geometry) l volumes) same shown }
+    | inr same ↦ record {
+      volumes = volumes;
+      among = Contains-push (volumes ∷ []) volumes;
+      shown =
+          subst (λ (l : List Bytes). Shows (extents_in base.geometry) l volumes) same shown;
+    }
   ];
 }
 
@@ -251,7 +260,8 @@ refused_replies A refusal = record {
   unended = λ unended. unended;
 }
 
-pub acts_on_set : (honest : Type 0) (command : SetCommand) (A : Type 0) (old new : StoreView) (answer : Result A Refusal) (reply : Reply) → IsReplyTo A answer reply
+pub acts_on_set : (honest : Type 0) (command : SetCommand) (A : Type 0) (old new : StoreView) (answer : Result A Refusal) (reply : Reply)
+    → IsReplyTo A answer reply
     → ActsOnSet honest command A old new answer reply → Applies honest (OnSet command) old new reply
 acts_on_set honest command A old new answer reply replies is = record {
   ended = λ refusal said. absurd (none_ended refusal (sym said ∙ is.kept.going));
@@ -266,7 +276,8 @@ acts_on_set honest command A old new answer reply replies is = record {
     listed = tt;
     scrubs = is.scrubs;
     moments = λ fair lost volumes settled.
-        subst (λ (l : Option Lost). StandsThroughout old.array.table old.array.panel.devices l (volumes ∷ volumes ∷ []) old.array.history new.array.history) (sym (is.lost_stays lost))
+        subst (λ (l : Option Lost). StandsThroughout old.array.table old.array.panel.devices l (volumes ∷ volumes ∷ []) old.array.history new.array.history)
+        (sym (is.lost_stays lost))
         (throughout_more (stands_for old.array.table old.array.panel.devices lost settled.logical volumes settled.shown) new.array.history
         (is.keeps.moments fair lost settled.logical settled.rests));
     answered = λ fair unended. tt;
@@ -300,7 +311,8 @@ refused_on_set honest command store refusal alive goes kept refuses = record {
     goes = λ unended. alive;
     listed = tt;
     scrubs = λ fair scrub rows bad first_bad is. absurd (refused_not_scrubbed refusal rows bad first_bad is);
-    moments = λ fair lost volumes settled. subst (λ (l : Option Lost). StandsThroughout store.array.table store.array.panel.devices l (volumes ∷ volumes ∷ []) store.array.history store.array.history)
+    moments = λ fair lost volumes settled. subst (λ (l : Option Lost). StandsThroughout store.array.table store.array.panel.devices l (volumes ∷ volumes ∷ [])
+        store.array.history store.array.history)
         (sym (kept lost)) ((at_rest lost volumes settled).moments fair lost volumes settled);
     answered = λ fair unended. tt;
     settled = λ fair unended lost volumes settled. subst (λ (l : Option Lost). IsSettledAfter l store volumes) (sym (kept lost))
@@ -309,6 +321,8 @@ refused_on_set honest command store refusal alive goes kept refuses = record {
 }
   where
     -- as a list of its volumes does
-    at_rest : (lost : Option Lost) (volumes : VolumeMap) → IsSettledOn store lost volumes → GoesThrough honest (OnVolumes Names) store store (Volumes (map (λ volume. (volume.name, length volume.blocks)) volumes.volumes))
+    at_rest : (lost : Option Lost) (volumes : VolumeMap) → IsSettledOn store lost volumes
+        → GoesThrough honest (OnVolumes Names) store store (Volumes (map (λ volume. (volume.name, length volume.blocks)) volumes.volumes))
     at_rest lost volumes settled =
-        (list_at_rest honest store volumes lost (unsound_rows store.array.table (readable store.array.history)) settled (are_unsound store.array.table (readable store.array.history))).going alive
+        (list_at_rest honest store volumes lost (unsound_rows store.array.table (readable store.array.history)) settled
+        (are_unsound store.array.table (readable store.array.history))).going alive

@@ -1,6 +1,7 @@
 -- Small cases that meet what opening a store promises, and what a list of volumes and a refused event of an open one promise.
 use Rattle.extents.specs.Owners.{owner_of}
-use Rattle.std.proofs.Common.{◌≤◌, ◌≡◌, inl, inr, ℕ, zero, suc, ◌<◌, ◌||◌, nat_lt, Bool, true, false, cond, List, [], ◌∷◌, length, map, take, Option, Some, None, refl, sym, ◌∙◌, ap, subst, arith}
+use Rattle.std.proofs.Common.{◌≤◌, ◌≡◌, inl, inr, ℕ, zero, suc, ◌<◌, ◌||◌, nat_lt, Bool, true, false, cond, List, [], ◌∷◌, length, map, take, Option, Some}
+use Rattle.std.proofs.Common.{None, refl, sym, ◌∙◌, ap, subst, arith}
 use Rattle.std.specs.Prelude.{is_none}
 use Rattle.std.proofs.lemmas.List.{get_or-take}
 use Rattle.std.proofs.lemmas.List.Elements.{Contains-append_left, Contains-push}
@@ -32,7 +33,8 @@ use Rattle.extents.proofs.TableLaws.{one_table}
 use Rattle.recovery.specs.Making.{BankView}
 use Rattle.scrub.specs.Scrubbing.{AreUnsound}
 use Rattle.volume_table.specs.Volumes.{VolumeMap, blocks_of}
-use Rattle.volume_table.specs.VolumeStep.{Command, Done, Names, OnVolumes, Refused, Remove, Reply, Volumes, done, has_no_volume, or_refused, reply_to, unless_refused, volumes_after}
+use Rattle.volume_table.specs.VolumeStep.{Command, Done, Names, OnVolumes, Refused, Remove, Reply, Volumes, done, has_no_volume, or_refused, reply_to}
+use Rattle.volume_table.specs.VolumeStep.{unless_refused, volumes_after}
 use Rattle.volume_table.specs.SetLaw.{IsZeroUnlessRebuilding}
 use Rattle.volume_table.specs.SetReplies.{Devices}
 use Rattle.volume_table.specs.StoreCalls.{Applies, EndsStore, GoesThrough, IsListed, SetIsLeft, extents_for_store, set_of}
@@ -57,7 +59,8 @@ OnReturned P (Returned bank refusal) = P bank refusal
 opened_is : (P : StoreView → Type 0) (given store : StoreView) → Opened given ≡ Opened store → P given → P store
 opened_is P given store is of_given = subst (OnOpened P) is of_given
 
-returned_is : (P : BankView → Refusal → Type 0) (given bank : BankView) (cause refusal : Refusal) → Returned given cause ≡ Returned bank refusal → P given cause → P bank refusal
+returned_is : (P : BankView → Refusal → Type 0) (given bank : BankView) (cause refusal : Refusal) → Returned given cause ≡ Returned bank refusal → P given cause
+    → P bank refusal
 returned_is P given bank cause refusal is of_given = subst (OnReturned P) is of_given
 
 not_opened : (A : Type 0) (bank : BankView) (refusal : Refusal) (store : StoreView) → Returned bank refusal ≡ Opened store → A
@@ -104,7 +107,11 @@ out_where_some table lost of_set is = elim (state_in_sync (state_at table.states
 
 lost_stays : (array : ArrayView) (lost : Option Lost) (V : List Bytes) → RestsOn array lost V → IsLostAfter lost array.table lost
 lost_stays array None V rests = inl (complete_where_none array.table rests.lost_slot, refl)
-lost_stays array (Some lost) V rests = inr (out_where_some array.table lost (lost_at_rest spellings array.panel.devices array.table array.number array.history (Some lost) V rests).0 rests.lost_slot, refl)
+lost_stays array (Some lost) V rests = inr (
+  out_where_some array.table lost
+      (lost_at_rest spellings array.panel.devices array.table array.number array.history (Some lost) V rests).0 rests.lost_slot,
+  refl,
+)
 
 -- the store of an array that keeps this table
 abbrev store_of : ArrayView → VolumeTable → StoreView
@@ -154,7 +161,8 @@ opens_none honest array none = record {
   settled = λ fair lost V volumes rests shown store is. not_opened (IsSettledAfter lost store volumes) (bank_of array) BadTable store is;
   spelled = λ fair lost V rests store is. not_opened (Spell V store.keeps) (bank_of array) BadTable store is;
   within = λ store is extent beyond. not_opened (owner_of store.keeps.extents extent ≡ None) (bank_of array) BadTable store is;
-  cause = λ bank refusal is. returned_is (λ b r. IsNoOpening honest array b r) (bank_of array) bank BadTable refusal is (λ fair. shows_nothing, λ fair up. none);
+  cause = λ bank refusal is. returned_is (λ b r. IsNoOpening honest array b r) (bank_of array) bank BadTable refusal is
+      (λ fair. shows_nothing, λ fair up. none);
 }
   where
     shows_nothing : ShowsNothing array
@@ -167,7 +175,8 @@ same_spelling : TablesHaveOneSpelling
 same_spelling sectors first second one two = one_table sectors first second one two
 
 -- a store is settled on one map of volumes at most
-one_map : (store : StoreView) (lost other : Option Lost) (volumes those : VolumeMap) → IsSettledOn store lost volumes → IsSettledOn store other those → those ≡ volumes
+one_map : (store : StoreView) (lost other : Option Lost) (volumes those : VolumeMap) → IsSettledOn store lost volumes → IsSettledOn store other those
+    → those ≡ volumes
 one_map store lost other volumes those settled also =
     let same : also.logical ≡ settled.logical = sym also.rests.listed ∙ settled.rests.listed in
     list_shows_one same_spelling (extents_for_store store) settled.logical those volumes
@@ -195,7 +204,8 @@ zero_position table none = table.allowed.no_position (λ slot is. differ (sym no
     ∙ is_rebuilt_there (take (slots_of table) table.states) slot
     (get_or-take (slots_of table) table.states slot Missing (omega (arith, table.allowed.rebuilds_member slot is)) ∙ is)))
 
-set_is_left : (honest : Type 0) (store : StoreView) (command : Command) (reply : Reply) (unsound : List ℕ) → AreUnsound store.array.table (readable store.array.history) unsound
+set_is_left : (honest : Type 0) (store : StoreView) (command : Command) (reply : Reply) (unsound : List ℕ)
+    → AreUnsound store.array.table (readable store.array.history) unsound
     → SetIsLeft honest (OnVolumes command) store store reply
 set_is_left honest store command reply unsound are = record {
   devices = idle_devices store unsound;
@@ -209,7 +219,8 @@ set_is_left honest store command reply unsound are = record {
   left = sym (volumes_leave_set (idle_devices store unsound) command (set_of store.array.table) (λ slot below. refl) (zero_position store.array.table));
 }
 
-stands_with : (array : ArrayView) (lost : Option Lost) (V : List Bytes) (volumes other : VolumeMap) → RestsOn array lost V → Shows (extents_in array.table.geometry) V volumes
+stands_with : (array : ArrayView) (lost : Option Lost) (V : List Bytes) (volumes other : VolumeMap) → RestsOn array lost V
+    → Shows (extents_in array.table.geometry) V volumes
     → StandsNow array.table array.panel.devices lost (volumes ∷ other ∷ []) array.history
 stands_with array lost V volumes other rests shown after image is may =
     let stands = stands_at_rest array.panel.devices array.table array.number array.history lost V volumes rests shown after image is may in
@@ -229,11 +240,14 @@ record LeavesThem (store : StoreView) (command : Command) (reply : Reply) (volum
   pub of_kind : IsListed (OnVolumes command) reply
   pub no_end : ¬ EndsStore reply
 
-leaves_settled : (store : StoreView) (command : Command) (reply : Reply) (volumes : VolumeMap) (lost : Option Lost) → LeavesThem store command reply volumes → IsSettledOn store lost volumes
-    → (other : Option Lost) (those : VolumeMap) → IsSettledOn store other those → IsSettledAfter other store (volumes_after (extents_for_store store) command those)
+leaves_settled : (store : StoreView) (command : Command) (reply : Reply) (volumes : VolumeMap) (lost : Option Lost) → LeavesThem store command reply volumes
+    → IsSettledOn store lost volumes
+    → (other : Option Lost) (those : VolumeMap) → IsSettledOn store other those
+    → IsSettledAfter other store (volumes_after (extents_for_store store) command those)
 leaves_settled store command reply volumes lost stays settled other those also =
     let one = one_map store lost other volumes those settled also in
-    let same : volumes_after (extents_for_store store) command those ≡ those = ap (volumes_after (extents_for_store store) command) one ∙ stays.leaves ∙ sym one in
+    let same : volumes_after (extents_for_store store) command those ≡ those = ap (volumes_after (extents_for_store store) command) one ∙ stays.leaves
+    ∙ sym one in
     record {
       lost = other;
       is_lost = lost_stays store.array other also.logical also.rests;
@@ -253,8 +267,10 @@ goes_through honest store command reply volumes lost unsound stays settled are =
   goes = λ going. stays.goes;
   listed = stays.of_kind;
   scrubs = λ fair is rows bad first_bad answered. read_none store.array.history;
-  moments = λ fair other those also. here (stands_with store.array other also.logical those (volumes_after (extents_for_store store) command those) also.rests also.shown);
-  answered = λ fair going other those also. inl (stays.replied ∙ ap (reply_to (extents_for_store store) command) (sym (one_map store lost other volumes those settled also)));
+  moments = λ fair other those also. here (stands_with store.array other also.logical those (volumes_after (extents_for_store store) command those) also.rests
+      also.shown);
+  answered = λ fair going other those also. inl (stays.replied
+      ∙ ap (reply_to (extents_for_store store) command) (sym (one_map store lost other volumes those settled also)));
   settled = λ fair going other those also. leaves_settled store command reply volumes lost stays settled other those also;
 }
 
@@ -275,10 +291,18 @@ pub list_at_rest : (honest : Type 0) (store : StoreView) (volumes : VolumeMap) (
     → Applies honest (OnVolumes Names) store store (Volumes (map (λ volume. (volume.name, length volume.blocks)) volumes.volumes))
 list_at_rest honest store volumes lost unsound settled are =
     applies honest store Names (Volumes (map (λ volume. (volume.name, length volume.blocks)) volumes.volumes)) volumes lost unsound
-    record { goes = settled.going; leaves = refl; replied = refl; of_kind = (map (λ volume. (volume.name, length volume.blocks)) volumes.volumes, refl); no_end = λ e. e } settled are
+    record {
+      goes = settled.going;
+      leaves = refl;
+      replied = refl;
+      of_kind =
+          (map (λ volume. (volume.name, length volume.blocks)) volumes.volumes, refl);
+      no_end = λ e. e;
+    } settled are
 
 -- a volume that is not there is not removed, and the store stays as it is
-pub remove_of_none : (honest : Type 0) (store : StoreView) (name : List ℕ) (volumes : VolumeMap) (lost : Option Lost) (unsound : List ℕ) → IsSettledOn store lost volumes
+pub remove_of_none : (honest : Type 0) (store : StoreView) (name : List ℕ) (volumes : VolumeMap) (lost : Option Lost) (unsound : List ℕ)
+    → IsSettledOn store lost volumes
     → AreUnsound store.array.table (readable store.array.history) unsound → blocks_of name volumes.volumes ≡ None
     → Applies honest (OnVolumes (Remove name)) store store (Refused NoVolume)
 remove_of_none honest store name volumes lost unsound settled are none =

@@ -30,7 +30,8 @@ still_lost slots during h l is one = by_lost (subst (λ (o : Option Lost). IsSin
     by_lost (after, (of_set, same, up)) = (of_set, refl, up)
 
 -- by what stands at the end, what reads give holds with that slot lost
-pub holds_readable : (slots devices : ℕ) (base : Table) (during : Option Lost) (maps : List VolumeMap) (h : History) → slots_of base ≡ slots → StandsNow base devices during maps h → IsSingleFailure slots during h
+pub holds_readable : (slots devices : ℕ) (base : Table) (during : Option Lost) (maps : List VolumeMap) (h : History) → slots_of base ≡ slots
+    → StandsNow base devices during maps h → IsSingleFailure slots during h
     → (l : Lost) → during ≡ Some l → (X : List (List Bytes)) × Holds base devices record { image = readable h; lost = Some l } X
 holds_readable slots devices base during maps h same now one l is =
     let stands = now (Some l) (readable h)
@@ -53,7 +54,8 @@ pub record IsSafeStore (made : Table) (devices : ℕ) (serving : Serving) (volum
   pub settled : IsSettledOn serving.store serving.fate.lost volumes
   pub replaced : AreReplacedStale devices serving.store.array.table serving.fate.replaced
 
-pub rests_on : (made : Table) (devices : ℕ) (array : ArrayView) (fate : Fate) (volumes : VolumeMap) (safe : IsSafeArray made devices array fate volumes) → RestsOn array fate.lost safe.logical
+pub rests_on : (made : Table) (devices : ℕ) (array : ArrayView) (fate : Fate) (volumes : VolumeMap) (safe : IsSafeArray made devices array fate volumes)
+    → RestsOn array fate.lost safe.logical
 rests_on made devices array fate volumes safe =
     subst (λ (d : ℕ). IsSettled d array.table array.number array.history fate.lost safe.logical) (sym safe.of_bank) safe.over.settled
 
@@ -65,7 +67,12 @@ stands_at_rest devices table number h lost V volumes settled shown after image i
   holds = holds_at_rest devices table number h lost V settled after image is may;
   shown = λ logical among. elim (Contains-push_cases [] V logical among) [
     | inl none ↦ absurd (no_list logical none)
-    | inr is ↦ record { volumes = volumes; among = Contains-push [] volumes; shown = subst (λ (l : List Bytes). Shows (extents_in table.geometry) l volumes) is shown }
+    | inr is ↦ record {
+      volumes = volumes;
+      among = Contains-push [] volumes;
+      shown =
+          subst (λ (l : List Bytes). Shows (extents_in table.geometry) l volumes) is shown;
+    }
   ];
 }
   where
@@ -80,9 +87,12 @@ pub store_after : (made : Table) (devices : ℕ) (base : Table) (during : Option
 store_after made devices base during maps old new volumes older later of_bank stale over now after = record {
   of_bank = of_bank;
   not_older = not_older_both made base new.store.array.table older later;
-  settled = subst (λ (l : Option Lost). IsSettledOn new.store l volumes) (lost_after_is_one during new.store.array.table after.lost new.fate.lost after.is_lost over.lost) after.settled;
-  replaced = (goes_over (slots_of made) devices base new.store.array.table new.store.array.number new.store.array.history during after.lost old new.fate after.settled.logical
+  settled = subst (λ (l : Option Lost). IsSettledOn new.store l volumes)
+      (lost_after_is_one during new.store.array.table after.lost new.fate.lost after.is_lost over.lost) after.settled;
+  replaced = (goes_over (slots_of made) devices base new.store.array.table new.store.array.number new.store.array.history during after.lost old new.fate
+      after.settled.logical
       later stale over after.is_lost
-      (subst (λ (d : ℕ). IsSettled d new.store.array.table new.store.array.number new.store.array.history after.lost after.settled.logical) of_bank after.settled.rests)
+      (subst (λ (d : ℕ). IsSettled d new.store.array.table new.store.array.number new.store.array.history after.lost after.settled.logical) of_bank
+      after.settled.rests)
       (holds_readable (slots_of made) devices base during maps new.store.array.history (same_slots made base older) now over.single_failure)).replaced;
 }

@@ -1,7 +1,8 @@
 -- A store is opened, or its bank is given back.
 use borrow.Rule.Slice.PartMut.{mid_of, put_mid}
 use Rattle.std.proofs.lemmas.Slice.{take-put_mid}
-use Rattle.std.proofs.Common.{◌≡◌, ◌≢◌, ◌⊎◌, ◌↔◌, inl, inr, ℕ, zero, suc, ◌+◌, ◌-◌, ◌<◌, ◌≤◌, Bool, true, false, List, [], ◌∷◌, length, take, drop, get_or, set, Option, Some, None, Ok, Err, OnOk, refl, sym, ap, ap₂, subst, ◌∙◌, below_more, le_of_eq, arith}
+use Rattle.std.proofs.Common.{◌≡◌, ◌≢◌, ◌⊎◌, ◌↔◌, inl, inr, ℕ, zero, suc, ◌+◌, ◌-◌, ◌<◌, ◌≤◌, Bool, true, false, List, [], ◌∷◌, length, take, drop, get_or, set}
+use Rattle.std.proofs.Common.{Option, Some, None, Ok, Err, OnOk, refl, sym, ap, ap₂, subst, ◌∙◌, below_more, le_of_eq, arith}
 use Rattle.std.proofs.Props.{props}
 use Rattle.std.proofs.Math.Logic.{∥∥₁_elim}
 use Rattle.std.proofs.lemmas.Bool.{cases_eq, true≢false}
@@ -51,7 +52,8 @@ two_or_worn old new TwoLost end = inl refl
 two_or_worn old new Worn end = inr refl
 two_or_worn old new refusal end = absurd end
 
-pub read_ends : (honest still : Type 0) (sector : ℕ) (old mid new : ArrayView) (to : Bytes) (refusal why : Refusal) → ChangesList honest 0 IsSame IsSame old new (Err refusal)
+pub read_ends : (honest still : Type 0) (sector : ℕ) (old mid new : ArrayView) (to : Bytes) (refusal why : Refusal)
+    → ChangesList honest 0 IsSame IsSame old new (Err refusal)
     → Reads still sector mid new to (Err refusal) → refused refusal ≡ refused why → IsEndOf old new ⊥ why
 read_ends honest still sector old mid new to refusal why changes reads is =
     let same : refusal ≡ why = cc in
@@ -69,13 +71,15 @@ pub first_of_set : (geometry now : Geometry) (sector : ℕ) → now ≡ geometry
 first_of_set geometry now sector same below = omega (arith, below, has_table_sectors now)
 
 -- sectors are those of a list, from one on, that has each of them
-are_read : (first n : ℕ) (sectors V : List Bytes) → length sectors ≡ n → first + n ≤ length V → ((k : ℕ) → k < n → get_or sectors k [] ≡ get_or V (first + k) []) → sectors ≡ take n (drop first V)
+are_read : (first n : ℕ) (sectors V : List Bytes) → length sectors ≡ n → first + n ≤ length V
+    → ((k : ℕ) → k < n → get_or sectors k [] ≡ get_or V (first + k) []) → sectors ≡ take n (drop first V)
 are_read first n sectors V long enough each =
     ext_get_or [] sectors (take n (drop first V)) (long ∙ sym (length-take-le n (drop first V) (omega (arith, enough, length-drop first V)))) (λ k below.
     let within : k < n = omega (arith, below, long) in
     each k within ∙ sym (get_or-take n (drop first V) k [] within ∙ get_or-drop first V k []))
 
-pub are_read_at_rest : (array : ArrayView) (lost : Option Lost) (V sectors : List Bytes) (first n : ℕ) → RestsOn array lost V → length sectors ≡ n → first + n ≤ TABLE_SECTORS
+pub are_read_at_rest : (array : ArrayView) (lost : Option Lost) (V sectors : List Bytes) (first n : ℕ) → RestsOn array lost V → length sectors ≡ n
+    → first + n ≤ TABLE_SECTORS
     → ((k : ℕ) → k < n → get_or sectors k [] ≡ get_or V (first + k) []) → sectors ≡ take n (drop first V)
 are_read_at_rest array lost V sectors first n rests long within each =
     are_read first n sectors V long (omega (arith, within, rests_long array lost V rests, has_table_sectors array.table.geometry)) each
@@ -100,7 +104,8 @@ same_version first second is other same =
     omega (arith, is.0, other.0, one)
 
 -- a first sector of no version begins no table
-pub spells_none : (first : Bytes) (sectors : List Bytes) (table : VolumeTable) → ((version : ℕ) → IsVersion version → first ≡ first_sector version → ⊥) → get_or sectors 0 [] ≡ first
+pub spells_none : (first : Bytes) (sectors : List Bytes) (table : VolumeTable) → ((version : ℕ) → IsVersion version → first ≡ first_sector version → ⊥)
+    → get_or sectors 0 [] ≡ first
     → Spell sectors table → ⊥
 spells_none first sectors table none is spelled = none table.version (is_version table) (sym is ∙ first_of_spelled sectors table spelled)
 
@@ -136,23 +141,28 @@ none_failed_after old mid new later none slot of_bank up = by_state (old.down sl
     by_state true down = absurd (true≢false (sym (later.down slot down) ∙ up))
     by_state false was_up = none slot (omega (arith, of_bank, later.devices)) was_up
 
-pub read_more : (first n : ℕ) (old mid new : ArrayView) (sectors : List Bytes) (to : Bytes) → n < length sectors → GoesOn old mid → GoesOn mid new → NoDeviceFailed old.panel new.panel
-    → (NoDeviceFailed old.panel mid.panel → HaveReadWhole first n old mid sectors) → (NoDeviceFailed mid.panel new.panel → ReadsWhole (first + n) mid new to) → HaveReadWhole first (n + 1) old new (set sectors n to)
+pub read_more : (first n : ℕ) (old mid new : ArrayView) (sectors : List Bytes) (to : Bytes) → n < length sectors → GoesOn old mid → GoesOn mid new
+    → NoDeviceFailed old.panel new.panel
+    → (NoDeviceFailed old.panel mid.panel → HaveReadWhole first n old mid sectors) → (NoDeviceFailed mid.panel new.panel → ReadsWhole (first + n) mid new to)
+    → HaveReadWhole first (n + 1) old new (set sectors n to)
 read_more first n old mid new sectors to within goes goes_then none before one =
     let was = before (none_failed_before old.panel mid.panel new.panel goes_then.later none) in
     let now = one (none_failed_after old.panel mid.panel new.panel goes.later none) in
     record {
-      given = below_more (λ (k : ℕ). length (get_or (list_read old) (first + k) []) ≡ 512 → get_or (set sectors n to) k [] ≡ get_or (list_read old) (first + k) []) n
+      given = below_more (λ (k : ℕ). length (get_or (list_read old) (first + k) []) ≡ 512
+          → get_or (set sectors n to) k [] ≡ get_or (list_read old) (first + k) []) n
           (λ k below whole. get_or-set_other sectors n k to [] (λ same. omega (arith, below, same)) ∙ was.given k below whole)
           (λ whole. get_or-set_same sectors n to [] within ∙ now.given (ap length (was.stays (first + n) whole) ∙ whole) ∙ was.stays (first + n) whole);
       stays = λ sector whole. now.stays sector (ap length (was.stays sector whole) ∙ whole) ∙ was.stays sector whole;
     }
 
 -- where what reads give spells a table, its first sector was read
-pub first_spelled : (old new : ArrayView) (to : Bytes) (table : VolumeTable) → ReadsWhole 0 old new to → Spell (list_read old) table → to ≡ first_sector table.version
+pub first_spelled : (old new : ArrayView) (to : Bytes) (table : VolumeTable) → ReadsWhole 0 old new to → Spell (list_read old) table
+    → to ≡ first_sector table.version
 first_spelled old new to table read spelled =
     let first = first_of_spelled (list_read old) table spelled in
-    read.given (ap length first ∙ sym (ap length (first_of_spelled (table_sectors table) table (take_all (table_length table.version) (table_sectors table) (le_of_eq (fills table).0))))
+    read.given (ap length first ∙ sym (ap length (first_of_spelled (table_sectors table) table
+    (take_all (table_length table.version) (table_sectors table) (le_of_eq (fills table).0))))
     ∙ (fills table).1 0 (omega (arith, table_long table.version))) ∙ first
 
 -- ---- the first sector, and then those after it
@@ -164,15 +174,18 @@ read_then honest still goes old mid new answer true_to first beyond =
     changes_both honest still goes 0 0 IsSame IsSame IsSame IsSame IsSame IsSame old mid new answer true_to first beyond
     (λ V W same. same) (λ V U W one two. two ∙ one) (λ V U W one two. two ∙ one)
 
-pub then_ends : (honest : Type 0) (old mid new : ArrayView) (answer : Answer) (refusal : Refusal) → ChangesList honest 0 IsSame IsSame old new answer → IsEndOf mid new ⊥ refusal → IsEndOf old new ⊥ refusal
-then_ends honest old mid new answer refusal changes end = end_of_both honest old mid new (HasEnded answer) changes.stays refusal end (two_or_worn mid new refusal end)
+pub then_ends : (honest : Type 0) (old mid new : ArrayView) (answer : Answer) (refusal : Refusal) → ChangesList honest 0 IsSame IsSame old new answer
+    → IsEndOf mid new ⊥ refusal → IsEndOf old new ⊥ refusal
+then_ends honest old mid new answer refusal changes end =
+    end_of_both honest old mid new (HasEnded answer) changes.stays refusal end (two_or_worn mid new refusal end)
 
 -- the first n of some sectors are one sector, and a part after it
 pub record IsPut (n : ℕ) (first : Bytes) (part sectors : List Bytes) : Type 0 where
   pub begins : take n sectors ≡ first ∷ part
   pub long : length part + 1 ≡ n
 
-pub put_is : (n : ℕ) (sectors part : List Bytes) (first : Bytes) → 0 < length sectors → length part + 1 ≡ n → IsPut n first part (put_mid 1 (n - 1) (set sectors 0 first) part)
+pub put_is : (n : ℕ) (sectors part : List Bytes) (first : Bytes) → 0 < length sectors → length part + 1 ≡ n
+    → IsPut n first part (put_mid 1 (n - 1) (set sectors 0 first) part)
 put_is n [] part first some long = absurd (omega (arith, some))
 put_is n (sector ∷ sectors) part first some long = record {
   begins = take-put_mid 1 (n - 1) (first ∷ sectors) part n (omega (arith, long)) (omega arith);
@@ -194,13 +207,16 @@ begins_so n first part sectors other put enough same each =
         each k within ∙ ap (λ (i : ℕ). get_or other i []) (omega arith) ∙ sym (get_or-take n other (suc k) [] (omega (arith, within)))
 
 -- the part is that of the sectors after the first
-pub length-beyond : (n : ℕ) (sectors : List Bytes) (first : Bytes) → length sectors ≡ TABLE_SECTORS → n ≤ TABLE_SECTORS → length (mid_of 1 (n - 1) (set sectors 0 first)) ≡ n - 1
+pub length-beyond : (n : ℕ) (sectors : List Bytes) (first : Bytes) → length sectors ≡ TABLE_SECTORS → n ≤ TABLE_SECTORS
+    → length (mid_of 1 (n - 1) (set sectors 0 first)) ≡ n - 1
 length-beyond n sectors first long within =
     length-take-le (n - 1) (drop 1 (set sectors 0 first)) (omega (arith, within, length-drop 1 (set sectors 0 first), length-set sectors 0 first, long))
 
 -- at rest they are those of the list
-reads_table : (array : ArrayView) (lost : Option Lost) (V : List Bytes) (version n : ℕ) (first : Bytes) (part sectors : List Bytes) (table : VolumeTable) → RestsOn array lost V → IsVersion version
-    → first ≡ first_sector version → n ≡ table_length version → IsPut n first part sectors → first ≡ get_or V 0 [] → part ≡ take (n - 1) (drop 1 V) → Spell sectors table ↔ Spell V table
+reads_table : (array : ArrayView) (lost : Option Lost) (V : List Bytes) (version n : ℕ) (first : Bytes) (part sectors : List Bytes) (table : VolumeTable)
+    → RestsOn array lost V → IsVersion version
+    → first ≡ first_sector version → n ≡ table_length version → IsPut n first part sectors → first ≡ get_or V 0 [] → part ≡ take (n - 1) (drop 1 V)
+    → Spell sectors table ↔ Spell V table
 reads_table array lost V version n first part sectors table rests is says so_many put same beyond =
     (spells_too version sectors V table is (put_first n first part sectors put ∙ says) (sym both), spells_too version V sectors table is (sym same ∙ says) both)
   where
@@ -214,14 +230,16 @@ reads_table array lost V version n first part sectors table rests is says so_man
         (omega (arith, so_many, table_short version, rests_long array lost V rests, has_table_sectors array.table.geometry)) same each)
 
 -- and so where the part was read after the first
-pub gives_table : (honest : Type 0) (old mid : ArrayView) (version n : ℕ) (first : Bytes) (part sectors : List Bytes) {m : ℕ} → IsVersion version → first ≡ first_sector version
+pub gives_table : (honest : Type 0) (old mid : ArrayView) (version n : ℕ) (first : Bytes) (part sectors : List Bytes) {m : ℕ} → IsVersion version
+    → first ≡ first_sector version
     → n ≡ table_length version → IsPut n first part sectors → m ≡ n - 1 → Reads honest 0 old mid first (Ok tt)
     → ((lost : Option Lost) (V : List Bytes) → RestsOn mid lost V → part ≡ take m (drop 1 V))
     → honest → (lost : Option Lost) (V : List Bytes) (table : VolumeTable) → RestsOn old lost V → Spell sectors table ↔ Spell V table
 gives_table honest old mid version n first part sectors {m} is says so_many put long reads gives fair lost V table rests =
     let now = (changes_read honest 0 old mid first (Ok tt) reads).rests fair refl lost V rests in
     reads_table old lost V version n first part sectors table rests is says so_many put (reads.sector fair refl lost V rests)
-    (gives now.rests.lost now.logical now.rests.rests ∙ ap (λ (k : ℕ). take k (drop 1 now.logical)) long ∙ ap (λ (list : List Bytes). take (n - 1) (drop 1 list)) now.is)
+    (gives now.rests.lost now.logical now.rests.rests ∙ ap (λ (k : ℕ). take k (drop 1 now.logical)) long
+    ∙ ap (λ (list : List Bytes). take (n - 1) (drop 1 list)) now.is)
 
 -- what is so where a call is answered
 pub where_ok : {P Q : Type 0} (answer : Answer) → OnOk answer P → (P → Q) → OnOk answer Q
@@ -229,9 +247,12 @@ where_ok (Ok done) so then_so = then_so so
 where_ok (Err refusal) so then_so = tt
 
 -- where none failed and what reads give spells a table, they spell it
-pub reads_spelled : (old mid new : ArrayView) (version n : ℕ) (first : Bytes) (part sectors : List Bytes) (table : VolumeTable) → IsVersion version → first ≡ first_sector version → n ≡ table_length version
-    → IsPut n first part sectors → GoesOn old mid → GoesOn mid new → NoDeviceFailed old.panel new.panel → (NoDeviceFailed old.panel mid.panel → ReadsWhole 0 old mid first)
-    → (NoDeviceFailed mid.panel new.panel → (k : ℕ) → k < n - 1 → length (get_or (list_read mid) (1 + k) []) ≡ 512 → get_or part k [] ≡ get_or (list_read mid) (1 + k) [])
+pub reads_spelled : (old mid new : ArrayView) (version n : ℕ) (first : Bytes) (part sectors : List Bytes) (table : VolumeTable) → IsVersion version
+    → first ≡ first_sector version → n ≡ table_length version
+    → IsPut n first part sectors → GoesOn old mid → GoesOn mid new → NoDeviceFailed old.panel new.panel
+    → (NoDeviceFailed old.panel mid.panel → ReadsWhole 0 old mid first)
+    → (NoDeviceFailed mid.panel new.panel → (k : ℕ) → k < n - 1 → length (get_or (list_read mid) (1 + k) []) ≡ 512
+    → get_or part k [] ≡ get_or (list_read mid) (1 + k) [])
     → Spell (list_read old) table → Spell sectors table
 reads_spelled old mid new version n first part sectors table is says so_many put goes goes_then none one more spelled =
     spells_too version (table_sectors table) sectors table is (first_of_spelled (table_sectors table) table itself ∙ ap first_sector its) both itself
@@ -264,13 +285,15 @@ reads_spelled old mid new version n first part sectors table is says so_many put
         ∙ ap (λ (i : ℕ). get_or (list_read mid) i []) next ∙ stays ∙ here (k + 1) below
 
     both : take (table_length version) sectors ≡ take (table_length version) (table_sectors table)
-    both = subst (λ (m : ℕ). take m sectors ≡ take m (table_sectors table)) so_many (begins_so n first part sectors (table_sectors table) put (omega (arith, fits, (fills table).0))
+    both = subst (λ (m : ℕ). take m sectors ≡ take m (table_sectors table)) so_many
+        (begins_so n first part sectors (table_sectors table) put (omega (arith, fits, (fills table).0))
         (first_spelled old mid first table read spelled ∙ sym (first_of_spelled (table_sectors table) table itself)) each)
 
 -- ---- the map of the extents
 
 -- whether an extent is the one at a place of a volume
-is_owner : (owner : Option Owned) (volume place : ℕ) → (owner ≡ Some record { volume = volume; place = place }) ⊎ (owner ≢ Some record { volume = volume; place = place })
+is_owner : (owner : Option Owned) (volume place : ℕ) → (owner ≡ Some record { volume = volume; place = place })
+    ⊎ (owner ≢ Some record { volume = volume; place = place })
 is_owner None volume place = inr (λ is. none-some _ is)
 is_owner (Some owned) volume place = elim (cases_eq owned.volume volume) [
   | inl of_volume ↦ elim (cases_eq owned.place place) [
@@ -281,7 +304,8 @@ is_owner (Some owned) volume place = elim (cases_eq owned.volume volume) [
 ]
 
 -- the extent at a place, or that there is none
-find_at : (owners : List (Option Owned)) (volume place : ℕ) → ((extent : ℕ) × IsAt owners extent volume place) ⊎ ((extent : ℕ) → ¬ IsAt owners extent volume place)
+find_at : (owners : List (Option Owned)) (volume place : ℕ) → ((extent : ℕ) × IsAt owners extent volume place)
+    ⊎ ((extent : ℕ) → ¬ IsAt owners extent volume place)
 find_at [] volume place = inr (λ extent is. none-some _ is)
 find_at (owner ∷ owners) volume place = elim (is_owner owner volume place) [
   | inl here ↦ inl (0, here)
@@ -291,7 +315,8 @@ find_at (owner ∷ owners) volume place = elim (is_owner owner volume place) [
   ]
 ]
   where
-    not_in : ((extent : ℕ) → ¬ IsAt owners extent volume place) → (owner ≢ Some record { volume = volume; place = place }) → (extent : ℕ) → ¬ IsAt (owner ∷ owners) extent volume place
+    not_in : ((extent : ℕ) → ¬ IsAt owners extent volume place) → (owner ≢ Some record { volume = volume; place = place }) → (extent : ℕ)
+        → ¬ IsAt (owner ∷ owners) extent volume place
     not_in none not_here zero at = not_here at
     not_in none not_here (suc extent) at = none extent at
 
@@ -305,22 +330,26 @@ map_itself owners known = record {
     record {
       extent_at = λ place below. elim (find_at owners volume place) [
         | inl at ↦ at
-        | inr none ↦ absurd (∥∥₁_elim known (hlevel props) (λ map. let at = ((extents_are_counted owners map).places volume).extent_at place below in none at.0 at.1))
+        | inr none ↦ absurd (∥∥₁_elim known (hlevel props)
+            (λ map. let at = ((extents_are_counted owners map).places volume).extent_at place below in none at.0 at.1))
       ];
       below = λ extent place at. ∥∥₁_elim known (hlevel props) (λ map. ((extents_are_counted owners map).places volume).below extent place at);
-      once = λ first second place one two. ∥∥₁_elim known (hlevel props) (λ map. ((extents_are_counted owners map).places volume).once first second place one two);
+      once = λ first second place one two. ∥∥₁_elim known (hlevel props)
+          (λ map. ((extents_are_counted owners map).places volume).once first second place one two);
     },
   );
 }
 
 pub table_has_map : (extents : ℕ) (table : VolumeTable) → extents ≤ MOST_EXTENTS → AreFreeFrom table.extents extents → IsExtentMap (take extents table.extents)
 table_has_map extents table most free =
-    map_itself (take extents table.extents) (∥∥₁_elim table.is_table (hlevel props) (λ is. ∣ table_is_extent_map extents table.version table.records table.extents most is free ∣₁))
+    map_itself (take extents table.extents) (∥∥₁_elim table.is_table (hlevel props)
+    (λ is. ∣ table_is_extent_map extents table.version table.records table.extents most is free ∣₁))
 
 -- ---- the records
 
 -- at each moment a case that holds for the list alone stands for its volumes
-stands_for : (base : Table) (devices : ℕ) (lost : Option Lost) (V : List Bytes) (volumes : VolumeMap) → Shows (extents_in base.geometry) V volumes → (h : History)
+stands_for : (base : Table) (devices : ℕ) (lost : Option Lost) (V : List Bytes) (volumes : VolumeMap) → Shows (extents_in base.geometry) V volumes
+    → (h : History)
     → HoldsForSomeNow base devices lost (IsSame V) h → StandsNow base devices lost (volumes ∷ []) h
 stands_for base devices lost V volumes shown h now after image is may =
     let some = now after image is may in
@@ -350,13 +379,15 @@ same_refusal : (given bank : BankView) (cause refusal : Refusal) → Returned gi
 same_refusal given bank cause refusal is = cc
 
 module _ (honest : Type 0) (old new : ArrayView) where
-  moments : (answer : Answer) → ChangesList honest 0 IsSame IsSame old new answer → honest → (lost : Option Lost) (V : List Bytes) (volumes : VolumeMap) → RestsOn old lost V
+  moments : (answer : Answer) → ChangesList honest 0 IsSame IsSame old new answer → honest → (lost : Option Lost) (V : List Bytes) (volumes : VolumeMap)
+      → RestsOn old lost V
       → Shows (extents_in old.table.geometry) V volumes → StandsThroughout old.table old.panel.devices lost (volumes ∷ []) old.history new.history
   moments answer changes fair lost V volumes rests shown =
       throughout_more (stands_for old.table old.panel.devices lost V volumes shown) new.history (changes.moments fair lost V rests)
 
   -- the bank is given back
-  given_up : (answer : Answer) (refusal : Refusal) → ChangesList honest 0 IsSame IsSame old new answer → IsNoOpening honest old (record { panel = new.panel; history = new.history }) refusal
+  given_up : (answer : Answer) (refusal : Refusal) → ChangesList honest 0 IsSame IsSame old new answer
+      → IsNoOpening honest old (record { panel = new.panel; history = new.history }) refusal
       → Opens honest old (given_back new.panel new.history refusal)
   given_up answer refusal changes no_opening = record {
     later = changes.goes_on.later;
@@ -392,7 +423,8 @@ module _ (honest : Type 0) (old new : ArrayView) where
   ends_opening refusal changes end = absurd end
 
   -- a read was refused
-  pub open_ended : (refusal : Refusal) → ChangesList honest 0 IsSame IsSame old new (Err refusal) → IsEndOf old new ⊥ refusal → Opens honest old (given_back new.panel new.history refusal)
+  pub open_ended : (refusal : Refusal) → ChangesList honest 0 IsSame IsSame old new (Err refusal) → IsEndOf old new ⊥ refusal
+      → Opens honest old (given_back new.panel new.history refusal)
   open_ended refusal changes end = given_up (Err refusal) refusal changes (ends_opening refusal changes end)
 
   -- the sectors that were read are no table of the set
@@ -415,7 +447,8 @@ module _ (honest : Type 0) (old new : ArrayView) where
     goes_on = λ store is. subst (λ (s : StoreView). GoesOn old s.array) (same_store _ store is) changes.goes_on;
     stays = λ store is. subst (λ (s : StoreView). StaysButForFailures honest old s.array ⊥) (same_store _ store is) changes.stays;
     moments = moments (Ok tt) changes;
-    settled = λ fair lost V volumes rests shown store is. subst (λ (s : StoreView). IsSettledAfter lost s volumes) (same_store _ store is) (settled fair lost V volumes rests shown);
+    settled = λ fair lost V volumes rests shown store is. subst (λ (s : StoreView). IsSettledAfter lost s volumes) (same_store _ store is)
+        (settled fair lost V volumes rests shown);
     within = λ store is extent beyond. subst (λ (s : StoreView). owner_of s.keeps.extents extent ≡ None) (same_store _ store is) (free extent beyond);
     spelled = λ fair lost V rests store is. subst (λ (s : StoreView). Spell V s.keeps) (same_store _ store is) (spelled fair lost V rests);
     cause = λ bank refusal is. absurd (not_returned _ bank refusal is);

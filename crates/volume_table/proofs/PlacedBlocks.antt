@@ -20,7 +20,8 @@ use Rattle.volume_table.proofs.ListChanges.{changes_commit, changes_more, rests_
 use Rattle.volume_table.specs.declared.event.TheConstants.{MOST_BLOCKS_AT_ONCE}
 use Rattle.layout_map.specs.declared.sizes.TheConstants.{EXTENT_SECTORS, RESERVED_SECTORS}
 
-module _ (owners : List (Option Owned)) (number at : ℕ) (blocks : List Block) (sectors : List (ℕ × Block)) (placed : AllPlaced EXTENT_SECTORS owners number at (at + length blocks))
+module _ (owners : List (Option Owned)) (number at : ℕ) (blocks : List Block) (sectors : List (ℕ × Block))
+    (placed : AllPlaced EXTENT_SECTORS owners number at (at + length blocks))
     (are : ArePlaced owners number at blocks sectors) where
   -- the logical sector of the j-th block
   sector_at : ℕ → ℕ
@@ -43,7 +44,8 @@ module _ (owners : List (Option Owned)) (number at : ℕ) (blocks : List Block) 
       (block_is_within owners number (at + i) (slice_index_or sectors i no_sector).0 (has_place i below) (are.at_sector i below)).1
 
   -- written, they are so in place of the volume's blocks
-  written_at : (V : List Block) → RESERVED_SECTORS + EXTENT_SECTORS * length owners ≤ length V → IsWrittenAt EXTENT_SECTORS owners number at blocks V (written V sectors)
+  written_at : (V : List Block) → RESERVED_SECTORS + EXTENT_SECTORS * length owners ≤ length V
+      → IsWrittenAt EXTENT_SECTORS owners number at blocks V (written V sectors)
   written_at V room = record {
     as_long = length-written V sectors;
     written = record {
@@ -60,12 +62,15 @@ module _ (owners : List (Option Owned)) (number at : ℕ) (blocks : List Block) 
   }
 
 -- the extents of a set lie within its data sectors
-room_for : (members chunk stripes count : ℕ) → 1 ≤ extents_of members chunk stripes → count ≤ extents_of members chunk stripes → RESERVED_SECTORS + EXTENT_SECTORS * count ≤ data_sectors_of members chunk stripes
+room_for : (members chunk stripes count : ℕ) → 1 ≤ extents_of members chunk stripes → count ≤ extents_of members chunk stripes
+    → RESERVED_SECTORS + EXTENT_SECTORS * count ≤ data_sectors_of members chunk stripes
 room_for members chunk stripes count has few = omega (arith, has, few)
 
 -- they may be committed
-pub placed_may_commit : (table : Table) (owners : List (Option Owned)) (number at : ℕ) (blocks : List Block) (sectors : List (ℕ × Block)) → length owners ≤ extents_in table.geometry
-    → 1 ≤ length blocks → length blocks ≤ MOST_BLOCKS_AT_ONCE → AllPlaced EXTENT_SECTORS owners number at (at + length blocks) → ArePlaced owners number at blocks sectors → MayCommit table sectors
+pub placed_may_commit : (table : Table) (owners : List (Option Owned)) (number at : ℕ) (blocks : List Block) (sectors : List (ℕ × Block))
+    → length owners ≤ extents_in table.geometry
+    → 1 ≤ length blocks → length blocks ≤ MOST_BLOCKS_AT_ONCE → AllPlaced EXTENT_SECTORS owners number at (at + length blocks)
+    → ArePlaced owners number at blocks sectors → MayCommit table sectors
 placed_may_commit table owners number at blocks sectors sized least most placed are = record {
   least = omega (arith, least, are.as_many);
   most = omega (arith, most, are.as_many);
@@ -77,11 +82,14 @@ placed_may_commit table owners number at blocks sectors sized least most placed 
     room = room_for table.geometry.members table.geometry.chunk table.geometry.stripes (length owners) table.geometry.limits.has_extent sized
 
 -- a commit of them
-pub placed_commit : (honest : Type 0) (owners : List (Option Owned)) (number at : ℕ) (blocks : List Block) (sectors : List (ℕ × Block)) (old new : ArrayView) (answer : Answer)
-    → length owners ≤ extents_in old.table.geometry → AllPlaced EXTENT_SECTORS owners number at (at + length blocks) → ArePlaced owners number at blocks sectors → Commits honest sectors old new answer
+pub placed_commit : (honest : Type 0) (owners : List (Option Owned)) (number at : ℕ) (blocks : List Block) (sectors : List (ℕ × Block)) (old new : ArrayView)
+    (answer : Answer)
+    → length owners ≤ extents_in old.table.geometry → AllPlaced EXTENT_SECTORS owners number at (at + length blocks) → ArePlaced owners number at blocks sectors
+    → Commits honest sectors old new answer
     → ChangesList honest 1 (IsSameOr (IsWrittenAt EXTENT_SECTORS owners number at blocks)) (IsWrittenAt EXTENT_SECTORS owners number at blocks) old new answer
 placed_commit honest owners number at blocks sectors old new answer sized placed are commits =
-    changes_more honest 1 1 (IsSameOr (λ V W. W ≡ written V sectors)) (λ V W. W ≡ written V sectors) (IsSameOr (IsWrittenAt EXTENT_SECTORS owners number at blocks)) (IsWrittenAt EXTENT_SECTORS owners number at blocks) old new answer
+    changes_more honest 1 1 (IsSameOr (λ V W. W ≡ written V sectors)) (λ V W. W ≡ written V sectors)
+    (IsSameOr (IsWrittenAt EXTENT_SECTORS owners number at blocks)) (IsWrittenAt EXTENT_SECTORS owners number at blocks) old new answer
     (omega arith) (changes_commit honest sectors old new answer commits)
     (λ lost V W rests passes. elim passes [
       | inl same ↦ inl same
@@ -90,5 +98,11 @@ placed_commit honest owners number at blocks sectors old new answer sized placed
     is_written
   where
     is_written : (lost : Option Lost) (V W : List Block) → RestsOn old lost V → W ≡ written V sectors → IsWrittenAt EXTENT_SECTORS owners number at blocks V W
-    is_written lost V W rests is = subst (IsWrittenAt EXTENT_SECTORS owners number at blocks V) (sym is) (written_at owners number at blocks sectors placed are V
-        (omega (arith, room_for old.table.geometry.members old.table.geometry.chunk old.table.geometry.stripes (length owners) old.table.geometry.limits.has_extent sized, rests_long old lost V rests)))
+    is_written lost V W rests is = subst (IsWrittenAt EXTENT_SECTORS owners number at blocks V) (sym is)
+        (written_at owners number at blocks sectors placed are V
+        (omega (
+          arith,
+          room_for old.table.geometry.members old.table.geometry.chunk old.table.geometry.stripes (length owners)
+              old.table.geometry.limits.has_extent sized,
+          rests_long old lost V rests,
+        )))

@@ -33,7 +33,8 @@ none_changed before after = record {
 }
 
 -- the next sector is the same
-pub same_more : (n : ℕ) (before after : List Block) (sectors : List (ℕ × Block)) → AreChangedBelow n before after sectors → get_or after n [] ≡ get_or before n []
+pub same_more : (n : ℕ) (before after : List Block) (sectors : List (ℕ × Block)) → AreChangedBelow n before after sectors
+    → get_or after n [] ≡ get_or before n []
     → AreChangedBelow (n + 1) before after sectors
 same_more n before after sectors are same = record {
   most = omega (arith, are.most);
@@ -81,7 +82,8 @@ module _ (n : ℕ) (before after : List Block) (sectors now : List (ℕ × Block
   new_bytes : (i : ℕ) → i < length now → (get_or now i no_sector).1 ≡ get_or after (get_or now i no_sector).0 []
   new_bytes i within = elim (which i within) [
     | inl below ↦ ap (λ (s : ℕ × Block). s.1) (earlier i below) ∙ are.new i below ∙ ap (λ (k : ℕ). get_or after k []) (sym (number_at i below))
-    | inr same ↦ ap (λ (k : ℕ). (get_or now k no_sector).1) same ∙ ap (λ (s : ℕ × Block). s.1) newest ∙ ap (λ (k : ℕ). get_or after k []) (sym (number_of_new i same))
+    | inr same ↦ ap (λ (k : ℕ). (get_or now k no_sector).1) same ∙ ap (λ (s : ℕ × Block). s.1) newest
+        ∙ ap (λ (k : ℕ). get_or after k []) (sym (number_of_new i same))
   ]
 
   rises : (i j : ℕ) → i < j → j < length now → (get_or now i no_sector).0 < (get_or now j no_sector).0
@@ -127,17 +129,20 @@ pub record AreAllBelow (n : ℕ) (after : List Block) (sectors : List (ℕ × Bl
 pub none_so_far : (after : List Block) → AreAllBelow 0 after []
 none_so_far after = record { changed = λ before. none_changed before after; long = refl; each = λ k below. absurd (omega (arith, below)) }
 
-pub one_more : (n : ℕ) (after : List Block) (sectors now : List (ℕ × Block)) → AreAllBelow n after sectors → now ≡ sectors ++ (n, get_or after n []) ∷ [] → AreAllBelow (n + 1) after now
+pub one_more : (n : ℕ) (after : List Block) (sectors now : List (ℕ × Block)) → AreAllBelow n after sectors → now ≡ sectors ++ (n, get_or after n []) ∷ []
+    → AreAllBelow (n + 1) after now
 one_more n after sectors now are is = record {
   changed = λ before. changed_more n before after sectors now (are.changed before) is;
   long = long n [] after sectors now (are.changed []) is ∙ ap (λ (k : ℕ). k + 1) are.long;
   each = λ k below. elim (cases_lt k n) [
     | inl earlier_one ↦ number_at n [] after sectors now (are.changed []) is k (omega (arith, earlier_one, are.long)) ∙ are.each k earlier_one
-    | inr past ↦ number_of_new n [] after sectors now (are.changed []) is k (omega (arith, below, past, are.long)) ∙ (let same : n ≡ k = omega (arith, below, past) in same)
+    | inr past ↦ number_of_new n [] after sectors now (are.changed []) is k (omega (arith, below, past, are.long))
+        ∙ (let same : n ≡ k = omega (arith, below, past) in same)
   ];
 }
 
-pub all_of_version : (version : ℕ) (after : List Block) (sectors : List (ℕ × Block)) → AreAllBelow (table_length version) after sectors → AreAll version after sectors
+pub all_of_version : (version : ℕ) (after : List Block) (sectors : List (ℕ × Block)) → AreAllBelow (table_length version) after sectors
+    → AreAll version after sectors
 all_of_version version after sectors are = record {
   changed = are.changed;
   each = λ number below. (number, omega (arith, below, are.long), are.each number below);
@@ -148,7 +153,8 @@ pub eleven_of_set : (table : Table) → RESERVED_SECTORS + EXTENT_SECTORS ≤ da
 eleven_of_set table = omega (arith, extents_fit table.geometry.limits, table.geometry.limits.has_extent)
 
 -- the sectors that differ may be committed
-pub may_put : (version : ℕ) (table : Table) (before after : List Block) (sectors : List (ℕ × Block)) → 1 ≤ length sectors → AreTheChanged version before after sectors → MayCommit table sectors
+pub may_put : (version : ℕ) (table : Table) (before after : List Block) (sectors : List (ℕ × Block)) → 1 ≤ length sectors
+    → AreTheChanged version before after sectors → MayCommit table sectors
 may_put version table before after sectors some are = record {
   least = some;
   most = omega (arith, are.most, table_length_most version);
@@ -163,13 +169,16 @@ may_put_all version table after sectors are =
     may_put version table after after sectors (omega (arith, first.1)) (are.changed after)
 
 -- the sectors of a table's spelling
-spelled_at : (sectors : List Block) (table : VolumeTable) (k : ℕ) → k < table_length table.version → Spell sectors table → get_or sectors k [] ≡ get_or (table_sectors table) k []
+spelled_at : (sectors : List Block) (table : VolumeTable) (k : ℕ) → k < table_length table.version → Spell sectors table
+    → get_or sectors k [] ≡ get_or (table_sectors table) k []
 spelled_at sectors table k below is = sym (get_or-take (table_length table.version) sectors k [] below) ∙ ap (λ (xs : List Block). get_or xs k []) is
 
 -- With these written the list has the table, where the sectors that are not written are those of the list.
-module _ (V before after : List Block) (table : VolumeTable) (sectors : List (ℕ × Block)) (are : AreTheChanged table.version before after sectors) (spells : Spell after table)
+module _ (V before after : List Block) (table : VolumeTable) (sectors : List (ℕ × Block)) (are : AreTheChanged table.version before after sectors)
+    (spells : Spell after table)
     (enough : table_length table.version ≤ length V)
-    (begins : (k : ℕ) → k < table_length table.version → ((i : ℕ) → i < length sectors → (get_or sectors i no_sector).0 ≢ k) → get_or V k [] ≡ get_or before k []) where
+    (begins : (k : ℕ) → k < table_length table.version → ((i : ℕ) → i < length sectors → (get_or sectors i no_sector).0 ≢ k)
+    → get_or V k [] ≡ get_or before k []) where
   abbrev n : ℕ
   n = table_length table.version
 
@@ -196,7 +205,8 @@ module _ (V before after : List Block) (table : VolumeTable) (sectors : List (�
   pub has_table : HasTable table V (written V sectors)
   has_table = record {
     as_long = length-written V sectors;
-    spelled = ext_get_or [] (take n (written V sectors)) (table_sectors table) (taken (written V sectors) (omega (arith, enough, length-written V sectors)) ∙ sym ((fills table).0)) spelled_in;
+    spelled = ext_get_or [] (take n (written V sectors)) (table_sectors table) (taken (written V sectors) (omega (arith, enough, length-written V sectors))
+        ∙ sym ((fills table).0)) spelled_in;
     beyond = λ sector past. written_elsewhere V sectors sector (λ i within at. omega (arith, are.below i within, at, past));
   }
 
@@ -206,16 +216,20 @@ long_enough version array lost V rests = omega (arith, rests_long array lost V r
 -- the commit of sectors puts the table, where those that are not written are those of each list on which the array is settled
 puts_by : (honest : Type 0) (before after : List Block) (first table : VolumeTable) (sectors given : List (ℕ × Block)) (old new : ArrayView) (answer : Answer)
     → AreTheChanged table.version before after sectors → Spell after table → given ≡ sectors → Commits honest given old new answer
-    → ((V : List Block) → Spell V first → (k : ℕ) → k < table_length table.version → ((i : ℕ) → i < length sectors → (get_or sectors i no_sector).0 ≢ k) → get_or V k [] ≡ get_or before k [])
+    → ((V : List Block) → Spell V first → (k : ℕ) → k < table_length table.version → ((i : ℕ) → i < length sectors → (get_or sectors i no_sector).0 ≢ k)
+    → get_or V k [] ≡ get_or before k [])
     → ChangesList honest 1 (MayPutTable first table) (PutsTable first table) old new answer
 puts_by honest before after first table sectors given old new answer are spells is_given commits begins =
-    changes_more honest 1 1 (IsSameOr (λ V W. W ≡ written V sectors)) (λ V W. W ≡ written V sectors) (MayPutTable first table) (PutsTable first table) old new answer (omega arith)
+    changes_more honest 1 1 (IsSameOr (λ V W. W ≡ written V sectors)) (λ V W. W ≡ written V sectors) (MayPutTable first table) (PutsTable first table) old new
+    answer (omega arith)
     (changes_commit honest sectors old new answer (subst (λ (those : List (ℕ × Block)). Commits honest those old new answer) is_given commits))
     (λ lost V W rests either spelled. elim either [
       | inl same ↦ inl same
-      | inr is ↦ inr (subst (HasTable table V) (sym is) (has_table V before after table sectors are spells (long_enough table.version old lost V rests) (begins V spelled)))
+      | inr is ↦ inr (subst (HasTable table V) (sym is)
+          (has_table V before after table sectors are spells (long_enough table.version old lost V rests) (begins V spelled)))
     ])
-    (λ lost V W rests is spelled. subst (HasTable table V) (sym is) (has_table V before after table sectors are spells (long_enough table.version old lost V rests) (begins V spelled)))
+    (λ lost V W rests is spelled. subst (HasTable table V) (sym is)
+    (has_table V before after table sectors are spells (long_enough table.version old lost V rests) (begins V spelled)))
 
 -- a list that begins with a spelling is as long
 spelled_long : (V : List Block) (first : VolumeTable) (version : ℕ) → first.version ≡ version → Spell V first → table_length version ≤ length V
@@ -224,21 +238,25 @@ spelled_long V first version same spelled =
     (omega (arith, length-take (table_length first.version) V, ap length spelled ∙ (fills first).0))
 
 -- two lists that begin with one spelling have the same sectors there
-same_start : (V before : List Block) (first : VolumeTable) (version k : ℕ) → first.version ≡ version → k < table_length version → Spell before first → Spell V first → get_or V k [] ≡ get_or before k []
+same_start : (V before : List Block) (first : VolumeTable) (version k : ℕ) → first.version ≡ version → k < table_length version → Spell before first
+    → Spell V first → get_or V k [] ≡ get_or before k []
 same_start V before first version k same below spells spelled =
     let within : k < table_length first.version = subst (λ (v : ℕ). k < table_length v) (sym same) below in
     spelled_at V first k within spelled ∙ sym (spelled_at before first k within spells)
 
 -- the commit of the sectors that differ puts a table of the same version
-pub puts_table : (honest : Type 0) (before after : List Block) (first table : VolumeTable) (sectors given : List (ℕ × Block)) (old new : ArrayView) (answer : Answer)
-    → AreTheChanged table.version before after sectors → Spell after table → given ≡ sectors → Commits honest given old new answer → Spell before first → first.version ≡ table.version
+pub puts_table : (honest : Type 0) (before after : List Block) (first table : VolumeTable) (sectors given : List (ℕ × Block)) (old new : ArrayView)
+    (answer : Answer)
+    → AreTheChanged table.version before after sectors → Spell after table → given ≡ sectors → Commits honest given old new answer → Spell before first
+    → first.version ≡ table.version
     → ChangesList honest 1 (MayPutTable first table) (PutsTable first table) old new answer
 puts_table honest before after first table sectors given old new answer are spells is_given commits begins same =
     puts_by honest before after first table sectors given old new answer are spells is_given commits
     (λ V spelled k below unwritten. same_start V before first table.version k same below begins spelled)
 
 -- the commit of all sectors puts one of any version: whichever list is there, what is not written of it would be as before
-pub puts_whole_table : (honest : Type 0) (after : List Block) (first table : VolumeTable) (sectors given : List (ℕ × Block)) (old new : ArrayView) (answer : Answer)
+pub puts_whole_table : (honest : Type 0) (after : List Block) (first table : VolumeTable) (sectors given : List (ℕ × Block)) (old new : ArrayView)
+    (answer : Answer)
     → AreAll table.version after sectors → Spell after table → given ≡ sectors → Commits honest given old new answer
     → ChangesList honest 1 (MayPutTable first table) (PutsTable first table) old new answer
 puts_whole_table honest after first table sectors given old new answer are spells is_given commits =
@@ -246,18 +264,22 @@ puts_whole_table honest after first table sectors given old new answer are spell
     (λ V spelled k below unwritten. let one = are.each k below in absurd (unwritten one.0 one.1 one.2))
 
 -- where none differs, nothing is to be written
-pub puts_nothing : (honest : Type 0) (before after : List Block) (first table : VolumeTable) (sectors : List (ℕ × Block)) (array : ArrayView) → length sectors ≡ 0
+pub puts_nothing : (honest : Type 0) (before after : List Block) (first table : VolumeTable) (sectors : List (ℕ × Block)) (array : ArrayView)
+    → length sectors ≡ 0
     → AreTheChanged table.version before after sectors → Spell after table → Spell before first → first.version ≡ table.version
     → ChangesList honest 1 (MayPutTable first table) (PutsTable first table) array array (Ok tt)
 puts_nothing honest before after first table [] array none are spells begins same =
     changes_none honest 1 (MayPutTable first table) (PutsTable first table) array (λ V spelled. inl refl)
-    (λ V spelled. has_table V before after table [] are spells (spelled_long V first table.version same spelled) (λ k below unwritten. same_start V before first table.version k same below begins spelled))
+    (λ V spelled. has_table V before after table [] are spells (spelled_long V first table.version same spelled)
+    (λ k below unwritten. same_start V before first table.version k same below begins spelled))
 puts_nothing honest before after first table (sector ∷ sectors) array none are spells begins same = absurd (omega (arith, none))
 
 -- tables of one version are one where no sector of their spellings differs
-pub same_where_none : (before after : List Block) (first table : VolumeTable) (sectors : List (ℕ × Block)) → length sectors ≡ 0 → AreTheChanged table.version before after sectors
+pub same_where_none : (before after : List Block) (first table : VolumeTable) (sectors : List (ℕ × Block)) → length sectors ≡ 0
+    → AreTheChanged table.version before after sectors
     → Spell after table → Spell before first → first.version ≡ table.version → first ≡ table
 same_where_none before after first table [] none are spells begins same =
-    let has : HasTable table before before = has_table before before after table [] are spells (spelled_long before first table.version same begins) (λ k below unwritten. refl) in
+    let has : HasTable table before before = has_table before before after table [] are spells (spelled_long before first table.version same begins)
+    (λ k below unwritten. refl) in
     one_table before first table begins has.spelled
 same_where_none before after first table (sector ∷ sectors) none are spells begins same = absurd (omega (arith, none))

@@ -21,25 +21,34 @@ use Rattle.volume_table.proofs.ListChanges.{changes_both, changes_read}
 use Rattle.layout_map.specs.declared.sizes.TheConstants.{EXTENT_SECTORS, RESERVED_SECTORS}
 
 -- the extents of a set lie within its data sectors
-room_for : (members chunk stripes count : ℕ) → 1 ≤ extents_of members chunk stripes → count ≤ extents_of members chunk stripes → RESERVED_SECTORS + EXTENT_SECTORS * count ≤ data_sectors_of members chunk stripes
+room_for : (members chunk stripes count : ℕ) → 1 ≤ extents_of members chunk stripes → count ≤ extents_of members chunk stripes
+    → RESERVED_SECTORS + EXTENT_SECTORS * count ≤ data_sectors_of members chunk stripes
 room_for members chunk stripes count has few = omega (arith, has, few)
 
 -- a block lies in a logical sector of the set
-pub block_of_set : (geometry now : Geometry) (owners : List (Option Owned)) (number block sector : ℕ) → length owners ≤ extents_in geometry → now ≡ geometry → HasPlace owners number (block / EXTENT_SECTORS)
+pub block_of_set : (geometry now : Geometry) (owners : List (Option Owned)) (number block sector : ℕ) → length owners ≤ extents_in geometry → now ≡ geometry
+    → HasPlace owners number (block / EXTENT_SECTORS)
     → IsWhere owners number block sector → sector < data_sectors_of now.members now.chunk now.stripes
 block_of_set geometry now owners number block sector sized same place where_is =
     let few : length owners ≤ extents_in now = rw same sized in
-    omega (arith, room_for now.members now.chunk now.stripes (length owners) now.limits.has_extent few, (block_is_within owners number block sector place where_is).1)
+    omega (
+      arith,
+      room_for now.members now.chunk now.stripes (length owners) now.limits.has_extent few,
+      (block_is_within owners number block sector place where_is).1,
+    )
 
 -- one read more
-pub read_on : (honest still : Type 0) → (honest → still) → (sector : ℕ) (old mid new : ArrayView) (to : Bytes) (answer : Answer) → (honest → IsTrueTo mid.panel mid.history)
+pub read_on : (honest still : Type 0) → (honest → still) → (sector : ℕ) (old mid new : ArrayView) (to : Bytes) (answer : Answer)
+    → (honest → IsTrueTo mid.panel mid.history)
     → ChangesList honest 0 IsSame IsSame old mid (Ok tt) → Reads still sector mid new to answer → ChangesList honest 0 IsSame IsSame old new answer
 read_on honest still goes sector old mid new to answer true_to so_far reads =
-    changes_both honest still goes 0 0 IsSame IsSame IsSame IsSame IsSame IsSame old mid new answer true_to so_far (changes_read still sector mid new to answer reads)
+    changes_both honest still goes 0 0 IsSame IsSame IsSame IsSame IsSame IsSame old mid new answer true_to so_far
+    (changes_read still sector mid new to answer reads)
     (λ V W same. same) (λ V U W one two. two ∙ one) (λ V U W one two. two ∙ one)
 
 -- it gives the sector of the list on which the array was settled
-pub read_gives : (honest still : Type 0) → (honest → still) → (sector : ℕ) (old mid new : ArrayView) (to : Bytes) → ChangesList honest 0 IsSame IsSame old mid (Ok tt) → Reads still sector mid new to (Ok tt)
+pub read_gives : (honest still : Type 0) → (honest → still) → (sector : ℕ) (old mid new : ArrayView) (to : Bytes)
+    → ChangesList honest 0 IsSame IsSame old mid (Ok tt) → Reads still sector mid new to (Ok tt)
     → honest → (lost : Option Lost) (V : List Bytes) → RestsOn old lost V → to ≡ get_or V sector []
 read_gives honest still goes sector old mid new to so_far reads fair lost V rests =
     let now = so_far.rests fair refl lost V rests in
@@ -47,9 +56,11 @@ read_gives honest still goes sector old mid new to so_far reads fair lost V rest
 
 -- the first n blocks were read
 abbrev pub AreReadBelow : List (Option Owned) → (number at n : ℕ) → (blocks sectors : List Block) → Type 0
-AreReadBelow owners number at n blocks sectors = (j extent : ℕ) → j < n → IsAt owners extent number ((at + j) / EXTENT_SECTORS) → get_or blocks j [] ≡ get_or sectors (sector_of_block EXTENT_SECTORS extent (at + j)) []
+AreReadBelow owners number at n blocks sectors = (j extent : ℕ) → j < n → IsAt owners extent number ((at + j) / EXTENT_SECTORS)
+    → get_or blocks j [] ≡ get_or sectors (sector_of_block EXTENT_SECTORS extent (at + j)) []
 
-pub one_more_block : (owners : List (Option Owned)) (number at n sector : ℕ) (blocks V : List Block) (block : Block) → n < length blocks → AreReadBelow owners number at n blocks V
+pub one_more_block : (owners : List (Option Owned)) (number at n sector : ℕ) (blocks V : List Block) (block : Block) → n < length blocks
+    → AreReadBelow owners number at n blocks V
     → IsWhere owners number (at + n) sector → block ≡ get_or V sector [] → AreReadBelow owners number at (n + 1) (set blocks n block) V
 one_more_block owners number at n sector blocks V block within so_far where_is is j extent below here = ⊎_elim this other (cases_eq j n)
   where

@@ -18,12 +18,14 @@ use Rattle.volume_table.proofs.StepLemmas.{IsWithin, is_within}
 use Rattle.layout_map.specs.declared.sizes.TheConstants.{EXTENT_SECTORS}
 
 pub absent_is_shown : (extents : ℕ) (sectors : List Block) (volumes : VolumeMap) (name : List ℕ) (shows : Shows extents sectors volumes)
-    → ((number : ℕ) (entry : Record) → record_of shows.table.records number ≡ Some entry → entry.name.bytes.items ≢ name) → blocks_of name volumes.volumes ≡ None
+    → ((number : ℕ) (entry : Record) → record_of shows.table.records number ≡ Some entry → entry.name.bytes.items ≢ name)
+    → blocks_of name volumes.volumes ≡ None
 absent_is_shown extents sectors volumes name shows none = by_case (blocks_of name volumes.volumes) refl
   where
     by_case : (o : Option (List Block)) → blocks_of name volumes.volumes ≡ o → o ≡ None
     by_case None e = refl
-    by_case (Some blocks) e = let has : HasRecord shows.table.records name = shows.shown.all name blocks e in absurd (none has.number has.entry has.used has.named)
+    by_case (Some blocks) e = let has : HasRecord shows.table.records name =
+        shows.shown.all name blocks e in absurd (none has.number has.entry has.used has.named)
 
 pub length_is_shown : (extents : ℕ) (sectors : List Block) (volumes : VolumeMap) (number : ℕ) (entry : Record) (shows : Shows extents sectors volumes)
     → record_of shows.table.records number ≡ Some entry → HasLength entry.name.bytes.items entry.blocks volumes.volumes
@@ -32,7 +34,8 @@ length_is_shown extents sectors volumes number entry shows used =
     record { blocks = was.blocks; found = was.named; as_long = was.as_long }
 
 -- who answers blocks refused nothing
-blocks_if_not_refused : (refusal : Option Refusal) (reply : Reply) (blocks : List Block) → or_refused refusal reply ≡ Blocks blocks → (refusal ≡ None) × (reply ≡ Blocks blocks)
+blocks_if_not_refused : (refusal : Option Refusal) (reply : Reply) (blocks : List Block) → or_refused refusal reply ≡ Blocks blocks → (refusal ≡ None)
+    × (reply ≡ Blocks blocks)
 blocks_if_not_refused None reply blocks e = (refl, e)
 blocks_if_not_refused (Some refusal) reply blocks e = absurd (grind arith)
 
@@ -44,10 +47,12 @@ answered_blocks : (first second : List Block) → Blocks first ≡ Blocks second
 unfolding blocks_answered
 answered_blocks first second e = ap blocks_answered e
 
-pub read_is_shown : (extents : ℕ) (sectors : List Block) (volumes : VolumeMap) (number : ℕ) (entry : Record) (at count : ℕ) (blocks : List Block) (shows : Shows extents sectors volumes)
+pub read_is_shown : (extents : ℕ) (sectors : List Block) (volumes : VolumeMap) (number : ℕ) (entry : Record) (at count : ℕ) (blocks : List Block)
+    (shows : Shows extents sectors volumes)
     → record_of shows.table.records number ≡ Some entry → reply_to extents (Read entry.name.bytes.items at count) volumes ≡ Blocks blocks
     → (length blocks ≡ count)
-    × ((j extent : ℕ) → j < count → IsAt shows.table.extents extent number ((at + j) / EXTENT_SECTORS) → get_or blocks j [] ≡ get_or sectors (sector_of_block EXTENT_SECTORS extent (at + j)) [])
+    × ((j extent : ℕ) → j < count → IsAt shows.table.extents extent number ((at + j) / EXTENT_SECTORS)
+    → get_or blocks j [] ≡ get_or sectors (sector_of_block EXTENT_SECTORS extent (at + j)) [])
 read_is_shown extents sectors volumes number entry at count blocks shows used replied =
     let name = entry.name.bytes.items in
     let told = blocks_if_not_refused (refusal_of extents (Read name at count) volumes) (answer (Read name at count) volumes.volumes) blocks replied in

@@ -289,4 +289,5 @@ rebuild_counts position old new applies = by_end old.ended refl
     by_end : (ended : Option Refusal) → old.ended ≡ ended
         → steps_to_do old.array.table ≡ steps_left position (row_count old.array.table) + 1
     by_end None going = step_counts (Unit {0}) position old new (applies.going going)
-    by_end (Some refusal) ended = let never : Progressed (Position position) ≡ Refused refusal = (applies.ended refusal ended).refused refusal ended in absurd (cc)
+    by_end (Some refusal) ended = let never : Progressed (Position position) ≡ Refused refusal =
+        (applies.ended refusal ended).refused refusal ended in absurd (cc)

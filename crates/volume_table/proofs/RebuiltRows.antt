@@ -1,5 +1,6 @@
 -- Rows of the rebuilding member of a store's set are rebuilt.
-use Rattle.std.proofs.Common.{◌≡◌, ◌≢◌, ◌⊎◌, inl, inr, ℕ, zero, suc, ◌+◌, ◌<◌, ◌≤◌, ◌==◌, Bool, true, false, cond, not, List, [], ◌∷◌, length, take, Some, None, Result, Ok, Err, refl, sym, ap, ◌∙◌, arith}
+use Rattle.std.proofs.Common.{◌≡◌, ◌≢◌, ◌⊎◌, inl, inr, ℕ, zero, suc, ◌+◌, ◌<◌, ◌≤◌, ◌==◌, Bool, true, false, cond, not, List, [], ◌∷◌, length, take, Some, None}
+use Rattle.std.proofs.Common.{Result, Ok, Err, refl, sym, ap, ◌∙◌, arith}
 use Rattle.std.specs.Prelude.{slice_set}
 use Rattle.std.proofs.lemmas.Bool.{cases_eq, eq-eqb, ne_eqb, true≢false}
 use Rattle.std.proofs.lemmas.List.{get_or-set_other, get_or-set_same}
@@ -22,7 +23,8 @@ use Rattle.volume_table.specs.Stands.{StoreView}
 use Rattle.volume_table.specs.StoreCalls.{IsCounterFull, SetIsLeft, set_of}
 use Rattle.volume_table.specs.StoreFunctions.{RebuildsRows, progress_reply}
 use Rattle.volume_table.specs.VolumeStep.{OnSet, Progressed, RebuildStep, Refused, Scrub}
-use Rattle.volume_table.proofs.OnSet.{ActsOnSet, KeepsRefusal, acts_on_set, are_devices, devices_leave, fault_is_missing, faults_keep, kept_if_done, kept_if_refused, none_rebuilding, refused_replies, set_left_by, state_in, states_in}
+use Rattle.volume_table.proofs.OnSet.{ActsOnSet, KeepsRefusal, acts_on_set, are_devices, devices_leave, fault_is_missing, faults_keep, kept_if_done}
+use Rattle.volume_table.proofs.OnSet.{kept_if_refused, none_rebuilding, refused_replies, set_left_by, state_in, states_in}
 use Rattle.volume_table.proofs.RebuildCount.{set_rebuilds}
 use Rattle.volume_table.proofs.StoreSteps.{devices_in, has_fault, length-set_of, made, no_position, same_slots, slot_spared, states_left}
 
@@ -226,16 +228,19 @@ module _ (honest : Type 0) (rows : ℕ) (old new : StoreView) (answer : Result P
 
   -- what the step answers and leaves, by whether it is the last one
   answer_is : (last : Bool) → (end_at old.array.table rows == row_count old.array.table) ≡ last
-      → set_answer (devices_in old.array new.array) (RebuildStep rows) (set_of old.array.table) ≡ cond last (Progressed Complete) (Progressed (Position (end_at old.array.table rows)))
+      → set_answer (devices_in old.array new.array) (RebuildStep rows) (set_of old.array.table) ≡ cond last (Progressed Complete)
+      (Progressed (Position (end_at old.array.table rows)))
   answer_is last is_last = ap (λ (b : Bool). cond b (Progressed Complete) (Progressed (Position (end_at old.array.table rows)))) is_last
 
   changed_is : (last : Bool) → (end_at old.array.table rows == row_count old.array.table) ≡ last
       → changed_set (row_count old.array.table) (RebuildStep rows) (set_of old.array.table)
       ≡ cond last (made (rebuilt (states_in old.array.table)) 0) (made (states_in old.array.table) (end_at old.array.table rows))
-  changed_is last is_last = ap (λ (b : Bool). cond b (made (rebuilt (states_in old.array.table)) 0) (made (states_in old.array.table) (end_at old.array.table rows))) is_last
+  changed_is last is_last = ap (λ (b : Bool). cond b (made (rebuilt (states_in old.array.table)) 0)
+      (made (states_in old.array.table) (end_at old.array.table rows))) is_last
 
   -- the rows go on
-  not_last : (q member : ℕ) → IsAfterStep old.array.table member rows (Position q) new.array.table → (end_at old.array.table rows == row_count old.array.table) ≡ false
+  not_last : (q member : ℕ) → IsAfterStep old.array.table member rows (Position q) new.array.table
+      → (end_at old.array.table rows == row_count old.array.table) ≡ false
   not_last q member after = ne_eqb (end_at old.array.table rows) (row_count old.array.table) (λ same. absurd (omega (arith, after.0, after.1, same)))
 
   same_states : (q member : ℕ) → IsAfterStep old.array.table member rows (Position q) new.array.table
@@ -256,7 +261,8 @@ module _ (honest : Type 0) (rows : ℕ) (old new : StoreView) (answer : Result P
       → IsAfterStep old.array.table member rows (Position q) new.array.table
       → position_in (states_in new.array.table) (end_at old.array.table rows) ≡ new.array.table.position
   position_counts q member rebuilding after =
-      ap (λ (b : Bool). cond b (end_at old.array.table rows) 0) (ap has_rebuilding (sym (same_states q member after)) ∙ set_rebuilds old.array.table member rebuilding)
+      ap (λ (b : Bool). cond b (end_at old.array.table rows) 0)
+      (ap has_rebuilding (sym (same_states q member after)) ∙ set_rebuilds old.array.table member rebuilding)
       ∙ position_now q member after
 
   left_on : (q member : ℕ) → IsRebuilding old.array.table member

@@ -37,7 +37,8 @@ use Rattle.volume_table.proofs.TableLemmas.{remove_is_shown}
 use Rattle.layout_map.specs.declared.sizes.TheConstants.{EXTENT_SECTORS, RESERVED_SECTORS}
 
 -- an extent that another volume has after one gave its own back was that volume's before
-was_at : (owners left : List (Option Owned)) (number other extent place : ℕ) → IsGivenBack owners left number → IsAt left extent other place → IsAt owners extent other place
+was_at : (owners left : List (Option Owned)) (number other extent place : ℕ) → IsGivenBack owners left number → IsAt left extent other place
+    → IsAt owners extent other place
 was_at owners left number other extent place given there = by_owner (owner_of owners extent) refl
   where
     by_owner : (one : Option Owned) → owner_of owners extent ≡ one → IsAt owners extent other place
@@ -49,19 +50,25 @@ was_at owners left number other extent place given there = by_owner (owner_of ow
     ]
 
 -- all other records stay, with the extents and the blocks of their volumes
-others_stay : (extents : ℕ) (old new : VolumeTable) (owners left : List (Option Owned)) (number : ℕ) (before now : List Block) → AreKept extents old owners → AreKept extents new left
+others_stay : (extents : ℕ) (old new : VolumeTable) (owners left : List (Option Owned)) (number : ℕ) (before now : List Block) → AreKept extents old owners
+    → AreKept extents new left
     → new.records ≡ slice_set old.records number None → IsGivenBack owners left number → HasTable new before now
     → ChangesOneRecord EXTENT_SECTORS old.records new.records old.extents new.extents before now number
 others_stay extents old new owners left number before now kept kept_then records given has = record {
-  same_records = λ other apart. ap (λ (those : List (Option Record)). record_of those other) records ∙ get_or-set_other old.records number other None None apart;
+  same_records = λ other apart. ap (λ (those : List (Option Record)). record_of those other) records
+      ∙ get_or-set_other old.records number other None None apart;
   same_extents = λ other extent place apart there.
-      sym (kept_owner extents old owners kept extent) ∙ was_at owners left number other extent place given (kept_owner extents new left kept_then extent ∙ there);
-  same_blocks = λ other entry apart used j extent below there. has.beyond (RESERVED_SECTORS + EXTENT_SECTORS * extent + j % EXTENT_SECTORS) (omega (arith, table_length_most new.version));
+      sym (kept_owner extents old owners kept extent) ∙ was_at owners left number other extent place given
+      (kept_owner extents new left kept_then extent ∙ there);
+  same_blocks = λ other entry apart used j extent below there. has.beyond (RESERVED_SECTORS + EXTENT_SECTORS * extent + j % EXTENT_SECTORS)
+      (omega (arith, table_length_most new.version));
 }
 
 -- so the list with the new table shows the volumes but the one that is removed
-removal_shows : (extents : ℕ) (old new : VolumeTable) (owners left : List (Option Owned)) (name : List ℕ) (number : ℕ) (before now : List Block) (volumes : VolumeMap) → AreKept extents old owners
-    → AreKept extents new left → new.version ≡ old.version → HasRecordAt old.records name number → new.records ≡ slice_set old.records number None → IsGivenBack owners left number → ShowsBy extents old before volumes
+removal_shows : (extents : ℕ) (old new : VolumeTable) (owners left : List (Option Owned)) (name : List ℕ) (number : ℕ) (before now : List Block)
+    (volumes : VolumeMap) → AreKept extents old owners
+    → AreKept extents new left → new.version ≡ old.version → HasRecordAt old.records name number → new.records ≡ slice_set old.records number None
+    → IsGivenBack owners left number → ShowsBy extents old before volumes
     → None ≡ refusal_of extents (Remove name) volumes → HasTable new before now → ShowsBy extents new now (done (Remove name) volumes)
 removal_shows extents old new owners left name number before now volumes kept kept_then version found records given shown admitted has = record {
   shows = after;
@@ -81,19 +88,23 @@ removal_shows extents old new owners left name number before now volumes kept ke
         (subst (λ (n : List ℕ). Shows extents now (volumes_after extents (Remove n) volumes)) found.named
         (remove_is_shown extents before now volumes new number found.entry shown.shows
         (ap (λ (t : VolumeTable). record_of t.records number) shown.by ∙ found.used)
-        (subst (λ (n : List ℕ). reply_to extents (Remove n) volumes ≡ Done) (sym found.named) is_done) has.spelled (version ∙ ap (λ (t : VolumeTable). t.version) (sym shown.by) ∙ shown.shows.of_version) kept_then.free_beyond
+        (subst (λ (n : List ℕ). reply_to extents (Remove n) volumes ≡ Done) (sym found.named) is_done) has.spelled
+        (version ∙ ap (λ (t : VolumeTable). t.version) (sym shown.by) ∙ shown.shows.of_version) kept_then.free_beyond
         (subst (λ (t : VolumeTable). ChangesOneRecord EXTENT_SECTORS t.records new.records t.extents new.extents before now number) (sym shown.by)
         (others_stay extents old new owners left number before now kept kept_then records given has)) gone))
 
 -- A removal that is admitted, by its one call.
-pub remove_applies : (honest : Type 0) (name : List ℕ) (old new : StoreView) (owners left : List (Option Owned)) (number : ℕ) (result : Answer) → old.ended ≡ None
-    → AreKept (extents_for_store old) old.keeps owners → AreKept (extents_for_store new) new.keeps left → new.keeps.version ≡ old.keeps.version → ∥ HasRecordAt old.keeps.records name number ∥₁
+pub remove_applies : (honest : Type 0) (name : List ℕ) (old new : StoreView) (owners left : List (Option Owned)) (number : ℕ) (result : Answer)
+    → old.ended ≡ None
+    → AreKept (extents_for_store old) old.keeps owners → AreKept (extents_for_store new) new.keeps left → new.keeps.version ≡ old.keeps.version
+    → ∥ HasRecordAt old.keeps.records name number ∥₁
     → new.keeps.records ≡ slice_set old.keeps.records number None → IsGivenBack owners left number
     → ((extents : ℕ) (sectors : List Block) (volumes : VolumeMap) → ShowsBy extents old.keeps sectors volumes → None ≡ refusal_of extents (Remove name) volumes)
     → (honest → IsTrueTo new.array.panel new.array.history)
     → ChangesList honest 1 (MayPutTable old.keeps new.keeps) (PutsTable old.keeps new.keeps) old.array new.array result
     → (result ≡ Ok tt → new.ended ≡ None) → ((refusal : Refusal) → result ≡ Err refusal → new.ended ≡ Some refusal) → RemovesVolume honest name old new result
-remove_applies honest name old new owners left number result going kept kept_then version found records given admitted true_to changes goes ends = by_result result changes goes ends
+remove_applies honest name old new owners left number result going kept kept_then version found records given admitted true_to changes goes ends =
+    by_result result changes goes ends
   where
     kept_there : AreKept (extents_for_store old) new.keeps left
     kept_there = subst (λ (its : Geometry). AreKept (extents_in its) new.keeps left) changes.goes_on.not_older.same_geometry kept_then
@@ -101,7 +112,8 @@ remove_applies honest name old new owners left number result going kept kept_the
     shows : (V W : List Block) (volumes : VolumeMap) → ShowsBy (extents_for_store old) old.keeps V volumes → HasTable new.keeps V W
         → ShowsBy (extents_for_store old) new.keeps W (done (Remove name) volumes)
     shows V W volumes shown has =
-        removal_shows (extents_for_store old) old.keeps new.keeps owners left name number V W volumes kept kept_there version (found_record old.keeps.records name number found) records given shown
+        removal_shows (extents_for_store old) old.keeps new.keeps owners left name number V W volumes kept kept_there version
+        (found_record old.keeps.records name number found) records given shown
         (admitted (extents_for_store old) V volumes shown) has
 
     -- the list begins with the old table's spelling
@@ -114,20 +126,25 @@ remove_applies honest name old new owners left number result going kept kept_the
     either V W volumes shown (inr has) = inr (shows V W volumes shown has).shows
 
     by_result : (result : Answer) → ChangesList honest 1 (MayPutTable old.keeps new.keeps) (PutsTable old.keeps new.keeps) old.array new.array result
-        → (result ≡ Ok tt → new.ended ≡ None) → ((refusal : Refusal) → result ≡ Err refusal → new.ended ≡ Some refusal) → RemovesVolume honest name old new result
+        → (result ≡ Ok tt → new.ended ≡ None) → ((refusal : Refusal) → result ≡ Err refusal → new.ended ≡ Some refusal)
+        → RemovesVolume honest name old new result
     by_result (Ok unit) changes goes ends =
-        done_with_volumes honest (Remove name) 1 (MayPutTable old.keeps new.keeps) (PutsTable old.keeps new.keeps) old new Done tt (omega arith) going (goes refl)
+        done_with_volumes honest (Remove name) 1 (MayPutTable old.keeps new.keeps) (PutsTable old.keeps new.keeps) old new Done tt (omega arith) going
+        (goes refl)
         true_to changes refl (admitted (extents_for_store old)) (λ fair lost V volumes rests shown. refl)
         (λ V W volumes shown passed. either V W volumes shown (passed (begins V volumes shown)))
         (λ V W volumes shown put. shows V W volumes shown (put (begins V volumes shown)))
     by_result (Err refusal) changes goes ends =
         ended_with_volumes honest (Remove name) 1 (MayPutTable old.keeps new.keeps) (PutsTable old.keeps new.keeps) old new refusal tt (omega arith) going
-        (ends refusal refl) true_to changes (admitted (extents_for_store old)) (λ V W volumes shown passed. either V W volumes shown (passed (begins V volumes shown)))
+        (ends refusal refl) true_to changes (admitted (extents_for_store old))
+        (λ V W volumes shown passed. either V W volumes shown (passed (begins V volumes shown)))
 
 -- What a removal is refused with at once does not end the store.
 pub remove_is_refused : (honest : Type 0) (name : List ℕ) (store : StoreView) (refusal : Refusal) → store.ended ≡ None → refusal ≡ NoVolume
-    → ((extents : ℕ) (sectors : List Block) (volumes : VolumeMap) → ShowsBy extents store.keeps sectors volumes → Some refusal ≡ refusal_of extents (Remove name) volumes)
+    → ((extents : ℕ) (sectors : List Block) (volumes : VolumeMap) → ShowsBy extents store.keeps sectors volumes
+    → Some refusal ≡ refusal_of extents (Remove name) volumes)
     → RemovesVolume honest name store store (Err refusal)
 remove_is_refused honest name store refusal going is refuses =
-    refused_at_once honest (Remove name) store refusal going (subst (Contains (NoVolume ∷ [])) (sym is) (Contains-push [] NoVolume)) (λ ends. subst EndsIt is ends)
+    refused_at_once honest (Remove name) store refusal going (subst (Contains (NoVolume ∷ [])) (sym is) (Contains-push [] NoVolume))
+    (λ ends. subst EndsIt is ends)
     (refuses (extents_for_store store))

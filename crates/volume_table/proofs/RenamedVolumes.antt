@@ -1,5 +1,6 @@
 -- A volume gets another name, by what the calls of the array do.
-use Rattle.std.proofs.Common.{◌≡◌, ◌≢◌, ◌⊎◌, inl, inr, ℕ, zero, suc, ◌+◌, ◌≤◌, List, [], ◌∷◌, slice_set, Option, Some, None, Ok, Err, OnOk, refl, sym, ◌∙◌, ap, subst, arith}
+use Rattle.std.proofs.Common.{◌≡◌, ◌≢◌, ◌⊎◌, inl, inr, ℕ, zero, suc, ◌+◌, ◌≤◌, List, [], ◌∷◌, slice_set, Option, Some, None, Ok, Err, OnOk, refl, sym, ◌∙◌, ap}
+use Rattle.std.proofs.Common.{subst, arith}
 use Rattle.std.specs.Prelude.{Contains}
 use Rattle.sector_model.specs.declared.refusal.Refusal.{Refusal}
 use Rattle.sector_model.specs.declared.refusal.Refusal.TheVariants.{BadName, Exists, NoVolume}
@@ -34,30 +35,36 @@ use Rattle.volume_table.proofs.TableLemmas.{rename_is_shown}
 use Rattle.std.proofs.lemmas.List.{get_or-set_other}
 
 -- a table in which the record of a name has another, with the map of extents that it had
-pub record IsRenamed (extents : ℕ) (old new : VolumeTable) (owners : List (Option Owned)) (name name_after : List ℕ) (number : ℕ) (entry : Record) : Type 0 where
-  pub kept : AreKept extents old owners
-  pub kept_then : AreKept extents new owners
-  pub version : new.version ≡ old.version
-  pub found : HasRecordAt old.records name number
-  pub may : MayRename old.version old.records number entry
-  pub named : entry.name.bytes.items ≡ name_after
-  pub records : new.records ≡ slice_set old.records number (Some entry)
+pub record IsRenamed (extents : ℕ) (old new : VolumeTable) (owners : List (Option Owned)) (name name_after : List ℕ) (number : ℕ) (entry : Record) : Type 0
+  where
+    pub kept : AreKept extents old owners
+    pub kept_then : AreKept extents new owners
+    pub version : new.version ≡ old.version
+    pub found : HasRecordAt old.records name number
+    pub may : MayRename old.version old.records number entry
+    pub named : entry.name.bytes.items ≡ name_after
+    pub records : new.records ≡ slice_set old.records number (Some entry)
 
 -- one record has another name, and all else is as it was
-changes_name : (extents : ℕ) (old new : VolumeTable) (owners : List (Option Owned)) (name name_after : List ℕ) (number : ℕ) (entry : Record) (is : IsRenamed extents old new owners name name_after number entry)
+changes_name : (extents : ℕ) (old new : VolumeTable) (owners : List (Option Owned)) (name name_after : List ℕ) (number : ℕ) (entry : Record)
+    (is : IsRenamed extents old new owners name name_after number entry)
     → ChangesName old.records new.records number is.found.entry name_after
 changes_name extents old new owners name name_after number entry is = record {
   entry = entry;
   used = ap (λ (those : List (Option Record)). record_of those number) is.records
-      ∙ record_here old.records number (Some entry) (table_all_records old.records old.extents old.is_table) (renamed_below old.version old.records number entry is.may);
+      ∙ record_here old.records number (Some entry) (table_all_records old.records old.extents old.is_table)
+      (renamed_below old.version old.records number entry is.may);
   named = is.named;
   as_long = subst (λ o. IsRenamedFrom o entry) is.found.used is.may.from;
-  others = λ other apart. ap (λ (those : List (Option Record)). record_of those other) is.records ∙ get_or-set_other old.records number other (Some entry) None apart;
+  others = λ other apart. ap (λ (those : List (Option Record)). record_of those other) is.records
+      ∙ get_or-set_other old.records number other (Some entry) None apart;
 }
 
 -- so the list with the new table shows the volume by its new name
-renaming_shows : (extents : ℕ) (old new : VolumeTable) (owners : List (Option Owned)) (name name_after : List ℕ) (number : ℕ) (entry : Record) (before now : List Block) (volumes : VolumeMap)
-    → IsRenamed extents old new owners name name_after number entry → ShowsBy extents old before volumes → None ≡ refusal_of extents (Rename name name_after) volumes → HasTable new before now
+renaming_shows : (extents : ℕ) (old new : VolumeTable) (owners : List (Option Owned)) (name name_after : List ℕ) (number : ℕ) (entry : Record)
+    (before now : List Block) (volumes : VolumeMap)
+    → IsRenamed extents old new owners name name_after number entry → ShowsBy extents old before volumes
+    → None ≡ refusal_of extents (Rename name name_after) volumes → HasTable new before now
     → ShowsBy extents new now (done (Rename name name_after) volumes)
 renaming_shows extents old new owners name name_after number entry before now volumes is shown admitted has = record {
   shows = after;
@@ -71,10 +78,12 @@ renaming_shows extents old new owners name name_after number entry before now vo
     version = is.version ∙ ap (λ (t : VolumeTable). t.version) (sym shown.by) ∙ shown.shows.of_version
 
     changes : ChangesName shown.shows.table.records new.records number is.found.entry name_after
-    changes = subst (λ (t : VolumeTable). ChangesName t.records new.records number is.found.entry name_after) (sym shown.by) (changes_name extents old new owners name name_after number entry is)
+    changes = subst (λ (t : VolumeTable). ChangesName t.records new.records number is.found.entry name_after) (sym shown.by)
+        (changes_name extents old new owners name name_after number entry is)
 
     same_owner : (extent : ℕ) → owner_of new.extents extent ≡ owner_of shown.shows.table.extents extent
-    same_owner extent = sym (kept_owner extents new owners is.kept_then extent) ∙ kept_owner extents old owners is.kept extent ∙ ap (λ (t : VolumeTable). owner_of t.extents extent) (sym shown.by)
+    same_owner extent = sym (kept_owner extents new owners is.kept_then extent) ∙ kept_owner extents old owners is.kept extent
+        ∙ ap (λ (t : VolumeTable). owner_of t.extents extent) (sym shown.by)
 
     after : Shows extents now (done (Rename name name_after) volumes)
     after =
@@ -86,14 +95,20 @@ renaming_shows extents old new owners name name_after number entry before now vo
         (λ sector past. has.beyond sector (subst (λ (v : ℕ). table_length v ≤ sector) (sym version) past))))
 
 -- A rename that is admitted, by its one call.
-pub rename_applies : (honest : Type 0) (name name_after : List ℕ) (old new : StoreView) (owners : List (Option Owned)) (number : ℕ) (entry : Record) (result : Answer) → old.ended ≡ None
-    → AreKept (extents_for_store old) old.keeps owners → AreKept (extents_for_store new) new.keeps owners → new.keeps.version ≡ old.keeps.version → ∥ HasRecordAt old.keeps.records name number ∥₁
-    → MayRename old.keeps.version old.keeps.records number entry → entry.name.bytes.items ≡ name_after → new.keeps.records ≡ slice_set old.keeps.records number (Some entry)
-    → ((extents : ℕ) (sectors : List Block) (volumes : VolumeMap) → ShowsBy extents old.keeps sectors volumes → None ≡ refusal_of extents (Rename name name_after) volumes)
+pub rename_applies : (honest : Type 0) (name name_after : List ℕ) (old new : StoreView) (owners : List (Option Owned)) (number : ℕ) (entry : Record)
+    (result : Answer) → old.ended ≡ None
+    → AreKept (extents_for_store old) old.keeps owners → AreKept (extents_for_store new) new.keeps owners → new.keeps.version ≡ old.keeps.version
+    → ∥ HasRecordAt old.keeps.records name number ∥₁
+    → MayRename old.keeps.version old.keeps.records number entry → entry.name.bytes.items ≡ name_after
+    → new.keeps.records ≡ slice_set old.keeps.records number (Some entry)
+    → ((extents : ℕ) (sectors : List Block) (volumes : VolumeMap) → ShowsBy extents old.keeps sectors volumes
+    → None ≡ refusal_of extents (Rename name name_after) volumes)
     → (honest → IsTrueTo new.array.panel new.array.history)
     → ChangesList honest 1 (MayPutTable old.keeps new.keeps) (PutsTable old.keeps new.keeps) old.array new.array result
-    → (result ≡ Ok tt → new.ended ≡ None) → ((refusal : Refusal) → result ≡ Err refusal → new.ended ≡ Some refusal) → RenamesVolume honest name name_after old new result
-rename_applies honest name name_after old new owners number entry result going kept kept_then version found may named records admitted true_to changes goes ends = by_result result changes goes ends
+    → (result ≡ Ok tt → new.ended ≡ None) → ((refusal : Refusal) → result ≡ Err refusal → new.ended ≡ Some refusal)
+    → RenamesVolume honest name name_after old new result
+rename_applies honest name name_after old new owners number entry result going kept kept_then version found may named records admitted true_to changes goes
+    ends = by_result result changes goes ends
   where
     is : IsRenamed (extents_for_store old) old.keeps new.keeps owners name name_after number entry
     is = record {
@@ -109,7 +124,8 @@ rename_applies honest name name_after old new owners number entry result going k
     shows : (V W : List Block) (volumes : VolumeMap) → ShowsBy (extents_for_store old) old.keeps V volumes → HasTable new.keeps V W
         → ShowsBy (extents_for_store old) new.keeps W (done (Rename name name_after) volumes)
     shows V W volumes shown has =
-        renaming_shows (extents_for_store old) old.keeps new.keeps owners name name_after number entry V W volumes is shown (admitted (extents_for_store old) V volumes shown) has
+        renaming_shows (extents_for_store old) old.keeps new.keeps owners name name_after number entry V W volumes is shown
+        (admitted (extents_for_store old) V volumes shown) has
 
     -- the list begins with the old table's spelling
     begins : (V : List Block) (volumes : VolumeMap) → ShowsBy (extents_for_store old) old.keeps V volumes → Spell V old.keeps
@@ -121,29 +137,37 @@ rename_applies honest name name_after old new owners number entry result going k
     either V W volumes shown (inr has) = inr (shows V W volumes shown has).shows
 
     by_result : (result : Answer) → ChangesList honest 1 (MayPutTable old.keeps new.keeps) (PutsTable old.keeps new.keeps) old.array new.array result
-        → (result ≡ Ok tt → new.ended ≡ None) → ((refusal : Refusal) → result ≡ Err refusal → new.ended ≡ Some refusal) → RenamesVolume honest name name_after old new result
+        → (result ≡ Ok tt → new.ended ≡ None) → ((refusal : Refusal) → result ≡ Err refusal → new.ended ≡ Some refusal)
+        → RenamesVolume honest name name_after old new result
     by_result (Ok unit) changes goes ends =
-        done_with_volumes honest (Rename name name_after) 1 (MayPutTable old.keeps new.keeps) (PutsTable old.keeps new.keeps) old new Done tt (omega arith) going (goes refl)
+        done_with_volumes honest (Rename name name_after) 1 (MayPutTable old.keeps new.keeps) (PutsTable old.keeps new.keeps) old new Done tt (omega arith)
+        going (goes refl)
         true_to changes refl (admitted (extents_for_store old)) (λ fair lost V volumes rests shown. refl)
         (λ V W volumes shown passed. either V W volumes shown (passed (begins V volumes shown)))
         (λ V W volumes shown put. shows V W volumes shown (put (begins V volumes shown)))
     by_result (Err refusal) changes goes ends =
-        ended_with_volumes honest (Rename name name_after) 1 (MayPutTable old.keeps new.keeps) (PutsTable old.keeps new.keeps) old new refusal tt (omega arith) going
-        (ends refusal refl) true_to changes (admitted (extents_for_store old)) (λ V W volumes shown passed. either V W volumes shown (passed (begins V volumes shown)))
+        ended_with_volumes honest (Rename name name_after) 1 (MayPutTable old.keeps new.keeps) (PutsTable old.keeps new.keeps) old new refusal tt (omega arith)
+        going
+        (ends refusal refl) true_to changes (admitted (extents_for_store old))
+        (λ V W volumes shown passed. either V W volumes shown (passed (begins V volumes shown)))
 
 -- the table with the new name is another
-pub rename_differs : (old new : VolumeTable) (number : ℕ) (entry : Record) → MayRename old.version old.records number entry → new.records ≡ slice_set old.records number (Some entry) → old ≢ new
+pub rename_differs : (old new : VolumeTable) (number : ℕ) (entry : Record) → MayRename old.version old.records number entry
+    → new.records ≡ slice_set old.records number (Some entry) → old ≢ new
 rename_differs old new number entry may records same =
     may.absent number entry
     (ap (λ (t : VolumeTable). record_of t.records number) same ∙ ap (λ (those : List (Option Record)). record_of those number) records
-    ∙ record_here old.records number (Some entry) (table_all_records old.records old.extents old.is_table) (renamed_below old.version old.records number entry may))
+    ∙ record_here old.records number (Some entry) (table_all_records old.records old.extents old.is_table)
+    (renamed_below old.version old.records number entry may))
     refl
 
 -- A rename that was done changed the one name, by one entry.
 pub rename_kept : (name name_after : List ℕ) (old new : StoreView) (owners : List (Option Owned)) (number : ℕ) (entry : Record) (result : Answer)
     → new.array.table.geometry ≡ old.array.table.geometry
-    → AreKept (extents_for_store old) old.keeps owners → AreKept (extents_for_store new) new.keeps owners → new.keeps.version ≡ old.keeps.version → ∥ HasRecordAt old.keeps.records name number ∥₁
-    → MayRename old.keeps.version old.keeps.records number entry → entry.name.bytes.items ≡ name_after → new.keeps.records ≡ slice_set old.keeps.records number (Some entry)
+    → AreKept (extents_for_store old) old.keeps owners → AreKept (extents_for_store new) new.keeps owners → new.keeps.version ≡ old.keeps.version
+    → ∥ HasRecordAt old.keeps.records name number ∥₁
+    → MayRename old.keeps.version old.keeps.records number entry → entry.name.bytes.items ≡ name_after
+    → new.keeps.records ≡ slice_set old.keeps.records number (Some entry)
     → (result ≡ Ok tt → new.array.number ≡ old.array.number + 1) → OnOk result (RenamesKept name name_after old new)
 rename_kept name name_after old new owners number entry (Ok unit) same kept kept_then version found may named records one_entry =
     let its = found_record old.keeps.records name number found in
@@ -156,7 +180,8 @@ rename_kept name name_after old new owners number entry (Ok unit) same kept kept
       named = its.named;
       changes = changes_name (extents_for_store old) old.keeps new.keeps owners name name_after number entry
           record { kept = kept; kept_then = then; version = version; found = its; may = may; named = named; records = records };
-      extents = λ extent. sym (kept_owner (extents_for_store old) new.keeps owners then extent) ∙ kept_owner (extents_for_store old) old.keeps owners kept extent;
+      extents = λ extent. sym (kept_owner (extents_for_store old) new.keeps owners then extent)
+          ∙ kept_owner (extents_for_store old) old.keeps owners kept extent;
       one_entry = one_entry refl;
     }
 rename_kept name name_after old new owners number entry (Err refusal) same kept kept_then version found may named records one_entry = tt
@@ -170,7 +195,8 @@ not_ended refusal (suc (suc (suc k)), below, is) ends = absurd (omega (arith, be
 
 pub rename_is_refused : (honest : Type 0) (name name_after : List ℕ) (store : StoreView) (refusal : Refusal) → store.ended ≡ None
     → Contains (NoVolume ∷ BadName ∷ Exists ∷ []) refusal
-    → ((extents : ℕ) (sectors : List Block) (volumes : VolumeMap) → ShowsBy extents store.keeps sectors volumes → Some refusal ≡ refusal_of extents (Rename name name_after) volumes)
+    → ((extents : ℕ) (sectors : List Block) (volumes : VolumeMap) → ShowsBy extents store.keeps sectors volumes
+    → Some refusal ≡ refusal_of extents (Rename name name_after) volumes)
     → RenamesVolume honest name name_after store store (Err refusal)
 rename_is_refused honest name name_after store refusal going among refuses =
     refused_at_once honest (Rename name name_after) store refusal going among (not_ended refusal among) (refuses (extents_for_store store))

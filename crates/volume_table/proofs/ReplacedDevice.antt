@@ -1,5 +1,6 @@
 -- A missing slot of a store's set is given a device.
-use Rattle.std.proofs.Common.{◌≡◌, ◌≢◌, ◌⊎◌, inl, inr, ℕ, ◌+◌, ◌<◌, ◌≤◌, Bool, true, false, cond, not, ◌||◌, nat_le, nat_lt, List, length, take, Option, Some, None, Ok, Err, refl, sym, ap, ap₂, ◌∙◌, subst, arith}
+use Rattle.std.proofs.Common.{◌≡◌, ◌≢◌, ◌⊎◌, inl, inr, ℕ, ◌+◌, ◌<◌, ◌≤◌, Bool, true, false, cond, not, ◌||◌, nat_le, nat_lt, List, length, take, Option, Some}
+use Rattle.std.proofs.Common.{None, Ok, Err, refl, sym, ap, ap₂, ◌∙◌, subst, arith}
 use Rattle.std.specs.Prelude.{slice_index_or, slice_set}
 use Rattle.std.proofs.lemmas.Bool.{cases_eq, le-leb, le-ltb, lt-leb, lt-ltb, ltb-false, ltb-true, or_from, or_left, or_right}
 use Rattle.std.proofs.lemmas.List.{get_or-set_other, get_or-set_same, get_or_default}
@@ -24,7 +25,8 @@ use Rattle.volume_table.specs.Stands.{StoreView, store_of}
 use Rattle.volume_table.specs.StoreCalls.{IncarnationsStay, IsCounterFull, SetIsLeft, set_of}
 use Rattle.volume_table.specs.StoreFunctions.{ReplacesDevice, done_reply}
 use Rattle.volume_table.specs.VolumeStep.{Done, OnSet, Refused, Replace, Scrub}
-use Rattle.volume_table.proofs.OnSet.{ActsOnSet, KeepsRefusal, acts_on_set, are_devices, devices_leave, fault_is_down, is_fault, refused_on_set, refused_replies, set_left_by, state_in, states_in}
+use Rattle.volume_table.proofs.OnSet.{ActsOnSet, KeepsRefusal, acts_on_set, are_devices, devices_leave, fault_is_down, is_fault, refused_on_set}
+use Rattle.volume_table.proofs.OnSet.{refused_replies, set_left_by, state_in, states_in}
 use Rattle.volume_table.proofs.StoreSteps.{devices_in, generation_same, has_fault, incarnations_same, length-set_of, made, same_slots, slot_spared, states_left}
 
 -- ---- what the command is refused with
@@ -122,7 +124,8 @@ missing_has_none : (table : Table) (slot : ℕ) → slot < slots_of table → st
     → table.position ≡ 0
 missing_has_none table slot of_set missing = table.allowed.no_position (λ k rebuilding.
     let within : k < slots_of table = omega (arith, table.allowed.rebuilds_member k rebuilding) in
-    let same : k ≡ slot = table.allowed.one_out k slot within of_set (rebuilding_is_out (state_at table.states k) rebuilding) (missing_differs (state_at table.states slot) missing) in
+    let same : k ≡ slot = table.allowed.one_out k slot within of_set (rebuilding_is_out (state_at table.states k) rebuilding)
+    (missing_differs (state_at table.states slot) missing) in
     missing_is_not_rebuilding (state_at table.states slot) missing (sym (ap (state_at table.states) same) ∙ rebuilding))
   where
     rebuilding_is_out : (state : State) → state ≡ Rebuilding → state ≡ InSync → ⊥
@@ -184,12 +187,14 @@ joined_set old new slot of_set none same is = by_kind (nat_lt slot old.geometry.
 
     by_kind : (b : Bool) → nat_lt slot old.geometry.members ≡ b → joined slot (set_of old) ≡ made (states_in new) 0
     by_kind true member =
-        ap (λ (b : Bool). cond {A = SetState} b (made (slice_set (states_in old) slot Rebuilding) 0) (made (slice_set (states_in old) slot InSync) old.position))
+        ap (λ (b : Bool). cond {A = SetState} b (made (slice_set (states_in old) slot Rebuilding) 0)
+        (made (slice_set (states_in old) slot InSync) old.position))
         (lt-ltb (slot + 2) (length (states_in old)) (omega (arith, ltb-true slot old.geometry.members member, length-set_of old)))
         ∙ ap (λ (s : State). made (slice_set (states_in old) slot s) 0) (sym (ap (λ (b : Bool). cond b Rebuilding InSync) member))
         ∙ ap (λ states. made states 0) states_now
     by_kind false journal =
-        ap (λ (b : Bool). cond {A = SetState} b (made (slice_set (states_in old) slot Rebuilding) 0) (made (slice_set (states_in old) slot InSync) old.position))
+        ap (λ (b : Bool). cond {A = SetState} b (made (slice_set (states_in old) slot Rebuilding) 0)
+        (made (slice_set (states_in old) slot InSync) old.position))
         (le-ltb (slot + 2) (length (states_in old)) (omega (arith, ltb-false slot old.geometry.members journal, length-set_of old)))
         ∙ ap₂ (λ (s : State) (p : ℕ). made (slice_set (states_in old) slot s) p) (sym (ap (λ (b : Bool). cond b Rebuilding InSync) journal)) none
         ∙ ap (λ states. made states 0) states_now
@@ -232,7 +237,8 @@ module _ (honest : Type 0) (slot : ℕ) (old new : StoreView) (answer : Answer) 
       set_left_by honest (Replace slot) old new (Refused NotUsable) (devices_in old.array new.array) (Some NotUsable)
       (are_devices honest old.array new.array (λ fair. is.replaces.failure fair unended))
       (ap₂ refusal_by replace_filled (useless why missing)) refl
-      (ap (λ (states : List State). made states (position_in states old.array.table.position)) (states_left old.array new.array is.replaces.goes_on (λ other of_set.
+      (ap (λ (states : List State). made states (position_in states old.array.table.position))
+      (states_left old.array new.array is.replaces.goes_on (λ other of_set.
       elim (cases_eq other slot) [
         | inl same ↦ record {
           state = inl (ap (state_at new.array.table.states) same ∙ missing ∙ sym is.missing ∙ sym (ap (state_at old.array.table.states) same));
@@ -254,7 +260,8 @@ module _ (honest : Type 0) (slot : ℕ) (old new : StoreView) (answer : Answer) 
       (ap₂ refusal_by replace_filled (or_from ((devices_in old.array new.array).unusable slot) (has_fault new.array slot)
       (or_from (old.array.panel.down slot) (nat_lt (old.array.panel.sectors slot) (least_sectors old.array.table.geometry slot))
       (false_if (old.array.panel.down slot) (λ down. usable_before (inl down)))
-      (false_if (nat_lt (old.array.panel.sectors slot) (least_sectors old.array.table.geometry slot)) (λ short. usable_before (inr (ltb-true (old.array.panel.sectors slot) (least_sectors old.array.table.geometry slot) short)))))
+      (false_if (nat_lt (old.array.panel.sectors slot) (least_sectors old.array.table.geometry slot))
+      (λ short. usable_before (inr (ltb-true (old.array.panel.sectors slot) (least_sectors old.array.table.geometry slot) short)))))
       (false_if (has_fault new.array slot) (λ fault. usable_now (inl (fault_is_down new.array slot fault)))))) refl
       (ap (settled (devices_in old.array new.array)) (joined_set old.array.table new.array.table slot is.of_set none_before slots_same is_joined)
       ∙ devices_leave old.array new.array 0 (no_position_counts new.array.table 0 new.array.table.position refl is_joined.has_position))
@@ -313,7 +320,11 @@ replace_acts honest slot old new answer is table left = record {
 given_applies : (honest : Type 0) (slot : ℕ) (old new : StoreView) (answer : Answer)
     → GivesDevice honest slot old new answer → ReplacesDevice honest slot old new answer
 given_applies honest slot old new (Ok done) is =
-    acts_on_set honest (Replace slot) (Unit {0}) old new (Ok done) Done record { refused = λ refusal same. absurd (done_differs refusal same); unended = λ unended. unended }
+    acts_on_set honest (Replace slot) (Unit {0}) old new (Ok done) Done record {
+      refused = λ refusal same. absurd (done_differs refusal same);
+      unended =
+          λ unended. unended;
+    }
     (replace_acts honest slot old new (Ok done) is (inr (inl (is.replaces.joined refl))) (λ unended.
     let may = is.replaces.may_join refl in
     left_joined honest slot old new (Ok done) is unended may.1 may.2 (is.replaces.joined refl)))

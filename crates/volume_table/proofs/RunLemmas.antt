@@ -16,7 +16,8 @@ chain_keeps_volumes [] (_ ∷ acks) old new chain lost volumes rests = elim chai
 chain_keeps_volumes (_ ∷ events) [] old new chain lost volumes rests = elim chain [ ]
 chain_keeps_volumes (_ ∷ events) (_ ∷ acks) old new (then_done mid event reply ack applies goes counted chain) lost volumes rests =
     let through : GoesThrough (Unit {0}) event old mid reply = applies.going rests.going in
-    let left : IsSettledAfter (lost_in event old.array.table lost) mid (left_by (extents_for_store old) event volumes) = through.settled tt goes lost volumes rests in
+    let left : IsSettledAfter (lost_in event old.array.table lost) mid (left_by (extents_for_store old) event volumes) =
+    through.settled tt goes lost volumes rests in
     let later = chain_keeps_volumes events acks mid new chain left.lost (left_by (extents_for_store old) event volumes) left.settled in
     let same : extents_for_store mid ≡ extents_for_store old = ap extents_in through.goes_on.not_older.same_geometry in
     let rest = subst (λ (extents : ℕ). IsSettledAfterEvents extents chain left.lost (left_by (extents_for_store old) event volumes)) same later.1 in (
@@ -25,7 +26,8 @@ chain_keeps_volumes (_ ∷ events) (_ ∷ acks) old new (then_done mid event rep
     )
 
 -- a set has as many extents after events
-same_extents : (events : List Event) (acks : List ℕ) (old new : StoreView) → Chain (Unit {0}) events acks old new → old.ended ≡ None → extents_for_store new ≡ extents_for_store old
+same_extents : (events : List Event) (acks : List ℕ) (old new : StoreView) → Chain (Unit {0}) events acks old new → old.ended ≡ None
+    → extents_for_store new ≡ extents_for_store old
 same_extents [] [] old new none_done goes_on = refl
 same_extents [] (_ ∷ acks) old new chain goes_on = elim chain [ ]
 same_extents (_ ∷ events) [] old new chain goes_on = elim chain [ ]
@@ -74,7 +76,8 @@ split (_ ∷ done) event undone (_ ∷ acks) old new (then_done mid first reply 
       acknowledged = ap (λ others. ack ∷ others) later.acknowledged;
     }
 
-pub last_event_stands : (done : List Event) (event : Event) (acks : List ℕ) (old mid new : StoreView) (reply : Reply) → (chain : Chain (Unit {0}) done acks old mid)
+pub last_event_stands : (done : List Event) (event : Event) (acks : List ℕ) (old mid new : StoreView) (reply : Reply)
+    → (chain : Chain (Unit {0}) done acks old mid)
     → Applies (Unit {0}) event mid new reply → (lost : Option Lost) (volumes : VolumeMap) → IsSettledOn old lost volumes
     → (there : IsSettledAfterEvents (extents_for_store old) chain lost volumes) → StandsOneMore (extents_for_store old) done event mid new there.lost volumes
 last_event_stands done event acks old mid new reply chain applies lost volumes rests there =

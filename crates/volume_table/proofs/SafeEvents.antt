@@ -1,11 +1,13 @@
 -- What a store is refused with, and what a refusal leaves: by the records of its calls.
-use Rattle.std.proofs.Common.{◌≡◌, ◌≢◌, ◌⊎◌, inl, inr, ℕ, zero, suc, ◌+◌, ◌<◌, Bool, true, false, cond, not, ◌||◌, nat_le, nat_lt, List, [], ◌∷◌, length, get_or, Option, Some, None, Err, refl, sym, ap, ap₂, subst, ◌∙◌, arith}
+use Rattle.std.proofs.Common.{◌≡◌, ◌≢◌, ◌⊎◌, inl, inr, ℕ, zero, suc, ◌+◌, ◌<◌, Bool, true, false, cond, not, ◌||◌, nat_le, nat_lt, List, [], ◌∷◌, length}
+use Rattle.std.proofs.Common.{get_or, Option, Some, None, Err, refl, sym, ap, ap₂, subst, ◌∙◌, arith}
 use Rattle.std.specs.Prelude.{Contains, replicate, slice_set}
 use Rattle.std.proofs.lemmas.Bool.{ltb-true, true≢false}
 use Rattle.std.proofs.lemmas.List.Folds.{list_any_at}
 use Rattle.std.proofs.lemmas.Option.{none-some, same_Some}
 use Rattle.sector_model.specs.declared.refusal.Refusal.{Refusal}
-use Rattle.sector_model.specs.declared.refusal.Refusal.TheVariants.{BadTable, Incomplete, Memory, NotMissing, NothingToRebuild, NotUsable, TwoLost, WouldLose, Worn}
+use Rattle.sector_model.specs.declared.refusal.Refusal.TheVariants.{BadTable, Incomplete, Memory, NotMissing, NothingToRebuild, NotUsable, TwoLost, WouldLose}
+use Rattle.sector_model.specs.declared.refusal.Refusal.TheVariants.{Worn}
 use Rattle.superblock.specs.declared.state.State.{State}
 use Rattle.superblock.specs.declared.state.State.TheVariants.{InSync, Missing, Rebuilding}
 use Rattle.superblock.specs.declared.table.Table.{Table}
@@ -17,13 +19,16 @@ use Rattle.array_io.specs.Believed.Views.{ArrayView, EndsIt}
 use Rattle.rebuild.specs.Rebuilding.{Complete, IsNotMissing, IsRebuilding, IsUnusable, Position}
 use Rattle.recovery.specs.Making.{BankView}
 use Rattle.volume_table.specs.Volumes.{VolumeMap}
-use Rattle.volume_table.specs.VolumeStep.{Command, Done, Event, Fail, OnSet, OnVolumes, Progressed, RebuildStep, Refused, Replace, Reply, Scrub, Scrubbed, SetCommand, first_refusal, left_by, or_refused, volumes_after}
+use Rattle.volume_table.specs.VolumeStep.{Command, Done, Event, Fail, OnSet, OnVolumes, Progressed, RebuildStep, Refused, Replace, Reply, Scrub, Scrubbed}
+use Rattle.volume_table.specs.VolumeStep.{SetCommand, first_refusal, left_by, or_refused, volumes_after}
 use Rattle.volume_table.specs.SetReplies.{Devices, set_answer, set_refusal, set_reply, with_faults}
 use Rattle.volume_table.specs.Stands.{IsSettledAfter, IsSettledOn, StoreView}
-use Rattle.volume_table.specs.StoreCalls.{Applies, AreDevicesOf, GoesThrough, IsAnswered, SetIsLeft, extents_for_store, lost_in, lost_unless, no_devices, set_of}
+use Rattle.volume_table.specs.StoreCalls.{Applies, AreDevicesOf, GoesThrough, IsAnswered, SetIsLeft, extents_for_store, lost_in, lost_unless, no_devices}
+use Rattle.volume_table.specs.StoreCalls.{set_of}
 use Rattle.volume_table.specs.StoreFunctions.{Answer, DoesNothing, EndsAtEvent, RunEnds}
 use Rattle.volume_table.specs.Opening.{IsNoOpening, WasGivenUp}
-use Rattle.volume_table.specs.SafeLaw.{AnswersAlways, Asks, EndedStoresAnswerAlways, EventsAreRefusedForCause, IsOwnRefusal, IsSetRefused, OpenStoresGoOn, OpeningIsRefusedForCause, RefusalsLeaveVolumes, RunsAreRefusedForCause, none_asked, then_asked}
+use Rattle.volume_table.specs.SafeLaw.{AnswersAlways, Asks, EndedStoresAnswerAlways, EventsAreRefusedForCause, IsOwnRefusal, IsSetRefused, OpenStoresGoOn}
+use Rattle.volume_table.specs.SafeLaw.{OpeningIsRefusedForCause, RefusalsLeaveVolumes, RunsAreRefusedForCause, none_asked, then_asked}
 use Rattle.volume_table.proofs.EndedStore.{ends_or_not}
 use Rattle.volume_table.proofs.OnSet.{refused_differ, state_in}
 use Rattle.volume_table.proofs.ReplacedDevice.{filled_if, is_filled, missing_or_not, not_filled}
@@ -83,7 +88,8 @@ of_set_if_not table slot not_so = elim (missing_or_not table slot) [
   | inr other_than ↦ absurd (true≢false (sym (filled_if table slot other_than) ∙ not_so))
 ]
 
-unusable_is : (old : ArrayView) (slot : ℕ) → (old.panel.down slot || nat_lt (old.panel.sectors slot) (least_sectors old.table.geometry slot)) ≡ true → IsUnusable old slot
+unusable_is : (old : ArrayView) (slot : ℕ) → (old.panel.down slot || nat_lt (old.panel.sectors slot) (least_sectors old.table.geometry slot)) ≡ true
+    → IsUnusable old slot
 unusable_is old slot is = elim (either_true (old.panel.down slot) (nat_lt (old.panel.sectors slot) (least_sectors old.table.geometry slot)) is) [
   | inl down ↦ inl down
   | inr short ↦ inr (ltb-true (old.panel.sectors slot) (least_sectors old.table.geometry slot) short)
@@ -112,18 +118,21 @@ spared_state faults (state ∷ states) zero none = ap (λ (b : Bool). cond b Mis
 spared_state faults (state ∷ states) (suc k) none =
     let next : k + 1 ≡ suc k = omega arith in spared_state (λ slot. faults (slot + 1)) states k (ap faults next ∙ none)
 
-no_progress_is_refused : (b : Bool) (position : ℕ) (refusal : Refusal) → cond {A = Reply} b (Progressed Complete) (Progressed (Position position)) ≡ Refused refusal → ⊥
+no_progress_is_refused : (b : Bool) (position : ℕ) (refusal : Refusal)
+    → cond {A = Reply} b (Progressed Complete) (Progressed (Position position)) ≡ Refused refusal → ⊥
 no_progress_is_refused true position refusal is = cc
 no_progress_is_refused false position refusal is = cc
 
-step_is_no_refusal : (devices : Devices) (rows : ℕ) (table : Table) (refusal : Refusal) → set_answer devices (RebuildStep rows) (set_of table) ≡ Refused refusal → ⊥
+step_is_no_refusal : (devices : Devices) (rows : ℕ) (table : Table) (refusal : Refusal) → set_answer devices (RebuildStep rows) (set_of table) ≡ Refused refusal
+    → ⊥
 step_is_no_refusal devices rows table refusal is = no_progress_is_refused _ _ refusal is
 
 step_refused : (honest : Type 0) (devices : Devices) (rows : ℕ) (old new : ArrayView) (refusal : Refusal)
     → AreDevicesOf honest old.table old.panel new.panel new.history devices
     → Refused refusal ≡ set_reply devices (RebuildStep rows) (set_of old.table) → IsSetRefused (RebuildStep rows) old new refusal
 step_refused honest devices rows old new refusal are is =
-    subst (λ (r : Refusal). IsSetRefused (RebuildStep rows) old new r) (sym refused.1) (λ member rebuilding. by_fault member rebuilding (devices.faults member) refl)
+    subst (λ (r : Refusal). IsSetRefused (RebuildStep rows) old new r) (sym refused.1)
+    (λ member rebuilding. by_fault member rebuilding (devices.faults member) refl)
   where
     refused : (not (has_rebuilding (with_faults devices.faults (set_of old.table).states)) ≡ true) × (refusal ≡ NothingToRebuild)
     refused = by_one (not (has_rebuilding (with_faults devices.faults (set_of old.table).states))) NothingToRebuild refusal
@@ -137,7 +146,8 @@ step_refused honest devices rows old new refusal are is =
     by_fault member rebuilding false none = absurd (true≢false
         (sym (list_any_at is_rebuilding (with_faults devices.faults (set_of old.table).states) member Missing
         (omega (arith, of_set member rebuilding, length-set_of old.table, length-with_faults devices.faults (set_of old.table).states))
-        (ap is_rebuilding (spared_state devices.faults (set_of old.table).states member none ∙ state_in old.table member (of_set member rebuilding) ∙ rebuilding.state)))
+        (ap is_rebuilding (spared_state devices.faults (set_of old.table).states member none ∙ state_in old.table member (of_set member rebuilding)
+        ∙ rebuilding.state)))
         ∙ not_true (has_rebuilding (with_faults devices.faults (set_of old.table).states)) refused.0))
 
 -- ---- a scrub
@@ -211,7 +221,8 @@ set_refused honest (Replace slot) old new refusal is = replace_refused honest is
 set_refused honest (RebuildStep rows) old new refusal is = step_refused honest is.devices rows old.array new.array refusal is.are is.left.replied
 set_refused honest Scrub old new refusal is = scrub_refused honest is.devices old.array new.array refusal is.are is.left.replied
 
-own_refusal : (honest : Type 0) (event : Event) (old new : StoreView) (refusal : Refusal) → ¬ EndsIt refusal → GoesThrough honest event old new (Refused refusal)
+own_refusal : (honest : Type 0) (event : Event) (old new : StoreView) (refusal : Refusal) → ¬ EndsIt refusal
+    → GoesThrough honest event old new (Refused refusal)
     → IsOwnRefusal event old.array new.array refusal
 own_refusal honest (OnVolumes command) old new refusal goes is = elim is.listed [ inl among ↦ among | inr ends ↦ absurd (goes ends) ]
 own_refusal honest (OnSet command) old new refusal goes is = set_refused honest command old new refusal (is.set_left goes)
@@ -296,7 +307,8 @@ answers_always honest store refusal ended = record {
 }
 
 pub ended_stores_answer_always : (honest : Type 0) → EndedStoresAnswerAlways honest
-ended_stores_answer_always honest event old new reply refusal going applies is ends = answers_always honest new refusal ((applies.going going).ends refusal is ends).0
+ended_stores_answer_always honest event old new reply refusal going applies is ends =
+    answers_always honest new refusal ((applies.going going).ends refusal is ends).0
 
 -- what ended it was its reply
 ended_by : (honest : Type 0) (event : Event) (old new : StoreView) (reply : Reply) (refusal : Refusal) → Applies honest event old new reply → old.ended ≡ None
@@ -320,7 +332,8 @@ ended_among : (honest : Type 0) (event : Event) (events : List Event) (reply : R
 ended_among honest event events reply replies old mid new refusal going applies rest ended later None on =
     ((later on).0, past_one reply replies (Refused refusal) (later on).1)
 ended_among honest event events reply replies old mid new refusal going applies rest ended later (Some said) over =
-    let same : said ≡ refusal = same_Some said refusal (sym over ∙ sym (ap (λ (s : StoreView). s.ended) (asks_stay honest events replies mid new said over rest).1) ∙ ended) in
+    let same : said ≡ refusal = same_Some said refusal
+    (sym over ∙ sym (ap (λ (s : StoreView). s.ended) (asks_stay honest events replies mid new said over rest).1) ∙ ended) in
     let by = ended_by honest event old mid reply refusal applies going (over ∙ ap (λ (r : Refusal). Some r) same) in
     (by.0, (0, omega arith, by.1))
 

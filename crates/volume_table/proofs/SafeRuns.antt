@@ -30,8 +30,10 @@ use Rattle.volume_table.specs.Shows.{Shows}
 use Rattle.volume_table.specs.Stands.{StandsNow, StandsThroughout, StoreView, extents_in}
 use Rattle.volume_table.specs.StoreCalls.{GoesThrough, lost_in}
 use Rattle.volume_table.specs.Opening.{IsNoOpening, Opened, Opens, Outcome, Returned, bank_after}
-use Rattle.volume_table.specs.Runs.{Does, Fate, IsAssembled, IsDone, IsServing, Run, Runs, Serving, Session, World, assembled, between_events, in_assembling, in_event, in_opening, next_run, no_more, none_done, then_done, unopened}
-use Rattle.volume_table.specs.Headline.{AreRight, Before, Headline, IsAfterPrefix, IsOpenedUnlessWorn, IsRight, RunKeeps, RunsKeep, SessionKeeps, nothing_before, nothing_lost}
+use Rattle.volume_table.specs.Runs.{Does, Fate, IsAssembled, IsDone, IsServing, Run, Runs, Serving, Session, World, assembled, between_events, in_assembling}
+use Rattle.volume_table.specs.Runs.{in_event, in_opening, next_run, no_more, none_done, then_done, unopened}
+use Rattle.volume_table.specs.Headline.{AreRight, Before, Headline, IsAfterPrefix, IsOpenedUnlessWorn, IsRight, RunKeeps, RunsKeep, SessionKeeps}
+use Rattle.volume_table.specs.Headline.{nothing_before, nothing_lost}
 use Rattle.volume_table.proofs.Assembled.{assembled_unless_worn, assembling_holds, assembling_stands, may_start}
 use Rattle.volume_table.proofs.SingleFailure.{not_two, opening_not_two}
 use Rattle.volume_table.proofs.FreshLemmas.{fresh_set_shows_none}
@@ -43,7 +45,8 @@ same_extents : (old new : Table) → IsNotOlder old new → extents_in new.geome
 same_extents old new later = ap extents_in later.same_geometry
 
 -- an event of a store that is safe
-goes_through : (made : Table) (devices : ℕ) (slots : ℕ) (event : Event) (reply : Reply) (old new : Serving) (volumes : VolumeMap) → IsSafeStore made devices old volumes
+goes_through : (made : Table) (devices : ℕ) (slots : ℕ) (event : Event) (reply : Reply) (old new : Serving) (volumes : VolumeMap)
+    → IsSafeStore made devices old volumes
     → IsDone slots event reply old new → GoesThrough (Unit {0}) event old.store new.store reply
 goes_through made devices slots event reply old new volumes safe done = done.applies.going safe.settled.going
 
@@ -53,11 +56,14 @@ safe_after : (made : Table) (devices : ℕ) (event : Event) (reply : Reply) (old
 safe_after made devices event reply old new volumes safe done =
     let goes = goes_through made devices (slots_of made) event reply old new volumes safe done in
     let moments = subst (λ (d : ℕ). StandsThroughout old.store.array.table d (lost_in event old.store.array.table old.fate.lost)
-    (volumes ∷ left_by (extents_in old.store.array.table.geometry) event volumes ∷ []) old.store.array.history new.store.array.history) safe.of_bank (goes.moments tt old.fate.lost volumes safe.settled) in
+    (volumes ∷ left_by (extents_in old.store.array.table.geometry) event volumes ∷ []) old.store.array.history new.store.array.history) safe.of_bank
+    (goes.moments tt old.fate.lost volumes safe.settled) in
     subst (λ (e : ℕ). IsSafeStore made devices new (left_by e event volumes)) (same_extents made old.store.array.table safe.not_older)
     (store_after made devices old.store.array.table (lost_in event old.store.array.table old.fate.lost)
-    (volumes ∷ left_by (extents_in old.store.array.table.geometry) event volumes ∷ []) old.fate new (left_by (extents_in old.store.array.table.geometry) event volumes)
-    safe.not_older goes.goes_on.not_older (goes.goes_on.later.devices ∙ safe.of_bank) safe.replaced done.goes_over (throughout_last new.store.array.history moments)
+    (volumes ∷ left_by (extents_in old.store.array.table.geometry) event volumes ∷ []) old.fate new
+    (left_by (extents_in old.store.array.table.geometry) event volumes)
+    safe.not_older goes.goes_on.not_older (goes.goes_on.later.devices ∙ safe.of_bank) safe.replaced done.goes_over
+    (throughout_last new.store.array.history moments)
     (goes.settled tt done.goes old.fate.lost volumes safe.settled))
 
 -- and the event was answered rightly
@@ -73,7 +79,8 @@ right_answer made devices (OnSet (RebuildStep rows)) reply old new volumes safe 
 right_answer made devices (OnSet Scrub) reply old new volumes safe done = λ complete.
     let goes = goes_through made devices (slots_of made) (OnSet Scrub) reply old new volumes safe done in
     let set = goes.set_left done.goes in
-    scrub_finds_none old.store.array.table new.store.array.table (readable new.store.array.history) set.devices reply goes.goes_on.not_older.same_geometry set.are.rows set.left (set.are.unsound tt)
+    scrub_finds_none old.store.array.table new.store.array.table (readable new.store.array.history) set.devices reply goes.goes_on.not_older.same_geometry
+    set.are.rows set.left (set.are.unsound tt)
     complete (safe_after made devices (OnSet Scrub) reply old new volumes safe done).settled.rests.sound
 
 -- the volumes after some events
@@ -81,11 +88,13 @@ abbrev pub left_by_all : ℕ → List Event → VolumeMap → VolumeMap
 left_by_all extents events volumes = fold (λ left event. left_by extents event left) volumes events
 
 -- events that are done leave a safe store, and were answered rightly
-record AllDone (made : Table) (devices : ℕ) {events : List Event} {replies : List Reply} {old new : Serving} (does : Does (slots_of made) events replies old new) (volumes : VolumeMap) : Type 0 where
+record AllDone (made : Table) (devices : ℕ) {events : List Event} {replies : List Reply} {old new : Serving}
+    (does : Does (slots_of made) events replies old new) (volumes : VolumeMap) : Type 0 where
   pub safe : IsSafeStore made devices new (left_by_all (extents_in made.geometry) events volumes)
   pub right : AreRight (extents_in made.geometry) volumes does
 
-all_done : (made : Table) (devices : ℕ) {events : List Event} {replies : List Reply} {old new : Serving} (does : Does (slots_of made) events replies old new) (volumes : VolumeMap)
+all_done : (made : Table) (devices : ℕ) {events : List Event} {replies : List Reply} {old new : Serving} (does : Does (slots_of made) events replies old new)
+    (volumes : VolumeMap)
     → IsSafeStore made devices old volumes → AllDone made devices does volumes
 all_done made devices none_done volumes safe = record { safe = safe; right = tt }
 all_done made devices (then_done {old = old} mid event reply done rest) volumes safe =
@@ -96,7 +105,8 @@ all_done made devices (then_done {old = old} mid event reply done rest) volumes 
 all_are : (extents : ℕ) (volumes : VolumeMap) (events : List Event) → left_by_all extents events volumes ≡ after extents events volumes (length events)
 all_are extents volumes events = ap (λ (l : List Event). left_by_all extents l volumes) (sym (take-length events))
 
-but_last : (extents : ℕ) (volumes : VolumeMap) (events : List Event) (event : Event) → left_by_all extents events volumes ≡ after extents (events ++ event ∷ []) volumes (length events)
+but_last : (extents : ℕ) (volumes : VolumeMap) (events : List Event) (event : Event)
+    → left_by_all extents events volumes ≡ after extents (events ++ event ∷ []) volumes (length events)
 but_last extents volumes events event = ap (λ (l : List Event). left_by_all extents l volumes) (sym (take-append_seam events (event ∷ [])))
 
 with_last : (extents : ℕ) (volumes : VolumeMap) (events : List Event) (event : Event)
@@ -140,21 +150,26 @@ prefix_with_last extents volumes events event left among =
 
 -- what comes later keeps the promise, from whatever is safe and stands for volumes after a prefix
 abbrev pub KeepsLater : (made : Table) (devices : ℕ) (left : World) → (Before → Type 0) → Type 0
-KeepsLater made devices left later = (next : Before) (maps : List VolumeMap) → ((volumes : VolumeMap) → Contains maps volumes → IsAfterPrefix (extents_in made.geometry) next volumes)
+KeepsLater made devices left later = (next : Before) (maps : List VolumeMap)
+    → ((volumes : VolumeMap) → Contains maps volumes → IsAfterPrefix (extents_in made.geometry) next volumes)
     → IsSafe made devices maps left → later next
 
 -- a store that is opened over a safe array is safe
-safe_first : (made : Table) (devices : ℕ) (array : ArrayView) (fate : Fate) (volumes : VolumeMap) (first : Serving) → IsSafeArray made devices array fate volumes
+safe_first : (made : Table) (devices : ℕ) (array : ArrayView) (fate : Fate) (volumes : VolumeMap) (first : Serving)
+    → IsSafeArray made devices array fate volumes
     → IsServing (slots_of made) array fate first → IsSafeStore made devices first volumes
 safe_first made devices array fate volumes first safe serving =
     let rests = rests_on made devices array fate volumes safe in
     let moments = subst (λ (d : ℕ). StandsThroughout array.table d fate.lost (volumes ∷ []) array.history first.store.array.history) safe.of_bank
     (serving.opens.moments tt fate.lost safe.logical volumes rests safe.shown) in
     let goes_on = serving.opens.goes_on first.store refl in
-    store_after made devices array.table fate.lost (volumes ∷ []) fate first volumes safe.not_older goes_on.not_older (goes_on.later.devices ∙ safe.of_bank) safe.over.replaced
-    serving.goes_over (throughout_last first.store.array.history moments) (serving.opens.settled tt fate.lost safe.logical volumes rests safe.shown first.store refl)
+    store_after made devices array.table fate.lost (volumes ∷ []) fate first volumes safe.not_older goes_on.not_older (goes_on.later.devices ∙ safe.of_bank)
+    safe.over.replaced
+    serving.goes_over (throughout_last first.store.array.history moments)
+    (serving.opens.settled tt fate.lost safe.logical volumes rests safe.shown first.store refl)
 
-refused_opening : (made : Table) (devices : ℕ) (array : ArrayView) (fate : Fate) (volumes : VolumeMap) (bank : recovery.BankView) (refusal : Refusal) → IsSafeArray made devices array fate volumes
+refused_opening : (made : Table) (devices : ℕ) (array : ArrayView) (fate : Fate) (volumes : VolumeMap) (bank : recovery.BankView) (refusal : Refusal)
+    → IsSafeArray made devices array fate volumes
     → IsTrueTo bank.panel bank.history → IsSingleFailure (slots_of array.table) fate.lost bank.history → IsNoOpening (Unit {0}) array bank refusal
     → (refusal ≡ Worn) × IsNoOpening (Unit {0}) array bank Worn
 refused_opening made devices array fate volumes bank BadTable safe true_to one why =
@@ -166,8 +181,10 @@ refused_opening made devices array fate volumes bank TwoLost safe true_to one wh
 refused_opening made devices array fate volumes bank Worn safe true_to one why = (refl, why)
 refused_opening made devices array fate volumes bank refusal safe true_to one why = absurd why
 
-opened_unless_worn : (made : Table) (devices : ℕ) (array : ArrayView) (fate : Fate) (volumes : VolumeMap) (outcome : Outcome) → IsSafeArray made devices array fate volumes
-    → Opens (Unit {0}) array outcome → IsTrueTo (bank_after outcome).panel (bank_after outcome).history → IsOpenedUnlessWorn (slots_of made) fate.lost array outcome
+opened_unless_worn : (made : Table) (devices : ℕ) (array : ArrayView) (fate : Fate) (volumes : VolumeMap) (outcome : Outcome)
+    → IsSafeArray made devices array fate volumes
+    → Opens (Unit {0}) array outcome → IsTrueTo (bank_after outcome).panel (bank_after outcome).history
+    → IsOpenedUnlessWorn (slots_of made) fate.lost array outcome
 opened_unless_worn made devices array fate volumes (Opened store) safe opens true_to = tt
 opened_unless_worn made devices array fate volumes (Returned bank refusal) safe opens true_to = λ one.
     refused_opening made devices array fate volumes bank refusal safe true_to
@@ -176,31 +193,39 @@ opened_unless_worn made devices array fate volumes (Returned bank refusal) safe 
 -- each case of a safe store that makes no call stands for its volumes
 stands_between : (made : Table) (devices : ℕ) (serving : Serving) (volumes : VolumeMap) → IsSafeStore made devices serving volumes
     → Throughout (StandsNow serving.store.array.table devices serving.fate.lost (volumes ∷ [])) serving.store.array.history serving.store.array.history
-stands_between made devices serving volumes safe = here (stands_at_rest devices serving.store.array.table serving.store.array.number serving.store.array.history serving.fate.lost
+stands_between made devices serving volumes safe = here
+    (stands_at_rest devices serving.store.array.table serving.store.array.number serving.store.array.history serving.fate.lost
     safe.settled.logical volumes
-    (subst (λ (d : ℕ). IsSettled d serving.store.array.table serving.store.array.number serving.store.array.history serving.fate.lost safe.settled.logical) safe.of_bank safe.settled.rests)
+    (subst (λ (d : ℕ). IsSettled d serving.store.array.table serving.store.array.number serving.store.array.history serving.fate.lost safe.settled.logical)
+    safe.of_bank safe.settled.rests)
     safe.settled.shown)
 
-stands_in_event : (made : Table) (devices : ℕ) (event : Event) (store : StoreView) (reply : Reply) (serving : Serving) (volumes : VolumeMap) (safe : IsSafeStore made devices serving volumes)
+stands_in_event : (made : Table) (devices : ℕ) (event : Event) (store : StoreView) (reply : Reply) (serving : Serving) (volumes : VolumeMap)
+    (safe : IsSafeStore made devices serving volumes)
     → GoesThrough (Unit {0}) event serving.store store reply
-    → Throughout (StandsNow serving.store.array.table devices (lost_in event serving.store.array.table serving.fate.lost) (volumes ∷ left_by (extents_in made.geometry) event volumes ∷ []))
+    → Throughout (StandsNow serving.store.array.table devices (lost_in event serving.store.array.table serving.fate.lost)
+    (volumes ∷ left_by (extents_in made.geometry) event volumes ∷ []))
     serving.store.array.history store.array.history
 stands_in_event made devices event store reply serving volumes safe goes =
-    subst₂ (λ (d e : ℕ). StandsThroughout serving.store.array.table d (lost_in event serving.store.array.table serving.fate.lost) (volumes ∷ left_by e event volumes ∷ [])
+    subst₂ (λ (d e : ℕ). StandsThroughout serving.store.array.table d (lost_in event serving.store.array.table serving.fate.lost)
+    (volumes ∷ left_by e event volumes ∷ [])
     serving.store.array.history store.array.history) safe.of_bank (same_extents made serving.store.array.table safe.not_older)
     (goes.moments tt serving.fate.lost volumes safe.settled)
 
 -- a session over a safe array keeps the promise
-session_keeps : (made : Table) (devices : ℕ) (before : Before) (array : ArrayView) (fate : Fate) (volumes : VolumeMap) (left : World) → IsSafeArray made devices array fate volumes
+session_keeps : (made : Table) (devices : ℕ) (before : Before) (array : ArrayView) (fate : Fate) (volumes : VolumeMap) (left : World)
+    → IsSafeArray made devices array fate volumes
     → IsAfterPrefix (extents_in made.geometry) before volumes → (session : Session (slots_of made) array fate left) → (later : Before → Type 0)
     → KeepsLater made devices left later → SessionKeeps (extents_in made.geometry) (slots_of made) before session later
 session_keeps made devices before array fate volumes left safe prefix (unopened crashes) later keeps =
-    keeps before (volumes ∷ []) (λ other among. subst (λ (v : VolumeMap). IsAfterPrefix (extents_in made.geometry) before v) (one_of_one volumes other among) prefix)
+    keeps before (volumes ∷ []) (λ other among. subst (λ (v : VolumeMap). IsAfterPrefix (extents_in made.geometry) before v) (one_of_one volumes other among)
+    prefix)
     (crashes_safe made array.table devices fate.lost (volumes ∷ []) fate array.history array.history left safe.not_older safe.over.replaced
     (here (stands_at_rest devices array.table array.number array.history fate.lost safe.logical volumes safe.over.settled safe.shown)) crashes)
 session_keeps made devices before array fate volumes left safe prefix (in_opening outcome opens true_to crashes) later keeps = (
   opened_unless_worn made devices array fate volumes outcome safe opens true_to,
-  keeps before (volumes ∷ []) (λ other among. subst (λ (v : VolumeMap). IsAfterPrefix (extents_in made.geometry) before v) (one_of_one volumes other among) prefix)
+  keeps before (volumes ∷ []) (λ other among. subst (λ (v : VolumeMap). IsAfterPrefix (extents_in made.geometry) before v) (one_of_one volumes other among)
+      prefix)
       (crashes_safe made array.table devices fate.lost (volumes ∷ []) fate array.history (bank_after outcome).history left safe.not_older safe.over.replaced
       (subst (λ (d : ℕ). StandsThroughout array.table d fate.lost (volumes ∷ []) array.history (bank_after outcome).history) safe.of_bank
       (opens.moments tt fate.lost safe.logical volumes (rests_on made devices array fate volumes safe) safe.shown)) crashes),
@@ -216,19 +241,23 @@ session_keeps made devices before array fate volumes left safe prefix (between_e
           serving.store.array.history serving.store.array.history left done.safe.not_older done.safe.replaced
           (stands_between made devices serving (left_by_all (extents_in made.geometry) events volumes) done.safe) crashes),
     )
-session_keeps made devices before array fate volumes left safe prefix (in_event first serving events replies event store reply opened does applies true_to crashes) later keeps =
+session_keeps made devices before array fate volumes left safe prefix
+    (in_event first serving events replies event store reply opened does applies true_to crashes) later keeps =
     let begun = safe_first made devices array fate volumes first safe opened in
     let done = all_done made devices does volumes begun in
     let goes = applies.going done.safe.settled.going in (
       volumes,
       record { after_prefix = prefix; settled = begun.settled; right = done.right },
       λ one. not_two event serving.store store reply serving.fate.lost goes done.safe.settled.rests.lost_slot true_to
-          (subst (λ (n : ℕ). IsSingleFailure n (lost_in event serving.store.array.table serving.fate.lost) store.array.history) (sym (same_slots made serving.store.array.table done.safe.not_older)) one),
+          (subst (λ (n : ℕ). IsSingleFailure n (lost_in event serving.store.array.table serving.fate.lost) store.array.history)
+          (sym (same_slots made serving.store.array.table done.safe.not_older)) one),
       keeps record { volumes = volumes; events = events ++ event ∷ []; acknowledged = length events }
-          (left_by_all (extents_in made.geometry) events volumes ∷ left_by (extents_in made.geometry) event (left_by_all (extents_in made.geometry) events volumes) ∷ [])
+          (left_by_all (extents_in made.geometry) events volumes
+          ∷ left_by (extents_in made.geometry) event (left_by_all (extents_in made.geometry) events volumes) ∷ [])
           (prefix_with_last (extents_in made.geometry) volumes events event)
           (crashes_safe made serving.store.array.table devices (lost_in event serving.store.array.table serving.fate.lost)
-          (left_by_all (extents_in made.geometry) events volumes ∷ left_by (extents_in made.geometry) event (left_by_all (extents_in made.geometry) events volumes) ∷ []) serving.fate
+          (left_by_all (extents_in made.geometry) events volumes
+          ∷ left_by (extents_in made.geometry) event (left_by_all (extents_in made.geometry) events volumes) ∷ []) serving.fate
           serving.store.array.history store.array.history left done.safe.not_older done.safe.replaced
           (stands_in_event made devices event store reply serving (left_by_all (extents_in made.geometry) events volumes) done.safe goes) crashes),
     )
@@ -239,7 +268,8 @@ record SafeAssembly (made : Table) (devices : ℕ) (maps : List VolumeMap) (arra
   pub among : Contains maps volumes
   pub safe : IsSafeArray made devices array fate volumes
 
-safe_assembly : (made : Table) (devices : ℕ) (maps : List VolumeMap) (world : World) (panel : Panel) (array : ArrayView) (fate : Fate) → panel.devices ≡ devices → IsSafe made devices maps world
+safe_assembly : (made : Table) (devices : ℕ) (maps : List VolumeMap) (world : World) (panel : Panel) (array : ArrayView) (fate : Fate) → panel.devices ≡ devices
+    → IsSafe made devices maps world
     → IsAssembled made.id (slots_of made) panel world array fate → SafeAssembly made devices maps array fate
 safe_assembly made devices maps world panel array fate of_bank safe is =
     let may = may_start made devices maps world panel of_bank safe in
@@ -260,20 +290,24 @@ safe_assembly made devices maps world panel array fate of_bank safe is =
         over = goes_over (slots_of made) devices safe.base array.table array.number array.history world.fate.lost opens.rests.lost world.fate fate opens.logical
             opens.not_older safe.replaced is.goes_over opens.rests.is_lost
             (subst (λ (d : ℕ). IsSettled d array.table array.number array.history opens.rests.lost opens.logical) bank opens.rests.rests)
-            (holds_readable (slots_of made) devices safe.base world.fate.lost maps array.history same (throughout_last array.history moments) is.goes_over.single_failure);
+            (holds_readable (slots_of made) devices safe.base world.fate.lost maps array.history same (throughout_last array.history moments)
+            is.goes_over.single_failure);
         shown = subst (λ (e : ℕ). Shows e opens.logical shows.volumes) (sym (same_extents safe.base array.table opens.not_older)) shows.shown;
       };
     }
 
 -- so does a run
 run_keeps : (made : Table) (devices : ℕ) (before : Before) (maps : List VolumeMap) (panel : Panel) (world left : World)
-    → ((volumes : VolumeMap) → Contains maps volumes → IsAfterPrefix (extents_in made.geometry) before volumes) → panel.devices ≡ devices → IsSafe made devices maps world
+    → ((volumes : VolumeMap) → Contains maps volumes → IsAfterPrefix (extents_in made.geometry) before volumes) → panel.devices ≡ devices
+    → IsSafe made devices maps world
     → (run : Run made.id (slots_of made) panel world left) → (later : Before → Type 0) → KeepsLater made devices left later
     → RunKeeps made.id (extents_in made.geometry) (slots_of made) before run later
 run_keeps made devices before maps panel world left each of_bank safe (in_assembling outcome assembles crashes) later keeps = (
   assembled_unless_worn made devices maps world panel outcome of_bank safe assembles,
-  keeps before maps each (crashes_safe made safe.base devices world.fate.lost maps world.fate (Began world.image) (recovery.bank_after outcome).history left safe.not_older safe.replaced
-      (assembling_stands made devices maps world (recovery.bank_after outcome).history safe (assembling_holds made devices maps world panel outcome of_bank safe assembles)) crashes),
+  keeps before maps each (crashes_safe made safe.base devices world.fate.lost maps world.fate (Began world.image) (recovery.bank_after outcome).history left
+      safe.not_older safe.replaced
+      (assembling_stands made devices maps world (recovery.bank_after outcome).history safe
+      (assembling_holds made devices maps world panel outcome of_bank safe assembles)) crashes),
 )
 run_keeps made devices before maps panel world left each of_bank safe (assembled array fate is session) later keeps =
     let assembly = safe_assembly made devices maps world panel array fate of_bank safe is in
@@ -293,8 +327,10 @@ no_device : (device : Replaced) → Contains [] device → ⊥
 no_device device (k, below, is) = omega (arith, below)
 
 -- what making a set gives is safe
-made_safe : (id : List ℕ) (geometry : Geometry) (bank : recovery.BankView) (array : ArrayView) → Makes (Unit {0}) id geometry bank (recovery.Opened array) → IsQuietBeyond id (geometry.members + 2) bank
-    → Shows (extents_in array.table.geometry) (zeros_of array.table.geometry) no_volumes → IsSafeArray array.table array.panel.devices array nothing_lost no_volumes
+made_safe : (id : List ℕ) (geometry : Geometry) (bank : recovery.BankView) (array : ArrayView) → Makes (Unit {0}) id geometry bank (recovery.Opened array)
+    → IsQuietBeyond id (geometry.members + 2) bank
+    → Shows (extents_in array.table.geometry) (zeros_of array.table.geometry) no_volumes
+    → IsSafeArray array.table array.panel.devices array nothing_lost no_volumes
 made_safe id geometry bank array makes quiet shows = record {
   of_bank = refl;
   not_older = not_older_same array.table;

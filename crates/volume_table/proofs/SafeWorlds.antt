@@ -38,12 +38,14 @@ pub record IsSafe (made : Table) (devices : ℕ) (maps : List VolumeMap) (world 
 pub same_slots : (old new : Table) → IsNotOlder old new → slots_of new ≡ slots_of old
 same_slots old new later = ap (λ (g : Geometry). g.members + 2) later.same_geometry
 
-pub replaced_go_on : (devices : ℕ) (old new : Table) (replaced : List Replaced) → IsNotOlder old new → AreReplacedStale devices old replaced → AreReplacedStale devices new replaced
+pub replaced_go_on : (devices : ℕ) (old new : Table) (replaced : List Replaced) → IsNotOlder old new → AreReplacedStale devices old replaced
+    → AreReplacedStale devices new replaced
 replaced_go_on devices old new replaced later stale device among = stale_goes_on devices old new device.slot (Some device.disk) later (stale device among)
 
 -- the next run begins safely
 pub begins_safe : (made : Table) (devices : ℕ) (maps : List VolumeMap) (world begun : World) → IsSafe made devices maps world
-    → MayBegin made.id devices (slots_of made) world.fate.replaced (case_of world) (case_of begun) → begun.fate.replaced ≡ world.fate.replaced → IsSafe made devices maps begun
+    → MayBegin made.id devices (slots_of made) world.fate.replaced (case_of world) (case_of begun) → begun.fate.replaced ≡ world.fate.replaced
+    → IsSafe made devices maps begun
 begins_safe made devices maps world begun safe may same = record {
   base = safe.base;
   not_older = safe.not_older;
@@ -60,7 +62,8 @@ begins_safe made devices maps world begun safe may same = record {
     starts : Starts devices table (case_of world) (case_of begun)
     starts = a_start_is_one_of devices table world.fate.replaced (case_of world) (case_of begun)
         (replaced_go_on devices safe.base table world.fate.replaced safe.stands.holds.not_older safe.replaced)
-        (subst₂ (λ (i : List ℕ) (n : ℕ). MayBegin i devices n world.fate.replaced (case_of world) (case_of begun)) (sym later.same_id) (sym (same_slots made table later)) may)
+        (subst₂ (λ (i : List ℕ) (n : ℕ). MayBegin i devices n world.fate.replaced (case_of world) (case_of begun)) (sym later.same_id)
+        (sym (same_slots made table later)) may)
 
     holds : Holds safe.base devices (case_of begun) safe.stands.lists
     holds = a_crash_then_a_start safe.base devices table (case_of world) (case_of begun) safe.stands.lists safe.stands.holds
@@ -101,7 +104,8 @@ pub record IsOver (devices : ℕ) (table : Table) (number : ℕ) (h : History) (
   pub settled : IsSettled devices table number h fate.lost V
   pub replaced : AreReplacedStale devices table fate.replaced
 
-more_replaced : (devices : ℕ) (table : Table) (during after : Option Lost) → ((lost : Lost) → during ≡ Some lost → after ≡ None → AllStale devices table lost.slot lost.away)
+more_replaced : (devices : ℕ) (table : Table) (during after : Option Lost)
+    → ((lost : Lost) → during ≡ Some lost → after ≡ None → AllStale devices table lost.slot lost.away)
     → AreReplacedStale devices table (replaced_by during after)
 more_replaced devices table None after stale device among = absurd (no_device device among)
 more_replaced devices table (Some lost) (Some still) stale device among = absurd (no_device device among)

@@ -1,5 +1,6 @@
 -- A scrub of a complete set that is settled finds no row that is not sound.
-use Rattle.std.proofs.Common.{◌≡◌, ℕ, zero, suc, ◌+◌, ◌<◌, ◌*◌, Bool, true, List, [], ◌∷◌, length, map, take, Option, Some, None, refl, sym, ◌∙◌, ap, subst, arith, cond, ◌&&◌}
+use Rattle.std.proofs.Common.{◌≡◌, ℕ, zero, suc, ◌+◌, ◌<◌, ◌*◌, Bool, true, List, [], ◌∷◌, length, map, take, Option, Some, None, refl, sym, ◌∙◌, ap, subst}
+use Rattle.std.proofs.Common.{arith, cond, ◌&&◌}
 use Rattle.std.specs.Prelude.{not, slice_get}
 use Rattle.std.specs.List.{list_all, range_with_len}
 use Rattle.std.proofs.lemmas.List.Elements.{Contains-append_left, Contains-push}
@@ -27,19 +28,23 @@ use Rattle.layout_map.specs.declared.sizes.TheConstants.{FIRST_ROW}
 
 -- of a complete set the values are the members' own sectors
 own_row : (table : Table) (image : Slots) → IsComplete table → (row : ℕ) → row_values (rows_by table image) row ≡ row_in table image row
-own_row table image complete row = map-range (λ member. value (rows_by table image) row member) (λ member. sector_of (disk_of (image member)) (FIRST_ROW + row)) 0 table.geometry.members
+own_row table image complete row = map-range (λ member. value (rows_by table image) row member) (λ member. sector_of (disk_of (image member)) (FIRST_ROW + row))
+    0 table.geometry.members
     (λ member below. own_value table image complete row member (omega (arith, below)))
 
-pub sound_row : (table : Table) (image : Slots) → IsComplete table → AreSound (rows_by table image) (row_count table) → (row : ℕ) → row < row_count table → IsSoundRow (row_in table image row)
+pub sound_row : (table : Table) (image : Slots) → IsComplete table → AreSound (rows_by table image) (row_count table) → (row : ℕ) → row < row_count table
+    → IsSoundRow (row_in table image row)
 sound_row table image complete sound row below = subst IsSoundRow (own_row table image complete row) (sound row below)
 
 -- none is unsound
-pub none_unsound : (table other : Table) (image : Slots) (rows : List ℕ) → other.geometry ≡ table.geometry → IsComplete table → AreSound (rows_by table image) (row_count table)
+pub none_unsound : (table other : Table) (image : Slots) (rows : List ℕ) → other.geometry ≡ table.geometry → IsComplete table
+    → AreSound (rows_by table image) (row_count table)
     → AreUnsound other image rows → rows ≡ []
 none_unsound table other image [] same complete sound are = refl
 none_unsound table other image (row ∷ rows) same complete sound are =
     let bad = are.unsound row (Contains-append_left (row ∷ []) rows row (Contains-push [] row)) in
-    absurd (bad.1 (subst (λ (g : Geometry). IsSoundRow (map (λ member. sector_of (disk_of (image member)) (FIRST_ROW + row)) (range_with_len 0 g.members))) (sym same)
+    absurd (bad.1 (subst (λ (g : Geometry). IsSoundRow (map (λ member. sector_of (disk_of (image member)) (FIRST_ROW + row)) (range_with_len 0 g.members)))
+    (sym same)
     (sound_row table image complete sound row (subst (λ (g : Geometry). row < g.stripes * g.chunk) same bad.0))))
 
 -- the states of a complete set are complete
@@ -61,7 +66,8 @@ same_set (Some refusal) set = refl
 scrubbed : (devices : Devices) (before left : SetState) (reply : Reply) → AnswersSet devices Scrub before reply left → is_complete left.states ≡ true
     → reply ≡ Scrubbed devices.rows (length devices.unsound) (slice_get devices.unsound 0)
 scrubbed devices before left reply answers complete =
-    answers.replied ∙ ap (λ (b : Bool). or_refused (cond (not b) (Some Incomplete) None) (Scrubbed devices.rows (length devices.unsound) (slice_get devices.unsound 0))) whole
+    answers.replied ∙ ap (λ (b : Bool). or_refused (cond (not b) (Some Incomplete) None)
+    (Scrubbed devices.rows (length devices.unsound) (slice_get devices.unsound 0))) whole
   where
     whole : is_complete (with_faults devices.faults before.states) ≡ true
     whole = sym (ap (λ (set : SetState). is_complete (with_faults devices.faults set.states)) (same_set (set_refusal devices Scrub before) before))

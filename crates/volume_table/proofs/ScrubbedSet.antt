@@ -1,5 +1,6 @@
 -- The rows of a store's set are looked at.
-use Rattle.std.proofs.Common.{◌≡◌, ◌⊎◌, inl, inr, ℕ, Bool, true, false, cond, not, List, length, Option, Some, None, Result, Ok, Err, refl, sym, ap, subst, ◌∙◌, arith}
+use Rattle.std.proofs.Common.{◌≡◌, ◌⊎◌, inl, inr, ℕ, Bool, true, false, cond, not, List, length, Option, Some, None, Result, Ok, Err, refl, sym, ap, subst, ◌∙◌}
+use Rattle.std.proofs.Common.{arith}
 use Rattle.sector_model.specs.declared.refusal.Refusal.{Refusal}
 use Rattle.sector_model.specs.declared.refusal.Refusal.TheVariants.{Incomplete, TwoLost, Worn}
 use Rattle.sector_model.specs.Readable.{readable}
@@ -20,9 +21,11 @@ use Rattle.volume_table.specs.StoreCalls.{IsCounterFull, SetIsLeft, set_of}
 use Rattle.volume_table.specs.StoreFunctions.{ScrubsSet}
 use Rattle.volume_table.specs.VolumeStep.{OnSet, Refused, Reply, Scrub, Scrubbed}
 use Rattle.volume_table.proofs.FailedSlot.{in_sync_at}
-use Rattle.volume_table.proofs.OnSet.{ActsOnSet, KeepsRefusal, acts_on_set, are_devices, are_devices_with, devices_with, kept_if_done, kept_if_refused, refused_replies, set_left_by, state_in, states_in}
+use Rattle.volume_table.proofs.OnSet.{ActsOnSet, KeepsRefusal, acts_on_set, are_devices, are_devices_with, devices_with, kept_if_done, kept_if_refused}
+use Rattle.volume_table.proofs.OnSet.{refused_replies, set_left_by, state_in, states_in}
 use Rattle.volume_table.proofs.Scrubbed.{complete_states}
-use Rattle.volume_table.proofs.StoreSteps.{devices_in, failures_leave, generation_left, has_fault, incarnations_left, length-set_of, same_slots, slot_spared, states_left, stays_or_fails, unsound_rows}
+use Rattle.volume_table.proofs.StoreSteps.{devices_in, failures_leave, generation_left, has_fault, incarnations_left, length-set_of, same_slots, slot_spared}
+use Rattle.volume_table.proofs.StoreSteps.{states_left, stays_or_fails, unsound_rows}
 
 -- The array's scrub was made.
 pub record InspectsRows (honest : Type 0) (old new : StoreView) (answer : Result Report Refusal) : Type 0 where

@@ -1,5 +1,6 @@
 -- What the commands on the set keep.
-use Rattle.std.proofs.Common.{◌≡◌, ℕ, zero, suc, ◌≢◌, ◌+◌, ◌*◌, ◌<◌, ◌≤◌, Bool, true, false, cond, not, ◌||◌, nat_le, ◌==◌, List, [], ◌∷◌, length, take, get_or, set, Option, Some, None, refl, sym, ap, ap₂, subst, ◌∙◌, arith}
+use Rattle.std.proofs.Common.{◌≡◌, ℕ, zero, suc, ◌≢◌, ◌+◌, ◌*◌, ◌<◌, ◌≤◌, Bool, true, false, cond, not, ◌||◌, nat_le, ◌==◌, List, [], ◌∷◌, length, take, get_or}
+use Rattle.std.proofs.Common.{set, Option, Some, None, refl, sym, ap, ap₂, subst, ◌∙◌, arith}
 use Rattle.std.proofs.lemmas.Bool.{ne_eqb, eq-eqb, true≢false}
 use Rattle.std.proofs.lemmas.List.{length-set, length-map}
 use Rattle.sector_model.specs.declared.refusal.Refusal.{Refusal}
@@ -9,11 +10,14 @@ use Rattle.superblock.specs.declared.state.State.TheVariants.{Missing, InSync, R
 use Rattle.superblock.specs.declared.table.Table.{Table}
 use Rattle.superblock.specs.NextTables.{slots_of}
 use Rattle.volume_table.specs.StoreCalls.{set_of}
-use Rattle.volume_table.specs.VolumeStep.{Command, SetCommand, Fail, Replace, RebuildStep, Scrub, Event, OnVolumes, OnSet, Done, Refused, Progressed, first_refusal, or_refused}
+use Rattle.volume_table.specs.VolumeStep.{Command, SetCommand, Fail, Replace, RebuildStep, Scrub, Event, OnVolumes, OnSet, Done, Refused, Progressed}
+use Rattle.volume_table.specs.VolumeStep.{first_refusal, or_refused}
 use Rattle.rebuild.specs.Rebuilding.{Complete, Position, stepped}
 use Rattle.superblock.specs.States.{has_rebuilding, is_missing, is_rebuilding}
-use Rattle.volume_table.specs.SetReplies.{SetState, Devices, is_member, with_faults, settled, rebuilt, joined, changed_set, set_answer, set_refusal, set_reply, set_or_same, set_after}
-use Rattle.volume_table.specs.SetLaw.{NoFaults, IsZeroUnlessRebuilding, IsOneOut, Call, LetsRebuildGoOn, AllLetRebuildGoOn, after_calls, after_steps, steps_among, steps_left, steps_of}
+use Rattle.volume_table.specs.SetReplies.{SetState, Devices, is_member, with_faults, settled, rebuilt, joined, changed_set, set_answer, set_refusal, set_reply}
+use Rattle.volume_table.specs.SetReplies.{set_or_same, set_after}
+use Rattle.volume_table.specs.SetLaw.{NoFaults, IsZeroUnlessRebuilding, IsOneOut, Call, LetsRebuildGoOn, AllLetRebuildGoOn, after_calls, after_steps}
+use Rattle.volume_table.specs.SetLaw.{steps_among, steps_left, steps_of}
 use Rattle.rebuild.specs.declared.stepping.TheConstants.{MOST_ROWS}
 
 -- as many slots with faults
@@ -29,7 +33,8 @@ without_faults faults (state ∷ states) none =
     (without_faults (λ slot. faults (slot + 1)) states (λ slot within. none (slot + 1) (omega (arith, within))))
 
 -- whose device answered a fault is missing
-fault_is_missing : (faults : ℕ → Bool) (states : List State) (slot : ℕ) → slot < length states → faults slot ≡ true → get_or (with_faults faults states) slot InSync ≡ Missing
+fault_is_missing : (faults : ℕ → Bool) (states : List State) (slot : ℕ) → slot < length states → faults slot ≡ true
+    → get_or (with_faults faults states) slot InSync ≡ Missing
 fault_is_missing faults [] slot within fault = absurd (omega arith)
 fault_is_missing faults (state ∷ states) zero within fault = ap (λ (b : Bool). cond b Missing state) fault
 fault_is_missing faults (state ∷ states) (suc slot) within fault =
@@ -43,7 +48,8 @@ length-rebuilt states = length-map {A = State} states (λ state. cond (is_rebuil
 slots_of_joined : (slot : ℕ) (was : SetState) → length (joined slot was).states ≡ length was.states
 slots_of_joined slot was = by_case (is_member slot was.states)
   where
-    by_case : (b : Bool) → length (cond {A = SetState} b (record { states = set was.states slot Rebuilding; position = 0 }) (record { states = set was.states slot InSync; position = was.position })).states ≡ length was.states
+    by_case : (b : Bool) → length (cond {A = SetState} b (record { states = set was.states slot Rebuilding; position = 0 })
+        (record { states = set was.states slot InSync; position = was.position })).states ≡ length was.states
     by_case true = length-set was.states slot Rebuilding
     by_case false = length-set was.states slot InSync
 
@@ -52,7 +58,8 @@ slots_of_changed all_rows (Fail slot) was = length-set was.states slot Missing
 slots_of_changed all_rows (Replace slot) was = slots_of_joined slot was
 slots_of_changed all_rows (RebuildStep rows) was = by_case (stepped all_rows rows was.position == all_rows)
   where
-    by_case : (b : Bool) → length (cond {A = SetState} b (record { states = rebuilt was.states; position = 0 }) (record { states = was.states; position = stepped all_rows rows was.position })).states ≡ length was.states
+    by_case : (b : Bool) → length (cond {A = SetState} b (record { states = rebuilt was.states; position = 0 })
+        (record { states = was.states; position = stepped all_rows rows was.position })).states ≡ length was.states
     by_case true = length-rebuilt was.states
     by_case false = refl
 slots_of_changed all_rows Scrub was = refl
@@ -81,7 +88,8 @@ slots_stay devices event was =
     ap (λ (s : SetState). length s.states) (is_settled devices event was)
     ∙ length-with_faults devices.faults (unsettled devices event was).states ∙ slots_unsettled devices event was
 
-pub faults_are_missing : (devices : Devices) (event : Event) (was : SetState) (slot : ℕ) → slot < length was.states → devices.faults slot ≡ true → get_or (set_after devices event was).states slot InSync ≡ Missing
+pub faults_are_missing : (devices : Devices) (event : Event) (was : SetState) (slot : ℕ) → slot < length was.states → devices.faults slot ≡ true
+    → get_or (set_after devices event was).states slot InSync ≡ Missing
 faults_are_missing devices event was slot within fault =
     ap (λ (s : SetState). get_or s.states slot InSync) (is_settled devices event was)
     ∙ fault_is_missing devices.faults (unsettled devices event was).states slot (omega (arith, within, slots_unsettled devices event was)) fault
@@ -106,7 +114,8 @@ settled_stays devices was none zero_else =
     by_case true e = refl
     by_case false e = sym (zero_else e)
 
-pub volumes_leave_set : (devices : Devices) (command : Command) (was : SetState) → NoFaults devices was → IsZeroUnlessRebuilding was → set_after devices (OnVolumes command) was ≡ was
+pub volumes_leave_set : (devices : Devices) (command : Command) (was : SetState) → NoFaults devices was → IsZeroUnlessRebuilding was
+    → set_after devices (OnVolumes command) was ≡ was
 volumes_leave_set devices command was none zero_else = settled_stays devices was none zero_else
 
 -- no answer is a refusal
@@ -117,31 +126,40 @@ step_answer_is_none false position refusal e = absurd (grind arith)
 no_refusal_answered : (devices : Devices) (command : SetCommand) (was : SetState) (refusal : Refusal) → set_answer devices command was ≡ Refused refusal → ⊥
 no_refusal_answered devices (Fail slot) was refusal e = absurd (grind arith)
 no_refusal_answered devices (Replace slot) was refusal e = absurd (grind arith)
-no_refusal_answered devices (RebuildStep rows) was refusal e = step_answer_is_none (stepped devices.rows rows was.position == devices.rows) (stepped devices.rows rows was.position) refusal e
+no_refusal_answered devices (RebuildStep rows) was refusal e =
+    step_answer_is_none (stepped devices.rows rows was.position == devices.rows) (stepped devices.rows rows was.position) refusal e
 no_refusal_answered devices Scrub was refusal e = absurd (grind arith)
 
-pub refused_leaves_set : (devices : Devices) (command : SetCommand) (was : SetState) (refusal : Refusal) → NoFaults devices was → IsZeroUnlessRebuilding was → set_reply devices command was ≡ Refused refusal
+pub refused_leaves_set : (devices : Devices) (command : SetCommand) (was : SetState) (refusal : Refusal) → NoFaults devices was → IsZeroUnlessRebuilding was
+    → set_reply devices command was ≡ Refused refusal
     → set_after devices (OnSet command) was ≡ was
-refused_leaves_set devices command was refusal none zero_else refused = ap (settled devices) (by_case (set_refusal devices command was) refused) ∙ settled_stays devices was none zero_else
+refused_leaves_set devices command was refusal none zero_else refused = ap (settled devices) (by_case (set_refusal devices command was) refused)
+    ∙ settled_stays devices was none zero_else
   where
-    by_case : (o : Option Refusal) → or_refused o (set_answer devices command was) ≡ Refused refusal → set_or_same o (changed_set devices.rows command was) was ≡ was
+    by_case : (o : Option Refusal) → or_refused o (set_answer devices command was) ≡ Refused refusal
+        → set_or_same o (changed_set devices.rows command was) was ≡ was
     by_case None e = absurd (no_refusal_answered devices command was refusal e)
     by_case (Some other) e = refl
 
 -- a rebuild step is not refused while a member is rebuilding
-step_not_refused : (devices : Devices) (was : SetState) → NoFaults devices was → has_rebuilding was.states ≡ true → set_refusal devices (RebuildStep MOST_ROWS) was ≡ None
+step_not_refused : (devices : Devices) (was : SetState) → NoFaults devices was → has_rebuilding was.states ≡ true
+    → set_refusal devices (RebuildStep MOST_ROWS) was ≡ None
 step_not_refused devices was none rebuilding =
     ap (λ states. cond (not (has_rebuilding states)) (Some NothingToRebuild) None) (without_faults devices.faults was.states none)
     ∙ ap (λ (b : Bool). cond (not b) (Some NothingToRebuild) None) rebuilding
 
 -- what a step leaves and answers, by whether it is the last
-step_leaves : (devices : Devices) (was : SetState) (last : Bool) → NoFaults devices was → has_rebuilding was.states ≡ true → (stepped devices.rows MOST_ROWS was.position == devices.rows) ≡ last
-    → set_after devices (OnSet (RebuildStep MOST_ROWS)) was ≡ settled devices (cond last (record { states = rebuilt was.states; position = 0 }) (record { states = was.states; position = stepped devices.rows MOST_ROWS was.position }))
+step_leaves : (devices : Devices) (was : SetState) (last : Bool) → NoFaults devices was → has_rebuilding was.states ≡ true
+    → (stepped devices.rows MOST_ROWS was.position == devices.rows) ≡ last
+    → set_after devices (OnSet (RebuildStep MOST_ROWS)) was ≡ settled devices
+    (cond last (record { states = rebuilt was.states; position = 0 }) (record { states = was.states; position = stepped devices.rows MOST_ROWS was.position }))
 step_leaves devices was last none rebuilding is_last =
     ap (λ o. settled devices (set_or_same o (changed_set devices.rows (RebuildStep MOST_ROWS) was) was)) (step_not_refused devices was none rebuilding)
-    ∙ ap (λ (b : Bool). settled devices (cond b (record { states = rebuilt was.states; position = 0 }) (record { states = was.states; position = stepped devices.rows MOST_ROWS was.position }))) is_last
+    ∙ ap (λ (b : Bool). settled devices (cond b (record { states = rebuilt was.states; position = 0 })
+    (record { states = was.states; position = stepped devices.rows MOST_ROWS was.position }))) is_last
 
-step_answers : (devices : Devices) (was : SetState) (last : Bool) → NoFaults devices was → has_rebuilding was.states ≡ true → (stepped devices.rows MOST_ROWS was.position == devices.rows) ≡ last
+step_answers : (devices : Devices) (was : SetState) (last : Bool) → NoFaults devices was → has_rebuilding was.states ≡ true
+    → (stepped devices.rows MOST_ROWS was.position == devices.rows) ≡ last
     → set_reply devices (RebuildStep MOST_ROWS) was ≡ cond last (Progressed Complete) (Progressed (Position (stepped devices.rows MOST_ROWS was.position)))
 step_answers devices was last none rebuilding is_last =
     ap (λ o. or_refused o (set_answer devices (RebuildStep MOST_ROWS) was)) (step_not_refused devices was none rebuilding)
@@ -149,26 +167,35 @@ step_answers devices was last none rebuilding is_last =
 
 -- a step that is not the last
 step_goes_on : (devices : Devices) (was : SetState) → NoFaults devices was → has_rebuilding was.states ≡ true → was.position + MOST_ROWS < devices.rows
-    → (set_after devices (OnSet (RebuildStep MOST_ROWS)) was ≡ record { states = was.states; position = was.position + MOST_ROWS }) × (set_reply devices (RebuildStep MOST_ROWS) was ≡ Progressed (Position (was.position + MOST_ROWS)))
+    → (set_after devices (OnSet (RebuildStep MOST_ROWS)) was ≡ record { states = was.states; position = was.position + MOST_ROWS })
+    × (set_reply devices (RebuildStep MOST_ROWS) was ≡ Progressed (Position (was.position + MOST_ROWS)))
 step_goes_on devices was none rebuilding more =
     let there : stepped devices.rows MOST_ROWS was.position ≡ was.position + MOST_ROWS = omega arith in
-    let not_last : (stepped devices.rows MOST_ROWS was.position == devices.rows) ≡ false = ne_eqb (stepped devices.rows MOST_ROWS was.position) devices.rows (λ same. absurd (omega (arith, there, same))) in
+    let not_last : (stepped devices.rows MOST_ROWS was.position == devices.rows) ≡ false =
+    ne_eqb (stepped devices.rows MOST_ROWS was.position) devices.rows (λ same. absurd (omega (arith, there, same))) in
     let next : SetState = record { states = was.states; position = stepped devices.rows MOST_ROWS was.position } in (
-      step_leaves devices was false none rebuilding not_last ∙ settled_stays devices next none (λ e. absurd (true≢false (sym rebuilding ∙ e))) ∙ ap (made was.states) there,
+      step_leaves devices was false none rebuilding not_last ∙ settled_stays devices next none (λ e. absurd (true≢false (sym rebuilding ∙ e)))
+          ∙ ap (made was.states) there,
       step_answers devices was false none rebuilding not_last ∙ ap (λ q. Progressed (Position q)) there,
     )
 
 -- the last step
-pub step_is_last : (devices : Devices) (was : SetState) → NoFaults devices was → has_rebuilding was.states ≡ true → was.position ≤ devices.rows → devices.rows ≤ was.position + MOST_ROWS
-    → (set_after devices (OnSet (RebuildStep MOST_ROWS)) was ≡ record { states = rebuilt was.states; position = 0 }) × (set_reply devices (RebuildStep MOST_ROWS) was ≡ Progressed Complete)
+pub step_is_last : (devices : Devices) (was : SetState) → NoFaults devices was → has_rebuilding was.states ≡ true → was.position ≤ devices.rows
+    → devices.rows ≤ was.position + MOST_ROWS
+    → (set_after devices (OnSet (RebuildStep MOST_ROWS)) was ≡ record { states = rebuilt was.states; position = 0 })
+    × (set_reply devices (RebuildStep MOST_ROWS) was ≡ Progressed Complete)
 step_is_last devices was none rebuilding within near =
     let there : stepped devices.rows MOST_ROWS was.position ≡ devices.rows = omega arith in
     let last : (stepped devices.rows MOST_ROWS was.position == devices.rows) ≡ true = eq-eqb (stepped devices.rows MOST_ROWS was.position) devices.rows there in
-    let next : SetState = record { states = rebuilt was.states; position = 0 } in
-    (step_leaves devices was true none rebuilding last ∙ settled_stays devices next (λ slot within. none slot (omega (arith, within, length-rebuilt was.states))) (λ e. refl), step_answers devices was true none rebuilding last)
+    let next : SetState = record { states = rebuilt was.states; position = 0 } in (
+      step_leaves devices was true none rebuilding last
+          ∙ settled_stays devices next (λ slot within. none slot (omega (arith, within, length-rebuilt was.states))) (λ e. refl),
+      step_answers devices was true none rebuilding last,
+    )
 
 -- the set n steps on
-ahead : (devices : Devices) (was : SetState) (n : ℕ) → NoFaults devices was → has_rebuilding was.states ≡ true → n < steps_left devices was → after_steps devices was n ≡ made was.states (was.position + MOST_ROWS * n)
+ahead : (devices : Devices) (was : SetState) (n : ℕ) → NoFaults devices was → has_rebuilding was.states ≡ true → n < steps_left devices was
+    → after_steps devices was n ≡ made was.states (was.position + MOST_ROWS * n)
 ahead devices was zero none rebuilding more = ap (made was.states) (omega arith)
 ahead devices was (suc n) none rebuilding more =
     let here = made was.states (was.position + MOST_ROWS * n) in
@@ -195,8 +222,11 @@ rebuild_is_counted devices was n none rebuilding last =
     let here = made was.states (was.position + MOST_ROWS * n) in
     let at_n = ahead devices was n none rebuilding (omega arith) in
     let one_more : n + 1 ≡ suc n = omega arith in
-    let done = step_is_last devices here none rebuilding (omega arith) (omega arith) in
-    (ap (after_steps devices was) one_more ∙ ap (set_after devices (OnSet (RebuildStep MOST_ROWS))) at_n ∙ done.0, ap (set_reply devices (RebuildStep MOST_ROWS)) at_n ∙ done.1)
+    let done = step_is_last devices here none rebuilding (omega arith) (omega arith) in (
+      ap (after_steps devices was) one_more ∙ ap (set_after devices (OnSet (RebuildStep MOST_ROWS))) at_n
+          ∙ done.0,
+      ap (set_reply devices (RebuildStep MOST_ROWS)) at_n ∙ done.1,
+    )
 
 missing≢in_sync : Missing ≢ InSync
 missing≢in_sync e = absurd (grind arith)
@@ -240,18 +270,22 @@ none_missing states slot one_out rebuilding = by_case (get_or states slot InSync
         absurd (missing≢rebuilding (sym e ∙ ap (λ n. get_or states n InSync) same ∙ found.1))
 
 -- a replace is refused while a member is rebuilding
-replace_refused : (devices : Devices) (was : SetState) (slot : ℕ) → IsOneOut was.states → has_rebuilding was.states ≡ true → set_reply devices (Replace slot) was ≡ Refused NotMissing
+replace_refused : (devices : Devices) (was : SetState) (slot : ℕ) → IsOneOut was.states → has_rebuilding was.states ≡ true
+    → set_reply devices (Replace slot) was ≡ Refused NotMissing
 replace_refused devices was slot one_out rebuilding =
-    ap (λ (b : Bool). or_refused (first_refusal ((nat_le (length was.states) slot || not b, NotMissing) ∷ (devices.unusable slot || devices.faults slot, NotUsable) ∷ [])) Done)
+    ap (λ (b : Bool). or_refused (first_refusal ((nat_le (length was.states) slot || not b, NotMissing)
+    ∷ (devices.unusable slot || devices.faults slot, NotUsable) ∷ [])) Done)
     (none_missing was.states slot one_out rebuilding)
     ∙ by_case (nat_le (length was.states) slot)
   where
-    by_case : (b : Bool) → or_refused (first_refusal ((b || true, NotMissing) ∷ (devices.unusable slot || devices.faults slot, NotUsable) ∷ [])) Done ≡ Refused NotMissing
+    by_case : (b : Bool) → or_refused (first_refusal ((b || true, NotMissing) ∷ (devices.unusable slot || devices.faults slot, NotUsable) ∷ [])) Done ≡ Refused
+        NotMissing
     by_case true = refl
     by_case false = refl
 
 -- a fail that is not done is refused
-fail_leaves : (devices : Devices) (was : SetState) (slot : ℕ) → NoFaults devices was → IsZeroUnlessRebuilding was → set_reply devices (Fail slot) was ≢ Done → set_after devices (OnSet (Fail slot)) was ≡ was
+fail_leaves : (devices : Devices) (was : SetState) (slot : ℕ) → NoFaults devices was → IsZeroUnlessRebuilding was → set_reply devices (Fail slot) was ≢ Done
+    → set_after devices (OnSet (Fail slot)) was ≡ was
 fail_leaves devices was slot none zero_else not_done = by_case (set_refusal devices (Fail slot) was) refl
   where
     by_case : (o : Option Refusal) → set_refusal devices (Fail slot) was ≡ o → set_after devices (OnSet (Fail slot)) was ≡ was
@@ -277,7 +311,8 @@ call_leaves devices event was one_out rebuilding goes_on more = by_case event go
     same : was ≡ made was.states (was.position + MOST_ROWS * 0)
     same = ap (made was.states) (omega arith)
 
-    by_case : (other : Event) → LetsRebuildGoOn devices.rows was (record { devices = devices; event = other }) → was.position + MOST_ROWS * steps_of other < devices.rows
+    by_case : (other : Event) → LetsRebuildGoOn devices.rows was (record { devices = devices; event = other })
+        → was.position + MOST_ROWS * steps_of other < devices.rows
         → set_after devices other was ≡ made was.states (was.position + MOST_ROWS * steps_of other)
     by_case (OnVolumes command) lets few = settled_stays devices was lets.no_faults zero_else ∙ same
     by_case (OnSet (Fail slot)) lets few = fail_leaves devices was slot lets.no_faults zero_else (lets.none_given_up slot refl) ∙ same
@@ -304,7 +339,8 @@ ahead_among (call ∷ calls) all_rows was one_out rebuilding lets more =
     ∙ ahead_among calls all_rows here one_out rebuilding (subst (λ (set : SetState). AllLetRebuildGoOn all_rows set calls) left lets.1) (omega (arith, more))
     ∙ ap (made was.states) (omega arith)
 
-pub rebuild_goes_on_among_others : (devices : Devices) (calls : List Call) (was : SetState) → NoFaults devices was → IsOneOut was.states → has_rebuilding was.states ≡ true
+pub rebuild_goes_on_among_others : (devices : Devices) (calls : List Call) (was : SetState) → NoFaults devices was → IsOneOut was.states
+    → has_rebuilding was.states ≡ true
     → AllLetRebuildGoOn devices.rows was calls → steps_among calls < steps_left devices was
     → (after_calls calls was ≡ record { states = was.states; position = was.position + MOST_ROWS * steps_among calls })
     × (steps_among calls + 1 < steps_left devices was
@@ -314,10 +350,12 @@ rebuild_goes_on_among_others devices calls was none one_out rebuilding lets more
     let there : after_calls calls was ≡ here = ahead_among calls devices.rows was one_out rebuilding lets (omega (arith, more)) in
     let far : was.position + MOST_ROWS * steps_among calls + MOST_ROWS ≡ was.position + MOST_ROWS * (steps_among calls + 1) = omega arith in (
       there,
-      λ further. ap (set_reply devices (RebuildStep MOST_ROWS)) there ∙ (step_goes_on devices here none rebuilding (omega (arith, further))).1 ∙ ap (λ q. Progressed (Position q)) far,
+      λ further. ap (set_reply devices (RebuildStep MOST_ROWS)) there ∙ (step_goes_on devices here none rebuilding (omega (arith, further))).1
+          ∙ ap (λ q. Progressed (Position q)) far,
     )
 
-pub rebuild_is_counted_among_others : (devices : Devices) (calls : List Call) (was : SetState) → NoFaults devices was → IsOneOut was.states → has_rebuilding was.states ≡ true
+pub rebuild_is_counted_among_others : (devices : Devices) (calls : List Call) (was : SetState) → NoFaults devices was → IsOneOut was.states
+    → has_rebuilding was.states ≡ true
     → AllLetRebuildGoOn devices.rows was calls → steps_among calls + 1 ≡ steps_left devices was
     → (set_after devices (OnSet (RebuildStep MOST_ROWS)) (after_calls calls was) ≡ record { states = rebuilt was.states; position = 0 })
     × (set_reply devices (RebuildStep MOST_ROWS) (after_calls calls was) ≡ Progressed Complete)

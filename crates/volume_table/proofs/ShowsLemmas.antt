@@ -1,5 +1,6 @@
 -- What a logical list shows.
-use Rattle.std.proofs.Common.{◌≡◌, ◌≢◌, ◌⊎◌, ◌↔◌, inl, inr, ⊎_elim, ℕ, zero, suc, ◌+◌, ◌-◌, ◌/◌, ◌%◌, ◌<◌, ◌≤◌, Bool, true, false, nat_lt, ◌&&◌, List, [], ◌∷◌, length, take, get_or, All, Option, Some, None, refl, sym, ap, subst, ◌∙◌, arith, IsTrue}
+use Rattle.std.proofs.Common.{◌≡◌, ◌≢◌, ◌⊎◌, ◌↔◌, inl, inr, ⊎_elim, ℕ, zero, suc, ◌+◌, ◌-◌, ◌/◌, ◌%◌, ◌<◌, ◌≤◌, Bool, true, false, nat_lt, ◌&&◌, List, [], ◌∷◌}
+use Rattle.std.proofs.Common.{length, take, get_or, All, Option, Some, None, refl, sym, ap, subst, ◌∙◌, arith, IsTrue}
 use Rattle.std.specs.List.{list_all}
 use Rattle.std.proofs.Props.{props}
 use Rattle.std.proofs.Math.Logic.{∥∥₁_elim}
@@ -41,7 +42,8 @@ good_forward version (first ∷ rest) good =
       short,
     )
   where
-    each_byte : is_letter first ≡ true → All (λ byte. is_name_byte byte ≡ true) rest → (k : ℕ) → k < length (first ∷ rest) → is_name_byte (get_or (first ∷ rest) k 0) ≡ true
+    each_byte : is_letter first ≡ true → All (λ byte. is_name_byte byte ≡ true) rest → (k : ℕ) → k < length (first ∷ rest)
+        → is_name_byte (get_or (first ∷ rest) k 0) ≡ true
     each_byte letter all zero within = or_left _ _ (or_left _ _ (or_left (is_letter first) (is_digit first) letter))
     each_byte letter all (suc k) within = all k 0 (omega arith)
 
@@ -64,7 +66,8 @@ pub good_names : (version : ℕ) (name : List ℕ) → IsTrue (is_good_name vers
 good_names version name = (good_forward version name, λ both. good_backward version name both.0 both.1)
 
 -- blocks of different places lie in different sectors
-same_sector : (owners : List (Option Owned)) (number other i j extent extent' : ℕ) → IsAt owners extent number (i / EXTENT_SECTORS) → IsAt owners extent' other (j / EXTENT_SECTORS) → sector_of_block EXTENT_SECTORS extent i ≡ sector_of_block EXTENT_SECTORS extent' j
+same_sector : (owners : List (Option Owned)) (number other i j extent extent' : ℕ) → IsAt owners extent number (i / EXTENT_SECTORS)
+    → IsAt owners extent' other (j / EXTENT_SECTORS) → sector_of_block EXTENT_SECTORS extent i ≡ sector_of_block EXTENT_SECTORS extent' j
     → (number ≡ other) × (i ≡ j)
 same_sector owners number other i j extent extent' here there same =
     let one_extent : extent ≡ extent' = omega arith in
@@ -76,8 +79,10 @@ same_sector owners number other i j extent extent' here there same =
     (ap (λ (o : Owned). o.volume) one_owner, omega (arith, one_place, one_offset))
 
 -- two volumes of one record have the same blocks
-same_blocks : (records : List (Option Record)) (owners : List (Option Owned)) (sectors : List Block) (number : ℕ) (entry : Record) (first second : List Block) (version : ℕ) → IsVolumeTable version records owners → record_of records number ≡ Some entry
-    → length first ≡ entry.blocks → length second ≡ entry.blocks → AreBlocksIn EXTENT_SECTORS sectors owners number first → AreBlocksIn EXTENT_SECTORS sectors owners number second → first ≡ second
+same_blocks : (records : List (Option Record)) (owners : List (Option Owned)) (sectors : List Block) (number : ℕ) (entry : Record) (first second : List Block)
+    (version : ℕ) → IsVolumeTable version records owners → record_of records number ≡ Some entry
+    → length first ≡ entry.blocks → length second ≡ entry.blocks → AreBlocksIn EXTENT_SECTORS sectors owners number first
+    → AreBlocksIn EXTENT_SECTORS sectors owners number second → first ≡ second
 same_blocks records owners sectors number entry first second version table used one_long two_long one two =
     same_lists first second (one_long ∙ sym two_long) (λ k d within.
     let has : HasPlaces owners number (extents_of EXTENT_SECTORS (record_of records number)) = table.places number in
@@ -87,7 +92,8 @@ same_blocks records owners sectors number entry first second version table used 
     get_or_default first k d [] within ∙ sym (one k at.0 within at.1) ∙ two k at.0 within_second at.1 ∙ sym (get_or_default second k d [] within_second))
 
 -- what one map has, the other has
-also_there : (records : List (Option Record)) (owners : List (Option Owned)) (sectors : List Block) (first second : VolumeList) (version : ℕ) → IsVolumeTable version records owners → AreShown EXTENT_SECTORS records owners sectors first → AreShown EXTENT_SECTORS records owners sectors second
+also_there : (records : List (Option Record)) (owners : List (Option Owned)) (sectors : List Block) (first second : VolumeList) (version : ℕ)
+    → IsVolumeTable version records owners → AreShown EXTENT_SECTORS records owners sectors first → AreShown EXTENT_SECTORS records owners sectors second
     → (name : List ℕ) (blocks : List Block) → blocks_of name first ≡ Some blocks → blocks_of name second ≡ Some blocks
 also_there records owners sectors first second version table one two name blocks found =
     let has : HasRecord records name = one.all name blocks found in
@@ -95,35 +101,44 @@ also_there records owners sectors first second version table one two name blocks
     let there : IsOfVolume EXTENT_SECTORS owners sectors second has.number has.entry = two.used has.number has.entry has.used in
     let same : blocks ≡ here.blocks = same_Some blocks here.blocks (sym found ∙ ap (λ n. blocks_of n first) (sym has.named) ∙ here.named) in
     ap (λ n. blocks_of n second) (sym has.named) ∙ there.named
-    ∙ ap Some (same_blocks records owners sectors has.number has.entry there.blocks here.blocks version table has.used there.as_long here.as_long there.stand here.stand ∙ sym same)
+    ∙ ap Some (same_blocks records owners sectors has.number has.entry there.blocks here.blocks version table has.used there.as_long here.as_long there.stand
+    here.stand ∙ sym same)
 
-pub same_found : (o p : Option (List Block)) → ((blocks : List Block) → o ≡ Some blocks → p ≡ Some blocks) → ((blocks : List Block) → p ≡ Some blocks → o ≡ Some blocks) → o ≡ p
+pub same_found : (o p : Option (List Block)) → ((blocks : List Block) → o ≡ Some blocks → p ≡ Some blocks)
+    → ((blocks : List Block) → p ≡ Some blocks → o ≡ Some blocks) → o ≡ p
 same_found None None f g = refl
 same_found None (Some blocks) f g = g blocks refl
 same_found (Some blocks) p f g = sym (f blocks refl)
 
 -- where the table is known, the lists of both are one
-same_volumes : (extents : ℕ) (records : List (Option Record)) (owners : List (Option Owned)) (sectors : List Block) (version : ℕ) (first second : VolumeMap) → IsVolumeTable version records owners
-    → AreVolumes extents first → AreVolumes extents second → AreShown EXTENT_SECTORS records owners sectors first.volumes → AreShown EXTENT_SECTORS records owners sectors second.volumes → first.volumes ≡ second.volumes
+same_volumes : (extents : ℕ) (records : List (Option Record)) (owners : List (Option Owned)) (sectors : List Block) (version : ℕ) (first second : VolumeMap)
+    → IsVolumeTable version records owners
+    → AreVolumes extents first → AreVolumes extents second → AreShown EXTENT_SECTORS records owners sectors first.volumes
+    → AreShown EXTENT_SECTORS records owners sectors second.volumes → first.volumes ≡ second.volumes
 same_volumes extents records owners sectors version first second table one_limits two_limits one two =
     known_by_blocks first.volumes second.volumes one_limits.rising two_limits.rising (λ name.
     same_found (blocks_of name first.volumes) (blocks_of name second.volumes)
     (also_there records owners sectors first.volumes second.volumes version table one two name)
     (also_there records owners sectors second.volumes first.volumes version table two one name))
 
-pub shown_are_one : (extents : ℕ) (records : List (Option Record)) (owners : List (Option Owned)) (sectors : List Block) (version : ℕ) (first second : VolumeMap) → ∥ IsVolumeTable version records owners ∥₁
+pub shown_are_one : (extents : ℕ) (records : List (Option Record)) (owners : List (Option Owned)) (sectors : List Block) (version : ℕ)
+    (first second : VolumeMap) → ∥ IsVolumeTable version records owners ∥₁
     → first.version ≡ version → second.version ≡ version
-    → AreVolumes extents first → AreVolumes extents second → AreShown EXTENT_SECTORS records owners sectors first.volumes → AreShown EXTENT_SECTORS records owners sectors second.volumes → first ≡ second
+    → AreVolumes extents first → AreVolumes extents second → AreShown EXTENT_SECTORS records owners sectors first.volumes
+    → AreShown EXTENT_SECTORS records owners sectors second.volumes → first ≡ second
 shown_are_one extents records owners sectors version first second table first_is second_is one_limits two_limits one two =
     ∥∥₁_elim table (hlevel props) (λ is_table.
     same_map first second (first_is ∙ sym second_is) (same_volumes extents records owners sectors version first second is_table one_limits two_limits one two))
 
 -- the names of a table are distinct
-pub distinct_names : (version : ℕ) (records : List (Option Record)) (owners : List (Option Owned)) → ∥ IsVolumeTable version records owners ∥₁ → AreDistinct records
-distinct_names version records owners table i j first second one two same = ∥∥₁_elim table (hlevel props) (λ is_table. is_table.distinct i j first second one two same)
+pub distinct_names : (version : ℕ) (records : List (Option Record)) (owners : List (Option Owned)) → ∥ IsVolumeTable version records owners ∥₁
+    → AreDistinct records
+distinct_names version records owners table i j first second one two same =
+    ∥∥₁_elim table (hlevel props) (λ is_table. is_table.distinct i j first second one two same)
 
 -- the volume that was written
-written_volume : (owners : List (Option Owned)) (before left : List Block) (number at : ℕ) (written old new : List Block) → AreBlocksIn EXTENT_SECTORS before owners number old → IsWritten old new at written → HasWritten EXTENT_SECTORS owners number at written before left
+written_volume : (owners : List (Option Owned)) (before left : List Block) (number at : ℕ) (written old new : List Block)
+    → AreBlocksIn EXTENT_SECTORS before owners number old → IsWritten old new at written → HasWritten EXTENT_SECTORS owners number at written before left
     → AreBlocksIn EXTENT_SECTORS left owners number new
 written_volume owners before left number at written old new stand changes has j extent within at_extent =
     ⊎_elim below (⊎_elim above inside) (which j)
@@ -131,7 +146,8 @@ written_volume owners before left number at written old new stand changes has j 
     which : (k : ℕ) → (k < at) ⊎ ((at + length written ≤ k) ⊎ ((at ≤ k) × (k < at + length written)))
     which k = grind arith
 
-    apart : (j < at) ⊎ (at + length written ≤ j) → (i extent' : ℕ) → i < length written → IsAt owners extent' number ((at + i) / EXTENT_SECTORS) → sector_of_block EXTENT_SECTORS extent j ≢ sector_of_block EXTENT_SECTORS extent' (at + i)
+    apart : (j < at) ⊎ (at + length written ≤ j) → (i extent' : ℕ) → i < length written → IsAt owners extent' number ((at + i) / EXTENT_SECTORS)
+        → sector_of_block EXTENT_SECTORS extent j ≢ sector_of_block EXTENT_SECTORS extent' (at + i)
     apart off i extent' less there same =
         let one : j ≡ at + i = (same_sector owners number number j (at + i) extent extent' at_extent there same).1 in
         ⊎_elim (λ low. absurd (omega (arith, one, low, less))) (λ high. absurd (omega (arith, one, high, less))) off
@@ -155,15 +171,19 @@ written_volume owners before left number at written old new stand changes has j 
         ∙ sym (changes.inside k [] less) ∙ ap (λ n. get_or new n []) there
 
 -- the others
-other_volume : (owners : List (Option Owned)) (before left : List Block) (number other at : ℕ) (written blocks : List Block) → other ≢ number → AreBlocksIn EXTENT_SECTORS before owners other blocks → HasWritten EXTENT_SECTORS owners number at written before left
+other_volume : (owners : List (Option Owned)) (before left : List Block) (number other at : ℕ) (written blocks : List Block) → other ≢ number
+    → AreBlocksIn EXTENT_SECTORS before owners other blocks → HasWritten EXTENT_SECTORS owners number at written before left
     → AreBlocksIn EXTENT_SECTORS left owners other blocks
 other_volume owners before left number other at written blocks differ stand has j extent within at_extent =
-    has.outside (sector_of_block EXTENT_SECTORS extent j) (λ i extent' less there same. differ (same_sector owners other number j (at + i) extent extent' at_extent there same).0)
+    has.outside (sector_of_block EXTENT_SECTORS extent j)
+    (λ i extent' less there same. differ (same_sector owners other number j (at + i) extent extent' at_extent there same).0)
     ∙ stand j extent within at_extent
 
 -- the record of another name is another record
-write_is_shown_by : (extents : ℕ) (records : List (Option Record)) (owners : List (Option Owned)) (before left : List Block) (volumes : VolumeMap) (number : ℕ) (entry : Record) (at : ℕ) (written : List Block)
-    → AreDistinct records → AreShown EXTENT_SECTORS records owners before volumes.volumes → record_of records number ≡ Some entry → reply_to extents (Write entry.name.bytes.items at written) volumes ≡ Done → HasWritten EXTENT_SECTORS owners number at written before left
+write_is_shown_by : (extents : ℕ) (records : List (Option Record)) (owners : List (Option Owned)) (before left : List Block) (volumes : VolumeMap) (number : ℕ)
+    (entry : Record) (at : ℕ) (written : List Block)
+    → AreDistinct records → AreShown EXTENT_SECTORS records owners before volumes.volumes → record_of records number ≡ Some entry
+    → reply_to extents (Write entry.name.bytes.items at written) volumes ≡ Done → HasWritten EXTENT_SECTORS owners number at written before left
     → AreShown EXTENT_SECTORS records owners left (volumes_after extents (Write entry.name.bytes.items at written) volumes).volumes
 write_is_shown_by extents records owners before left volumes number entry at written distinct shown used done has =
     record {
@@ -181,20 +201,26 @@ write_is_shown_by extents records owners before left volumes number entry at wri
     leaves = write_changes_its_blocks extents name at written volumes done
 
     stays : (other : List ℕ) → is_same_name other name ≡ false → blocks_of other after_it ≡ blocks_of other volumes.volumes
-    stays other differ = others_stay extents (Write name at written) volumes other (not_the_one name other (λ same. true≢false (sym (same_name_itself name) ∙ ap (λ n. is_same_name n name) (sym same) ∙ differ)))
+    stays other differ = others_stay extents (Write name at written) volumes other
+        (not_the_one name other (λ same. true≢false (sym (same_name_itself name) ∙ ap (λ n. is_same_name n name) (sym same) ∙ differ)))
 
-    by_name : (other : ℕ) (other_entry : Record) → record_of records other ≡ Some other_entry → (b : Bool) → is_same_name other_entry.name.bytes.items name ≡ b → IsOfVolume EXTENT_SECTORS owners left after_it other other_entry
+    by_name : (other : ℕ) (other_entry : Record) → record_of records other ≡ Some other_entry → (b : Bool) → is_same_name other_entry.name.bytes.items name ≡ b
+        → IsOfVolume EXTENT_SECTORS owners left after_it other other_entry
     by_name other other_entry other_used true e =
         let same_name : other_entry.name.bytes.items ≡ name = same_name_is other_entry.name.bytes.items name e in
         let same : other ≡ number = distinct other number other_entry entry other_used used same_name in
         let was : IsOfVolume EXTENT_SECTORS owners before volumes.volumes other other_entry = shown.used other other_entry other_used in
-        let same_old : was.blocks ≡ leaves.before = same_Some was.blocks leaves.before (sym was.named ∙ ap (λ n. blocks_of n volumes.volumes) same_name ∙ leaves.was) in
-        let stand : AreBlocksIn EXTENT_SECTORS before owners number leaves.before = subst (λ n. AreBlocksIn EXTENT_SECTORS before owners n leaves.before) same (subst (λ blocks. AreBlocksIn EXTENT_SECTORS before owners other blocks) same_old was.stand) in
+        let same_old : was.blocks ≡ leaves.before = same_Some was.blocks leaves.before
+        (sym was.named ∙ ap (λ n. blocks_of n volumes.volumes) same_name ∙ leaves.was) in
+        let stand : AreBlocksIn EXTENT_SECTORS before owners number leaves.before =
+        subst (λ n. AreBlocksIn EXTENT_SECTORS before owners n leaves.before) same
+        (subst (λ blocks. AreBlocksIn EXTENT_SECTORS before owners other blocks) same_old was.stand) in
         record {
           blocks = leaves.left;
           named = ap (λ n. blocks_of n after_it) same_name ∙ leaves.is_left;
           as_long = leaves.changes.as_long ∙ ap length (sym same_old) ∙ was.as_long;
-          stand = subst (λ n. AreBlocksIn EXTENT_SECTORS left owners n leaves.left) (sym same) (written_volume owners before left number at written leaves.before leaves.left stand leaves.changes has);
+          stand = subst (λ n. AreBlocksIn EXTENT_SECTORS left owners n leaves.left) (sym same)
+              (written_volume owners before left number at written leaves.before leaves.left stand leaves.changes has);
         }
     by_name other other_entry other_used false e =
         let was : IsOfVolume EXTENT_SECTORS owners before volumes.volumes other other_entry = shown.used other other_entry other_used in
@@ -208,25 +234,29 @@ write_is_shown_by extents records owners before left volumes number entry at wri
           stand = other_volume owners before left number other at written was.blocks differ was.stand has;
         }
 
-    by_other : (other : List ℕ) (blocks : List Block) → blocks_of other after_it ≡ Some blocks → (b : Bool) → is_same_name other name ≡ b → HasRecord records other
+    by_other : (other : List ℕ) (blocks : List Block) → blocks_of other after_it ≡ Some blocks → (b : Bool) → is_same_name other name ≡ b
+        → HasRecord records other
     by_other other blocks found true e = record { number = number; entry = entry; used = used; named = sym (same_name_is other name e) }
     by_other other blocks found false e = shown.all other blocks (sym (stays other e) ∙ found)
 
 -- the table stands below all blocks
-table_stays : (version : ℕ) (before left : List Block) (owners : List (Option Owned)) (number at : ℕ) (written : List Block) → length left ≡ length before → HasWritten EXTENT_SECTORS owners number at written before left
+table_stays : (version : ℕ) (before left : List Block) (owners : List (Option Owned)) (number at : ℕ) (written : List Block) → length left ≡ length before
+    → HasWritten EXTENT_SECTORS owners number at written before left
     → take (table_length version) left ≡ take (table_length version) before
 table_stays version before left owners number at written as_long has =
     same_first (table_length version) before left as_long (λ k less.
     has.outside k (λ j extent below there same. absurd (omega (arith, less, table_short version, same))))
 
 -- a write leaves the version
-write_keeps_version : (extents : ℕ) (name : List ℕ) (at : ℕ) (written : List Block) (volumes : VolumeMap) → reply_to extents (Write name at written) volumes ≡ Done
+write_keeps_version : (extents : ℕ) (name : List ℕ) (at : ℕ) (written : List Block) (volumes : VolumeMap)
+    → reply_to extents (Write name at written) volumes ≡ Done
     → (volumes_after extents (Write name at written) volumes).version ≡ volumes.version
 write_keeps_version extents name at written volumes replied =
     ap (λ (map : VolumeMap). map.version)
     (changed_if_done extents (Write name at written) volumes (done_if_not_refused (refusal_of extents (Write name at written) volumes) Done replied))
 
-pub write_is_shown : (extents : ℕ) (before left : List Block) (volumes : VolumeMap) (number : ℕ) (entry : Record) (at : ℕ) (written : List Block) (shows : Shows extents before volumes)
+pub write_is_shown : (extents : ℕ) (before left : List Block) (volumes : VolumeMap) (number : ℕ) (entry : Record) (at : ℕ) (written : List Block)
+    (shows : Shows extents before volumes)
     → record_of shows.table.records number ≡ Some entry → All IsBlock written → reply_to extents (Write entry.name.bytes.items at written) volumes ≡ Done
     → length left ≡ length before → HasWritten EXTENT_SECTORS shows.table.extents number at written before left
     → Shows extents left (volumes_after extents (Write entry.name.bytes.items at written) volumes)
@@ -238,11 +268,13 @@ write_is_shown extents before left volumes number entry at written shows used wh
       of_version = shows.of_version ∙ sym (write_keeps_version extents entry.name.bytes.items at written volumes replied);
       spelled = table_stays table.version before left table.extents number at written as_long has ∙ shows.spelled;
       free_beyond = shows.free_beyond;
-      shown = write_is_shown_by extents table.records table.extents before left volumes number entry at written (distinct_names table.version table.records table.extents table.is_table) shows.shown used replied has;
+      shown = write_is_shown_by extents table.records table.extents before left volumes number entry at written
+          (distinct_names table.version table.records table.extents table.is_table) shows.shown used replied has;
     }
 
 -- one list, one map of volumes
-pub list_shows_one : TablesHaveOneSpelling → (extents : ℕ) (sectors : List Block) (first second : VolumeMap) → Shows extents sectors first → Shows extents sectors second → first ≡ second
+pub list_shows_one : TablesHaveOneSpelling → (extents : ℕ) (sectors : List Block) (first second : VolumeMap) → Shows extents sectors first
+    → Shows extents sectors second → first ≡ second
 list_shows_one spelling extents sectors first second one two =
     let same : one.table ≡ two.table = spelling sectors one.table two.table one.spelled two.spelled in
     let shown : AreShown EXTENT_SECTORS one.table.records one.table.extents sectors second.volumes =

@@ -1,5 +1,6 @@
 -- An event is not refused for two lost slots where one is lost at most.
-use Rattle.std.proofs.Common.{◌≡◌, ◌≢◌, ◌⊎◌, inl, inr, ℕ, ◌+◌, ◌<◌, Bool, true, false, List, length, take, Option, Some, None, refl, sym, ◌∙◌, ap, subst, arith, cond}
+use Rattle.std.proofs.Common.{◌≡◌, ◌≢◌, ◌⊎◌, inl, inr, ℕ, ◌+◌, ◌<◌, Bool, true, false, List, length, take, Option, Some, None, refl, sym, ◌∙◌, ap, subst, arith}
+use Rattle.std.proofs.Common.{cond}
 use Rattle.std.specs.Prelude.{IfSome, IsSome, not, slice_set, slice_index_or, nat_le}
 use Rattle.std.proofs.lemmas.Bool.{cases_eq, cases_lt}
 use Rattle.std.proofs.lemmas.List.{get_or-set_other, get_or-take, length-set, length-take-le}
@@ -72,7 +73,8 @@ some_is_none refusal is = cc
 -- a `fail` with another slot out is refused
 pub refused_beside : (table : Table) (slot other : ℕ) → IsOut table other → other ≢ slot → set_refusal no_devices (Fail slot) (set_of table) ≡ None → ⊥
 refused_beside table slot other out apart is = some_is_none WouldLose
-    (sym (ap (λ (b : Bool). cond (not b) (Some WouldLose) (cond (nat_le (length (set_of table).states) slot) (Some NotMissing) None)) (not_complete table slot other out apart)) ∙ is)
+    (sym (ap (λ (b : Bool). cond (not b) (Some WouldLose) (cond (nat_le (length (set_of table).states) slot) (Some NotMissing) None))
+    (not_complete table slot other out apart)) ∙ is)
 
 -- the slot that a `fail` gives up is the lost one
 given_up_lost : (table : Table) (slot : ℕ) (lost : Option Lost) → IsLostSlot table lost → (l : Lost) → lost ≡ Some l → IsOut table l.slot
@@ -111,7 +113,8 @@ lost_is_out table l is = record { of_set = of_set; out = out }
     out in_sync = complete_unless (λ slot out. out.out (subst (λ (k : ℕ). state_at table.states k ≡ InSync) (one slot out) in_sync))
 
 -- a slot that an event gives up is the lost one then
-given_up : (event : Event) (table : Table) (lost : Option Lost) (slot : ℕ) → IsLostSlot table lost → GivesUp event table slot → IsOfLost (lost_in event table lost) slot
+given_up : (event : Event) (table : Table) (lost : Option Lost) (slot : ℕ) → IsLostSlot table lost → GivesUp event table slot
+    → IsOfLost (lost_in event table lost) slot
 given_up (OnVolumes command) table lost slot is gives = absurd gives
 given_up (OnSet (Replace other)) table lost slot is gives = absurd gives
 given_up (OnSet (RebuildStep rows)) table lost slot is gives = absurd gives
@@ -142,7 +145,8 @@ gives_or_not (OnSet (Fail other)) table slot = elim (cases_eq slot other) [
     by_refusal same (Some refusal) is = inr (λ gives. some_is_none refusal (sym is ∙ gives.1))
 
 -- a slot that is out after an event is down, or the lost one
-out_then : (event : Event) (old new : StoreView) (reply : Reply) (lost : Option Lost) → GoesThrough (Unit {0}) event old new reply → IsLostSlot old.array.table lost
+out_then : (event : Event) (old new : StoreView) (reply : Reply) (lost : Option Lost) → GoesThrough (Unit {0}) event old new reply
+    → IsLostSlot old.array.table lost
     → IsTrueTo new.array.panel new.array.history → (slot : ℕ) → slot < slots_of old.array.table → IsSlotOut new.array slot
     → (is_down new.array.history slot ≡ true) ⊎ IsOfLost (lost_in event old.array.table lost) slot
 out_then event old new reply lost goes is true_to slot below (inl down) = inl (sym (true_to.down slot) ∙ down)
@@ -161,7 +165,8 @@ same_slots : (old new : Table) → new.geometry ≡ old.geometry → slots_of ne
 same_slots old new same = ap (λ (g : Geometry). g.members + 2) same
 
 -- so an event is not refused for two lost slots
-pub not_two : (event : Event) (old new : StoreView) (reply : Reply) (lost : Option Lost) → GoesThrough (Unit {0}) event old new reply → IsLostSlot old.array.table lost
+pub not_two : (event : Event) (old new : StoreView) (reply : Reply) (lost : Option Lost) → GoesThrough (Unit {0}) event old new reply
+    → IsLostSlot old.array.table lost
     → IsTrueTo new.array.panel new.array.history → IsSingleFailure (slots_of old.array.table) (lost_in event old.array.table lost) new.array.history
     → reply ≢ Refused TwoLost
 not_two event old new reply lost goes is true_to one refused =
@@ -174,7 +179,8 @@ not_two event old new reply lost goes is true_to one refused =
     (out_then event old new reply lost goes is true_to two.second second two.second_out)
 
 -- a slot that is out after the array was given up is down, or the lost one
-out_of_array : (honest : Type 0) (old new : ArrayView) (lost : Option Lost) → StaysButForFailures honest old new (Unit {0}) → IsLostSlot old.table lost → IsTrueTo new.panel new.history
+out_of_array : (honest : Type 0) (old new : ArrayView) (lost : Option Lost) → StaysButForFailures honest old new (Unit {0}) → IsLostSlot old.table lost
+    → IsTrueTo new.panel new.history
     → (slot : ℕ) → slot < slots_of old.table → IsSlotOut new slot → (is_down new.history slot ≡ true) ⊎ IsOfLost lost slot
 out_of_array honest old new lost stays is true_to slot below (inl down) = inl (sym (true_to.down slot) ∙ down)
 out_of_array honest old new lost stays is true_to slot below (inr out) = elim (state_in_sync (state_at old.table.states slot)) [
@@ -190,11 +196,13 @@ out_of_array honest old new lost stays is true_to slot below (inr out) = elim (s
 ]
 
 -- so opening is not refused for two lost slots
-pub opening_not_two : (honest : Type 0) (old new : ArrayView) (lost : Option Lost) → StaysButForFailures honest old new (Unit {0}) → new.table.geometry ≡ old.table.geometry → IsLostSlot old.table lost
+pub opening_not_two : (honest : Type 0) (old new : ArrayView) (lost : Option Lost) → StaysButForFailures honest old new (Unit {0})
+    → new.table.geometry ≡ old.table.geometry → IsLostSlot old.table lost
     → IsTrueTo new.panel new.history → IsSingleFailure (slots_of old.table) lost new.history → IsTwoLost new → ⊥
 opening_not_two honest old new lost stays same is true_to one two =
     let slots = same_slots old.table new.table same in
     let first = subst (λ (n : ℕ). two.first < n) slots two.first_of_set in
     let second = subst (λ (n : ℕ). two.second < n) slots two.second_of_set in
     not_two_lost (slots_of old.table) lost new.history one two.first two.second first second two.apart
-    (out_of_array honest old new lost stays is true_to two.first first two.first_out) (out_of_array honest old new lost stays is true_to two.second second two.second_out)
+    (out_of_array honest old new lost stays is true_to two.first first two.first_out)
+    (out_of_array honest old new lost stays is true_to two.second second two.second_out)

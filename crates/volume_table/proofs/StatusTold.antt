@@ -24,7 +24,8 @@ use Rattle.layout_map.specs.declared.sizes.TheConstants.{EXTENT_SECTORS, MOST_EX
 pub used_are_counted : (records : List (Option Record)) → used_records records ≡ count_by is_some records
 used_are_counted records = is_count_by used_records is_some refl one records
   where
-    one : (entry : Option Record) (entries : List (Option Record)) → used_records (entry ∷ entries) ≡ cond (is_some entry) (1 + used_records entries) (used_records entries)
+    one : (entry : Option Record) (entries : List (Option Record))
+        → used_records (entry ∷ entries) ≡ cond (is_some entry) (1 + used_records entries) (used_records entries)
     one None entries = refl
     one (Some used) entries = refl
 
@@ -47,8 +48,10 @@ status_by store rows extents free volumes version = record {
 }
 
 -- it is the status of a store that goes on, where the rows and the counts are right
-pub counts_told : (store : StoreView) (rows extents free volumes version : ℕ) → store.ended ≡ None → rows ≡ row_count store.array.table → extents ≡ extents_for_store store
-    → ((lost : Option Lost) (those : VolumeMap) → IsSettledOn store lost those → (free ≡ extents_for_store store - need EXTENT_SECTORS those.volumes) × (volumes ≡ length those.volumes) × (version ≡ those.version))
+pub counts_told : (store : StoreView) (rows extents free volumes version : ℕ) → store.ended ≡ None → rows ≡ row_count store.array.table
+    → extents ≡ extents_for_store store
+    → ((lost : Option Lost) (those : VolumeMap) → IsSettledOn store lost those → (free ≡ extents_for_store store - need EXTENT_SECTORS those.volumes)
+    × (volumes ≡ length those.volumes) × (version ≡ those.version))
     → TellsStatus store (Ok (status_by store rows extents free volumes version))
 counts_told store rows extents free volumes version goes of_rows of_extents counted = record {
   ended = λ refusal is. absurd (none-some refusal (sym goes ∙ is));
@@ -70,10 +73,13 @@ counts_told store rows extents free volumes version goes of_rows of_extents coun
 }
 
 -- so they are by the map of extents that it keeps
-pub status_told : (store : StoreView) (owners : List (Option Owned)) (rows extents free volumes version : ℕ) → store.ended ≡ None → AreKept (extents_for_store store) store.keeps owners
-    → rows ≡ row_count store.array.table → extents ≡ extents_for_store store → free ≡ free_of owners → volumes ≡ used_records store.keeps.records → version ≡ store.keeps.version
+pub status_told : (store : StoreView) (owners : List (Option Owned)) (rows extents free volumes version : ℕ) → store.ended ≡ None
+    → AreKept (extents_for_store store) store.keeps owners
+    → rows ≡ row_count store.array.table → extents ≡ extents_for_store store → free ≡ free_of owners → volumes ≡ used_records store.keeps.records
+    → version ≡ store.keeps.version
     → TellsStatus store (Ok (status_by store rows extents free volumes version))
-status_told store owners rows extents free volumes version goes kept of_rows of_extents of_free of_volumes of_version = counts_told store rows extents free volumes version goes of_rows of_extents counted
+status_told store owners rows extents free volumes version goes kept of_rows of_extents of_free of_volumes of_version =
+    counts_told store rows extents free volumes version goes of_rows of_extents counted
   where
     its_table : (lost : Option Lost) (those : VolumeMap) (rests : IsSettledOn store lost those) → rests.shown.table ≡ store.keeps
     its_table lost those rests = one_table rests.logical rests.shown.table store.keeps rests.shown.spelled rests.spelled
@@ -82,7 +88,8 @@ status_told store owners rows extents free volumes version goes kept of_rows of_
         → (free ≡ extents_for_store store - need EXTENT_SECTORS those.volumes) × (volumes ≡ length those.volumes) × (version ≡ those.version)
     counted lost those rests =
         let most : extents_for_store store ≤ MOST_EXTENTS = omega arith in
-        let all : free_of (take (extents_for_store store) rests.shown.table.extents) + need EXTENT_SECTORS those.volumes ≡ extents_for_store store = free_is_not_needed (extents_for_store store) rests.logical those rests.shown most in
+        let all : free_of (take (extents_for_store store) rests.shown.table.extents) + need EXTENT_SECTORS those.volumes ≡ extents_for_store store =
+        free_is_not_needed (extents_for_store store) rests.logical those rests.shown most in
         let same : free_of (take (extents_for_store store) rests.shown.table.extents) ≡ free =
         ap (λ (t : VolumeTable). free_of (take (extents_for_store store) t.extents)) (its_table lost those rests) ∙ sym (of_free ∙ ap free_of kept.same) in (
           omega (arith, all, same),

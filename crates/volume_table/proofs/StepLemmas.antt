@@ -1,10 +1,12 @@
 -- What each command keeps.
-use Rattle.std.proofs.Common.{◌≡◌, ◌≢◌, ℕ, zero, suc, ◌+◌, ◌-◌, ◌<◌, ◌≤◌, Bool, true, false, cond, not, ◌&&◌, ◌==◌, nat_lt, List, [], ◌∷◌, ◌++◌, length, take, drop, map, get_or, All, Contains, Option, Some, None, is_none, is_some, refl, sym, ap, ap₂, subst, ◌∙◌, arith}
+use Rattle.std.proofs.Common.{◌≡◌, ◌≢◌, ℕ, zero, suc, ◌+◌, ◌-◌, ◌<◌, ◌≤◌, Bool, true, false, cond, not, ◌&&◌, ◌==◌, nat_lt, List, [], ◌∷◌, ◌++◌, length, take}
+use Rattle.std.proofs.Common.{drop, map, get_or, All, Contains, Option, Some, None, is_none, is_some, refl, sym, ap, ap₂, subst, ◌∙◌, arith}
 use Rattle.std.specs.Prelude.{unwrap_or, IsTrue}
 use Rattle.std.specs.List.{list_all}
 use Rattle.std.specs.List.Sorted.{IsStrictlySortedBy}
 use Rattle.std.proofs.lemmas.Bool.{true≢false, false≢true, and_from, and_parts, not-false, or_parts, eqb-false, ltb-false, ltb-true, leb-false, le-ltb, lt-ltb}
-use Rattle.std.proofs.lemmas.List.{length-replicate, length-take, length-drop, length-append, take_at, drop_at, drop-append-le, get_or-drop, get_or-take, get_or_append_left, get_or-append-add}
+use Rattle.std.proofs.lemmas.List.{length-replicate, length-take, length-drop, length-append, take_at, drop_at, drop-append-le, get_or-drop, get_or-take}
+use Rattle.std.proofs.lemmas.List.{get_or_append_left, get_or-append-add}
 use Rattle.std.proofs.lemmas.List.Elements.{All-replicate, All-append, All-take, All-drop, All-filter, All-weaker}
 use Rattle.std.proofs.lemmas.Option.{none-some, same_Some}
 use Rattle.sector_model.specs.declared.refusal.Refusal.{Refusal}
@@ -14,10 +16,15 @@ use Rattle.extents.specs.VolumeTables.{extents_for}
 use Rattle.extents.specs.Names.{is_letter, is_name_byte}
 use Rattle.extents.specs.Versions.{most_name_bytes, most_volumes}
 use Rattle.volume_table.specs.Volumes.{Block, IsBlock, zero_block, Volume, VolumeList, VolumeMap, names, blocks_of, need, without, IsVolume, AreVolumes}
-use Rattle.volume_table.specs.VolumeStep.{Command, Create, Extend, Remove, Read, Write, Rename, Names, Upgrade, Reply, Done, Blocks, Volumes, Refused, HasBlocks, is_bad_size, is_bad_count, checks_within, first_refusal, refusal_of, or_refused, unless_refused, reply_to, volumes_after, changed, done, version_after, answer, zero_blocks, blocks_in, overwritten}
+use Rattle.volume_table.specs.VolumeStep.{Command, Create, Extend, Remove, Read, Write, Rename, Names, Upgrade, Reply, Done, Blocks, Volumes, Refused}
+use Rattle.volume_table.specs.VolumeStep.{HasBlocks, is_bad_size, is_bad_count, checks_within, first_refusal, refusal_of, or_refused, unless_refused, reply_to}
+use Rattle.volume_table.specs.VolumeStep.{volumes_after, changed, done, version_after, answer, zero_blocks, blocks_in, overwritten}
 use Rattle.volume_table.specs.Law.{names_of, IsWritten, LeavesRenamed, LeavesWritten, IsListed, HasLength, ListsExactly}
 use Rattle.volume_table.proofs.TableSizes.{longer_names, more_volumes}
-use Rattle.volume_table.proofs.VolumeLemmas.{Below, Rising, none_below, other_name, same_name_itself, All-with_volume, rising_with_volume, rising_without, length-with_new, need-with_new, length-with_other, need-with_other, found_with_volume, others_with_volume, found_has, length-without, need-without, gone_without, length-without_one, need-without_one, others_without, same_name_is}
+use Rattle.volume_table.proofs.VolumeLemmas.{Below, Rising, none_below, other_name, same_name_itself, All-with_volume, rising_with_volume, rising_without}
+use Rattle.volume_table.proofs.VolumeLemmas.{length-with_new, need-with_new, length-with_other, need-with_other, found_with_volume, others_with_volume}
+use Rattle.volume_table.proofs.VolumeLemmas.{found_has, length-without, need-without, gone_without, length-without_one, need-without_one, others_without}
+use Rattle.volume_table.proofs.VolumeLemmas.{same_name_is}
 use Rattle.extents.specs.declared.record.TheConstants.{MOST_BLOCKS}
 use Rattle.layout_map.specs.declared.sizes.TheConstants.{EXTENT_SECTORS}
 
@@ -105,7 +112,8 @@ pub record IsWithin (old : List ℕ) (at count : ℕ) (volumes : VolumeList) : T
   pub good_count : is_bad_count count ≡ false
   pub fits : at + count ≤ length (blocks_in old volumes)
 
-pub is_within : (name : List ℕ) (at count : ℕ) (volumes : VolumeList) → first_refusal (checks_within name at count volumes) ≡ None → IsWithin name at count volumes
+pub is_within : (name : List ℕ) (at count : ℕ) (volumes : VolumeList) → first_refusal (checks_within name at count volumes) ≡ None
+    → IsWithin name at count volumes
 is_within name at count volumes none =
     let one = none_applies _ _ _ none in
     let two = none_applies _ _ _ one.1 in
@@ -138,27 +146,38 @@ may_be_renamed extents old new volumes none =
     }
 
 -- as many blocks after a write
-pub length-overwritten : (blocks : List Block) (at : ℕ) (written : List Block) → at + length written ≤ length blocks → length (overwritten blocks at written) ≡ length blocks
+pub length-overwritten : (blocks : List Block) (at : ℕ) (written : List Block) → at + length written ≤ length blocks
+    → length (overwritten blocks at written) ≡ length blocks
 length-overwritten blocks at written within =
     let beyond = drop (at + length written) blocks in
-    omega (arith, length-append (take at blocks ++ written) beyond, length-append (take at blocks) written, length-take at blocks, length-drop (at + length written) blocks)
+    omega (
+      arith,
+      length-append (take at blocks ++ written) beyond,
+      length-append (take at blocks) written,
+      length-take at blocks,
+      length-drop (at + length written) blocks,
+    )
 
-overwritten_whole : (blocks : List Block) (at : ℕ) (written : List Block) → All IsBlock blocks → All IsBlock written → All IsBlock (overwritten blocks at written)
+overwritten_whole : (blocks : List Block) (at : ℕ) (written : List Block) → All IsBlock blocks → All IsBlock written
+    → All IsBlock (overwritten blocks at written)
 overwritten_whole blocks at written whole new_whole =
     All-append IsBlock (take at blocks ++ written) (drop (at + length written) blocks)
     (All-append IsBlock (take at blocks) written (All-take IsBlock at blocks whole) new_whole) (All-drop IsBlock (at + length written) blocks whole)
 
 -- what was written stands where it was written
-pub written_again : (blocks : List Block) (at : ℕ) (written : List Block) → at + length written ≤ length blocks → take (length written) (drop at (overwritten blocks at written)) ≡ written
+pub written_again : (blocks : List Block) (at : ℕ) (written : List Block) → at + length written ≤ length blocks
+    → take (length written) (drop at (overwritten blocks at written)) ≡ written
 written_again blocks at written within =
     let before = take at blocks in
     let beyond = drop (at + length written) blocks in
     let long : length before ≡ at = omega (arith, length-take at blocks) in
-    ap (take (length written)) (drop-append-le at (before ++ written) beyond (omega (arith, length-append before written, long)) ∙ ap (λ rest. rest ++ beyond) (drop_at before written at long))
+    ap (take (length written)) (drop-append-le at (before ++ written) beyond (omega (arith, length-append before written, long))
+    ∙ ap (λ rest. rest ++ beyond) (drop_at before written at long))
     ∙ take_at written beyond (length written) refl
 
 -- block by block
-pub is_written : (blocks : List Block) (at : ℕ) (written : List Block) → at + length written ≤ length blocks → IsWritten blocks (overwritten blocks at written) at written
+pub is_written : (blocks : List Block) (at : ℕ) (written : List Block) → at + length written ≤ length blocks
+    → IsWritten blocks (overwritten blocks at written) at written
 is_written blocks at written within =
     let before = take at blocks in
     let beyond = drop (at + length written) blocks in
@@ -167,19 +186,29 @@ is_written blocks at written within =
     let front_long : length front ≡ at + length written = length-append before written ∙ ap (λ n. n + length written) long in
     record {
       as_long = length-overwritten blocks at written within;
-      inside = λ k d below. get_or_append_left front beyond d (at + k) (omega (arith, front_long)) ∙ ap (λ n. get_or front (n + k) d) (sym long) ∙ get_or-append-add before written k d;
-      below = λ k d below. get_or_append_left front beyond d k (omega (arith, front_long)) ∙ get_or_append_left before written d k (omega (arith, long)) ∙ get_or-take at blocks k d below;
+      inside = λ k d below. get_or_append_left front beyond d (at + k) (omega (arith, front_long)) ∙ ap (λ n. get_or front (n + k) d) (sym long)
+          ∙ get_or-append-add before written k d;
+      below = λ k d below. get_or_append_left front beyond d k (omega (arith, front_long)) ∙ get_or_append_left before written d k (omega (arith, long))
+          ∙ get_or-take at blocks k d below;
       above = λ k d below.
           let past : length front + (k - length front) ≡ k = omega (arith, front_long) in
-          ap (λ n. get_or (front ++ beyond) n d) (sym past) ∙ get_or-append-add front beyond (k - length front) d ∙ get_or-drop (at + length written) blocks (k - length front) d
+          ap (λ n. get_or (front ++ beyond) n d) (sym past) ∙ get_or-append-add front beyond (k - length front) d
+          ∙ get_or-drop (at + length written) blocks (k - length front) d
           ∙ ap (λ n. get_or blocks n d) (omega (arith, front_long));
     }
 
-create_keeps : (extents : ℕ) (name : List ℕ) (count : ℕ) (volumes : VolumeMap) → MayCreate extents volumes.version name count volumes.volumes → AreVolumes extents volumes → AreVolumes extents (done (Create name count) volumes)
+create_keeps : (extents : ℕ) (name : List ℕ) (count : ℕ) (volumes : VolumeMap) → MayCreate extents volumes.version name count volumes.volumes
+    → AreVolumes extents volumes → AreVolumes extents (done (Create name count) volumes)
 create_keeps extents name count volumes may are =
     let new : Volume = record { name = name; blocks = zero_blocks count } in
     let long : length (zero_blocks count) ≡ count = length-replicate count zero_block in
-    let one : IsVolume volumes.version new = record { good = may.good; least = omega (arith, long, may.least); most = omega (arith, long, may.most); whole = zero_blocks_whole count } in
+    let one : IsVolume volumes.version new = record {
+      good = may.good;
+      least = omega (arith, long, may.least);
+      most = omega (arith, long, may.most);
+      whole =
+          zero_blocks_whole count;
+    } in
     let same : extents_for EXTENT_SECTORS (length (zero_blocks count)) ≡ extents_for EXTENT_SECTORS count = ap (extents_for EXTENT_SECTORS) long in
     record {
       is_version = are.is_version;
@@ -189,13 +218,22 @@ create_keeps extents name count volumes may are =
       within = omega (arith, need-with_new new volumes.volumes are.rising may.no_such, same, may.fits);
     }
 
-extend_keeps : (extents : ℕ) (name : List ℕ) (growth : ℕ) (volumes : VolumeMap) → MayExtend extents name growth volumes.volumes → AreVolumes extents volumes → AreVolumes extents (done (Extend name growth) volumes)
+extend_keeps : (extents : ℕ) (name : List ℕ) (growth : ℕ) (volumes : VolumeMap) → MayExtend extents name growth volumes.volumes → AreVolumes extents volumes
+    → AreVolumes extents (done (Extend name growth) volumes)
 extend_keeps extents name growth volumes may are =
     let old = blocks_in name volumes.volumes in
     let new : Volume = record { name = name; blocks = old ++ zero_blocks growth } in
-    let was : IsVolume volumes.version (record { name = name; blocks = old }) = found_has (IsVolume volumes.version) name volumes.volumes old are.each may.found in
-    let long : length (old ++ zero_blocks growth) ≡ length old + growth = length-append old (zero_blocks growth) ∙ ap (λ n. length old + n) (length-replicate growth zero_block) in
-    let one : IsVolume volumes.version new = record { good = was.good; least = omega (arith, long, may.grows); most = omega (arith, long, may.most); whole = All-append IsBlock old (zero_blocks growth) was.whole (zero_blocks_whole growth) } in
+    let was : IsVolume volumes.version (record { name = name; blocks = old }) =
+    found_has (IsVolume volumes.version) name volumes.volumes old are.each may.found in
+    let long : length (old ++ zero_blocks growth) ≡ length old + growth = length-append old (zero_blocks growth)
+    ∙ ap (λ n. length old + n) (length-replicate growth zero_block) in
+    let one : IsVolume volumes.version new = record {
+      good = was.good;
+      least = omega (arith, long, may.grows);
+      most = omega (arith, long, may.most);
+      whole =
+          All-append IsBlock old (zero_blocks growth) was.whole (zero_blocks_whole growth);
+    } in
     record {
       is_version = are.is_version;
       few = omega (arith, length-with_other new volumes.volumes old are.rising may.found, are.few);
@@ -214,15 +252,24 @@ remove_keeps extents name volumes are =
       within = omega (arith, need-without name volumes.volumes, are.within);
     }
 
-write_keeps : (extents : ℕ) (name : List ℕ) (at : ℕ) (written : List Block) (volumes : VolumeMap) → All IsBlock written → IsWithin name at (length written) volumes.volumes → AreVolumes extents volumes
+write_keeps : (extents : ℕ) (name : List ℕ) (at : ℕ) (written : List Block) (volumes : VolumeMap) → All IsBlock written
+    → IsWithin name at (length written) volumes.volumes → AreVolumes extents volumes
     → AreVolumes extents (done (Write name at written) volumes)
 write_keeps extents name at written volumes whole within are =
     let old = blocks_in name volumes.volumes in
     let new : Volume = record { name = name; blocks = overwritten old at written } in
-    let was : IsVolume volumes.version (record { name = name; blocks = old }) = found_has (IsVolume volumes.version) name volumes.volumes old are.each within.found in
+    let was : IsVolume volumes.version (record { name = name; blocks = old }) =
+    found_has (IsVolume volumes.version) name volumes.volumes old are.each within.found in
     let long : length (overwritten old at written) ≡ length old = length-overwritten old at written within.fits in
-    let one : IsVolume volumes.version new = record { good = was.good; least = omega (arith, long, was.least); most = omega (arith, long, was.most); whole = overwritten_whole old at written was.whole whole } in
-    let same : extents_for EXTENT_SECTORS (length (overwritten old at written)) ≡ extents_for EXTENT_SECTORS (length old) = ap (extents_for EXTENT_SECTORS) long in
+    let one : IsVolume volumes.version new = record {
+      good = was.good;
+      least = omega (arith, long, was.least);
+      most = omega (arith, long, was.most);
+      whole =
+          overwritten_whole old at written was.whole whole;
+    } in
+    let same : extents_for EXTENT_SECTORS (length (overwritten old at written)) ≡ extents_for EXTENT_SECTORS (length old) =
+    ap (extents_for EXTENT_SECTORS) long in
     record {
       is_version = are.is_version;
       few = omega (arith, length-with_other new volumes.volumes old are.rising within.found, are.few);
@@ -231,19 +278,22 @@ write_keeps extents name at written volumes whole within are =
       within = omega (arith, need-with_other new volumes.volumes old are.rising within.found, same, are.within);
     }
 
-rename_keeps : (extents : ℕ) (old new : List ℕ) (volumes : VolumeMap) → MayBeRenamed volumes.version old new volumes.volumes → AreVolumes extents volumes → AreVolumes extents (done (Rename old new) volumes)
+rename_keeps : (extents : ℕ) (old new : List ℕ) (volumes : VolumeMap) → MayBeRenamed volumes.version old new volumes.volumes → AreVolumes extents volumes
+    → AreVolumes extents (done (Rename old new) volumes)
 rename_keeps extents old new volumes may are =
     let blocks = blocks_in old volumes.volumes in
     let others = without old volumes.volumes in
     let named : Volume = record { name = new; blocks = blocks } in
-    let was : IsVolume volumes.version (record { name = old; blocks = blocks }) = found_has (IsVolume volumes.version) old volumes.volumes blocks are.each may.found in
+    let was : IsVolume volumes.version (record { name = old; blocks = blocks }) =
+    found_has (IsVolume volumes.version) old volumes.volumes blocks are.each may.found in
     let one : IsVolume volumes.version named = record { good = may.good; least = was.least; most = was.most; whole = was.whole } in
     let rising = rising_without old volumes.volumes are.rising in
     let no_such : blocks_of new others ≡ None = others_without new old volumes.volumes may.apart ∙ may.no_such in
     record {
       is_version = are.is_version;
       few = omega (arith, length-with_new named others rising no_such, length-without_one old volumes.volumes blocks are.rising may.found, are.few);
-      each = All-with_volume (IsVolume volumes.version) named others one (All-filter (λ volume. not (is_same_name old volume.name)) (IsVolume volumes.version) volumes.volumes are.each);
+      each = All-with_volume (IsVolume volumes.version) named others one
+          (All-filter (λ volume. not (is_same_name old volume.name)) (IsVolume volumes.version) volumes.volumes are.each);
       rising = rising_with_volume named others rising;
       within = omega (arith, need-with_new named others rising no_such, need-without_one old volumes.volumes blocks are.rising may.found, are.within);
     }
@@ -270,17 +320,20 @@ upgrade_keeps extents volumes are =
     }
 
 -- a command that is not refused keeps the limits
-changed_keeps : (extents : ℕ) (command : Command) (volumes : VolumeMap) → HasBlocks command → AreVolumes extents volumes → refusal_of extents command volumes ≡ None → AreVolumes extents (done command volumes)
+changed_keeps : (extents : ℕ) (command : Command) (volumes : VolumeMap) → HasBlocks command → AreVolumes extents volumes
+    → refusal_of extents command volumes ≡ None → AreVolumes extents (done command volumes)
 changed_keeps extents (Create name count) volumes has are none = create_keeps extents name count volumes (may_create extents name count volumes none) are
 changed_keeps extents (Extend name growth) volumes has are none = extend_keeps extents name growth volumes (may_extend extents name growth volumes none) are
 changed_keeps extents (Remove name) volumes has are none = remove_keeps extents name volumes are
 changed_keeps extents (Read name at count) volumes has are none = are
-changed_keeps extents (Write name at written) volumes has are none = write_keeps extents name at written volumes has (is_within name at (length written) volumes.volumes none) are
+changed_keeps extents (Write name at written) volumes has are none =
+    write_keeps extents name at written volumes has (is_within name at (length written) volumes.volumes none) are
 changed_keeps extents (Rename old new) volumes has are none = rename_keeps extents old new volumes (may_be_renamed extents old new volumes none) are
 changed_keeps extents Names volumes has are none = are
 changed_keeps extents Upgrade volumes has are none = upgrade_keeps extents volumes are
 
-pub step_keeps : (extents : ℕ) (command : Command) (volumes : VolumeMap) → HasBlocks command → AreVolumes extents volumes → AreVolumes extents (volumes_after extents command volumes)
+pub step_keeps : (extents : ℕ) (command : Command) (volumes : VolumeMap) → HasBlocks command → AreVolumes extents volumes
+    → AreVolumes extents (volumes_after extents command volumes)
 step_keeps extents command volumes has are = by_case (refusal_of extents command volumes) refl
   where
     by_case : (o : Option Refusal) → refusal_of extents command volumes ≡ o → AreVolumes extents (unless_refused o (done command volumes) volumes)
@@ -288,11 +341,13 @@ step_keeps extents command volumes has are = by_case (refusal_of extents command
     by_case (Some refusal) e = are
 
 -- what is not refused is done
-pub changed_if_done : (extents : ℕ) (command : Command) (volumes : VolumeMap) → refusal_of extents command volumes ≡ None → volumes_after extents command volumes ≡ done command volumes
+pub changed_if_done : (extents : ℕ) (command : Command) (volumes : VolumeMap) → refusal_of extents command volumes ≡ None
+    → volumes_after extents command volumes ≡ done command volumes
 changed_if_done extents command volumes none = ap (λ o. unless_refused o (done command volumes) volumes) none
 
 -- and leaves this list of volumes
-pub list_if_done : (extents : ℕ) (command : Command) (volumes : VolumeMap) → refusal_of extents command volumes ≡ None → (volumes_after extents command volumes).volumes ≡ changed command volumes.volumes
+pub list_if_done : (extents : ℕ) (command : Command) (volumes : VolumeMap) → refusal_of extents command volumes ≡ None
+    → (volumes_after extents command volumes).volumes ≡ changed command volumes.volumes
 list_if_done extents command volumes none = ap (λ (left : VolumeMap). left.volumes) (changed_if_done extents command volumes none)
 
 -- no answer is a refusal
@@ -306,7 +361,8 @@ no_refusal_answered (Rename old new) volumes refusal e = absurd (grind arith)
 no_refusal_answered Names volumes refusal e = absurd (grind arith)
 no_refusal_answered Upgrade volumes refusal e = absurd (grind arith)
 
-pub refused_changes_nothing : (extents : ℕ) (command : Command) (volumes : VolumeMap) (refusal : Refusal) → reply_to extents command volumes ≡ Refused refusal → volumes_after extents command volumes ≡ volumes
+pub refused_changes_nothing : (extents : ℕ) (command : Command) (volumes : VolumeMap) (refusal : Refusal) → reply_to extents command volumes ≡ Refused refusal
+    → volumes_after extents command volumes ≡ volumes
 refused_changes_nothing extents command volumes refusal refused = by_case (refusal_of extents command volumes) refused
   where
     by_case : (o : Option Refusal) → or_refused o (answer command volumes.volumes) ≡ Refused refusal → unless_refused o (done command volumes) volumes ≡ volumes
@@ -332,7 +388,8 @@ version_stays_in (Rename old new) version other = refl
 version_stays_in Names version other = refl
 version_stays_in Upgrade version other = absurd (other refl)
 
-pub version_stays : (extents : ℕ) (command : Command) (volumes : VolumeMap) → command ≢ Upgrade → (volumes_after extents command volumes).version ≡ volumes.version
+pub version_stays : (extents : ℕ) (command : Command) (volumes : VolumeMap) → command ≢ Upgrade
+    → (volumes_after extents command volumes).version ≡ volumes.version
 version_stays extents command volumes other = by_case (refusal_of extents command volumes)
   where
     by_case : (o : Option Refusal) → (unless_refused o (done command volumes) volumes).version ≡ volumes.version
@@ -351,19 +408,24 @@ not_the_one name other apart (zero, below, is) = apart (sym is)
 not_the_one name other apart (suc k, below, is) = absurd (omega (arith, below))
 
 -- others stay
-changed_leaves : (command : Command) (volumes : VolumeList) (other : List ℕ) → ¬ Contains (names_of command) other → blocks_of other (changed command volumes) ≡ blocks_of other volumes
-changed_leaves (Create name count) volumes other none = others_with_volume other (record { name = name; blocks = zero_blocks count }) volumes (not_first name [] other none)
-changed_leaves (Extend name growth) volumes other none = others_with_volume other (record { name = name; blocks = blocks_in name volumes ++ zero_blocks growth }) volumes (not_first name [] other none)
+changed_leaves : (command : Command) (volumes : VolumeList) (other : List ℕ) → ¬ Contains (names_of command) other
+    → blocks_of other (changed command volumes) ≡ blocks_of other volumes
+changed_leaves (Create name count) volumes other none =
+    others_with_volume other (record { name = name; blocks = zero_blocks count }) volumes (not_first name [] other none)
+changed_leaves (Extend name growth) volumes other none =
+    others_with_volume other (record { name = name; blocks = blocks_in name volumes ++ zero_blocks growth }) volumes (not_first name [] other none)
 changed_leaves (Remove name) volumes other none = others_without other name volumes (not_first name [] other none)
 changed_leaves (Read name at count) volumes other none = refl
-changed_leaves (Write name at written) volumes other none = others_with_volume other (record { name = name; blocks = overwritten (blocks_in name volumes) at written }) volumes (not_first name [] other none)
+changed_leaves (Write name at written) volumes other none =
+    others_with_volume other (record { name = name; blocks = overwritten (blocks_in name volumes) at written }) volumes (not_first name [] other none)
 changed_leaves (Rename old new) volumes other none =
     others_with_volume other (record { name = new; blocks = blocks_in old volumes }) (without old volumes) (not_second old new [] other none)
     ∙ others_without other old volumes (not_first old (new ∷ []) other none)
 changed_leaves Names volumes other none = refl
 changed_leaves Upgrade volumes other none = refl
 
-pub others_stay : (extents : ℕ) (command : Command) (volumes : VolumeMap) (other : List ℕ) → ¬ Contains (names_of command) other → blocks_of other (volumes_after extents command volumes).volumes ≡ blocks_of other volumes.volumes
+pub others_stay : (extents : ℕ) (command : Command) (volumes : VolumeMap) (other : List ℕ) → ¬ Contains (names_of command) other
+    → blocks_of other (volumes_after extents command volumes).volumes ≡ blocks_of other volumes.volumes
 others_stay extents command volumes other none = by_case (refusal_of extents command volumes)
   where
     by_case : (o : Option Refusal) → blocks_of other (unless_refused o (done command volumes) volumes).volumes ≡ blocks_of other volumes.volumes
@@ -373,10 +435,12 @@ others_stay extents command volumes other none = by_case (refusal_of extents com
 -- the reply to a read, by the blocks that the volume has
 read_reply : ℕ → ℕ → Option (List Block) → Reply
 read_reply at count blocks =
-    or_refused (first_refusal ((is_none blocks, NoVolume) ∷ (is_bad_count count, BadCount) ∷ (nat_lt (length (unwrap_or blocks [])) (at + count), OutOfRange) ∷ []))
+    or_refused (first_refusal ((is_none blocks, NoVolume) ∷ (is_bad_count count, BadCount) ∷ (nat_lt (length (unwrap_or blocks [])) (at + count), OutOfRange)
+    ∷ []))
     (Blocks (take count (drop at (unwrap_or blocks []))))
 
-read_found : (extents : ℕ) (name : List ℕ) (at count : ℕ) (volumes : VolumeMap) (blocks : List Block) → blocks_of name volumes.volumes ≡ Some blocks → is_bad_count count ≡ false → at + count ≤ length blocks
+read_found : (extents : ℕ) (name : List ℕ) (at count : ℕ) (volumes : VolumeMap) (blocks : List Block) → blocks_of name volumes.volumes ≡ Some blocks
+    → is_bad_count count ≡ false → at + count ≤ length blocks
     → reply_to extents (Read name at count) volumes ≡ Blocks (take count (drop at blocks))
 unfolding read_reply
 read_found extents name at count volumes blocks found good within =
@@ -385,30 +449,35 @@ read_found extents name at count volumes blocks found good within =
     ltb_not_below : (a b : ℕ) → b ≤ a → nat_lt a b ≡ false
     ltb_not_below a b h = le-ltb a b h
 
-    by_case : (bad past : Bool) → bad ≡ false → past ≡ false → or_refused (cond bad (Some BadCount) (cond past (Some OutOfRange) None)) (Blocks (take count (drop at blocks))) ≡ Blocks (take count (drop at blocks))
+    by_case : (bad past : Bool) → bad ≡ false → past ≡ false
+        → or_refused (cond bad (Some BadCount) (cond past (Some OutOfRange) None)) (Blocks (take count (drop at blocks))) ≡ Blocks (take count (drop at blocks))
     by_case true past b p = absurd (true≢false b)
     by_case false true b p = absurd (true≢false p)
     by_case false false b p = refl
 
 -- what a write leaves of its volume
-found_after_write : (extents : ℕ) (name : List ℕ) (at : ℕ) (written : List Block) (volumes : VolumeMap) → refusal_of extents (Write name at written) volumes ≡ None
+found_after_write : (extents : ℕ) (name : List ℕ) (at : ℕ) (written : List Block) (volumes : VolumeMap)
+    → refusal_of extents (Write name at written) volumes ≡ None
     → blocks_of name (volumes_after extents (Write name at written) volumes).volumes ≡ Some (overwritten (blocks_in name volumes.volumes) at written)
 found_after_write extents name at written volumes none =
     ap (blocks_of name) (list_if_done extents (Write name at written) volumes none)
     ∙ found_with_volume (record { name = name; blocks = overwritten (blocks_in name volumes.volumes) at written }) volumes.volumes
 
-pub written_is_read : (extents : ℕ) (name : List ℕ) (at : ℕ) (written : List Block) (volumes : VolumeMap) → reply_to extents (Write name at written) volumes ≡ Done
+pub written_is_read : (extents : ℕ) (name : List ℕ) (at : ℕ) (written : List Block) (volumes : VolumeMap)
+    → reply_to extents (Write name at written) volumes ≡ Done
     → reply_to extents (Read name at (length written)) (volumes_after extents (Write name at written) volumes) ≡ Blocks written
 written_is_read extents name at written volumes done =
     let none = done_if_not_refused (refusal_of extents (Write name at written) volumes) Done done in
     let within = is_within name at (length written) volumes.volumes none in
     let old = blocks_in name volumes.volumes in
     let new = overwritten old at written in
-    read_found extents name at (length written) (volumes_after extents (Write name at written) volumes) new (found_after_write extents name at written volumes none) within.good_count
+    read_found extents name at (length written) (volumes_after extents (Write name at written) volumes) new
+    (found_after_write extents name at written volumes none) within.good_count
     (omega (arith, length-overwritten old at written within.fits, within.fits))
     ∙ ap Blocks (written_again old at written within.fits)
 
-pub write_changes_its_blocks : (extents : ℕ) (name : List ℕ) (at : ℕ) (written : List Block) (volumes : VolumeMap) → reply_to extents (Write name at written) volumes ≡ Done → LeavesWritten extents name at written volumes
+pub write_changes_its_blocks : (extents : ℕ) (name : List ℕ) (at : ℕ) (written : List Block) (volumes : VolumeMap)
+    → reply_to extents (Write name at written) volumes ≡ Done → LeavesWritten extents name at written volumes
 write_changes_its_blocks extents name at written volumes done =
     let none = done_if_not_refused (refusal_of extents (Write name at written) volumes) Done done in
     let within = is_within name at (length written) volumes.volumes none in
@@ -425,10 +494,14 @@ pub created_is_zero : (extents : ℕ) (name : List ℕ) (count : ℕ) (volumes :
     → (blocks_of name volumes.volumes ≡ None) × (blocks_of name (volumes_after extents (Create name count) volumes).volumes ≡ Some (zero_blocks count))
 created_is_zero extents name count volumes done =
     let none = done_if_not_refused (refusal_of extents (Create name count) volumes) Done done in
-    let may = may_create extents name count volumes none in
-    (may.no_such, ap (blocks_of name) (list_if_done extents (Create name count) volumes none) ∙ found_with_volume (record { name = name; blocks = zero_blocks count }) volumes.volumes)
+    let may = may_create extents name count volumes none in (
+      may.no_such,
+      ap (blocks_of name) (list_if_done extents (Create name count) volumes none)
+          ∙ found_with_volume (record { name = name; blocks = zero_blocks count }) volumes.volumes,
+    )
 
-pub extended_has_zeros : (extents : ℕ) (name : List ℕ) (growth : ℕ) (volumes : VolumeMap) (before : List Block) → reply_to extents (Extend name growth) volumes ≡ Done → blocks_of name volumes.volumes ≡ Some before
+pub extended_has_zeros : (extents : ℕ) (name : List ℕ) (growth : ℕ) (volumes : VolumeMap) (before : List Block)
+    → reply_to extents (Extend name growth) volumes ≡ Done → blocks_of name volumes.volumes ≡ Some before
     → blocks_of name (volumes_after extents (Extend name growth) volumes).volumes ≡ Some (before ++ zero_blocks growth)
 extended_has_zeros extents name growth volumes before done found =
     let none = done_if_not_refused (refusal_of extents (Extend name growth) volumes) Done done in
@@ -436,12 +509,14 @@ extended_has_zeros extents name growth volumes before done found =
     ∙ found_with_volume (record { name = name; blocks = blocks_in name volumes.volumes ++ zero_blocks growth }) volumes.volumes
     ∙ ap (λ o. Some (unwrap_or o [] ++ zero_blocks growth)) found
 
-pub removed_is_gone : (extents : ℕ) (name : List ℕ) (volumes : VolumeMap) → reply_to extents (Remove name) volumes ≡ Done → blocks_of name (volumes_after extents (Remove name) volumes).volumes ≡ None
+pub removed_is_gone : (extents : ℕ) (name : List ℕ) (volumes : VolumeMap) → reply_to extents (Remove name) volumes ≡ Done
+    → blocks_of name (volumes_after extents (Remove name) volumes).volumes ≡ None
 removed_is_gone extents name volumes done =
     let none = done_if_not_refused (refusal_of extents (Remove name) volumes) Done done in
     ap (blocks_of name) (list_if_done extents (Remove name) volumes none) ∙ gone_without name volumes.volumes
 
-pub renamed_has_blocks : (extents : ℕ) (old new : List ℕ) (volumes : VolumeMap) → reply_to extents (Rename old new) volumes ≡ Done → LeavesRenamed extents old new volumes
+pub renamed_has_blocks : (extents : ℕ) (old new : List ℕ) (volumes : VolumeMap) → reply_to extents (Rename old new) volumes ≡ Done
+    → LeavesRenamed extents old new volumes
 renamed_has_blocks extents old new volumes done =
     let none = done_if_not_refused (refusal_of extents (Rename old new) volumes) Done done in
     let may = may_be_renamed extents old new volumes none in
@@ -466,18 +541,31 @@ unfolding shown
 shown_has name blocks [] found = absurd (none-some blocks found)
 shown_has name blocks (volume ∷ volumes) found = by_case (shown_has name blocks volumes) (is_same_name name volume.name) refl found
   where
-    by_case : (blocks_of name volumes ≡ Some blocks → Contains (shown volumes) (name, length blocks)) → (b : Bool) → is_same_name name volume.name ≡ b → cond b (Some volume.blocks) (blocks_of name volumes) ≡ Some blocks
+    by_case : (blocks_of name volumes ≡ Some blocks → Contains (shown volumes) (name, length blocks)) → (b : Bool) → is_same_name name volume.name ≡ b
+        → cond b (Some volume.blocks) (blocks_of name volumes) ≡ Some blocks
         → Contains (shown (volume ∷ volumes)) (name, length blocks)
     by_case rec true e h = (0, omega arith, ap₂ (λ n others. (n, length others)) (sym (same_name_is name volume.name e)) (same_Some volume.blocks blocks h))
     by_case rec false e h = let there = rec h in (suc there.0, omega (arith, there.1), there.2)
 
-pub found_is_listed : (extents : ℕ) (name : List ℕ) (blocks : List Block) (volumes : VolumeMap) → blocks_of name volumes.volumes ≡ Some blocks → IsListed extents name (length blocks) volumes
+pub found_is_listed : (extents : ℕ) (name : List ℕ) (blocks : List Block) (volumes : VolumeMap) → blocks_of name volumes.volumes ≡ Some blocks
+    → IsListed extents name (length blocks) volumes
 unfolding shown
-found_is_listed extents name blocks volumes found = record { listed = shown volumes.volumes; answered = refl; shown = shown_has name blocks volumes.volumes found }
+found_is_listed extents name blocks volumes found = record {
+  listed = shown volumes.volumes;
+  answered = refl;
+  shown =
+      shown_has name blocks volumes.volumes found;
+}
 
 -- a volume after another has another name
-beyond : (name : List ℕ) (count : ℕ) (volume : Volume) (volumes : VolumeList) → Below volume.name volumes → HasLength name count volumes → HasLength name count (volume ∷ volumes)
-beyond name count volume volumes below has = record { blocks = has.blocks; found = ap (λ (b : Bool). cond b (Some volume.blocks) (blocks_of name volumes)) (other_name name volume.name apart) ∙ has.found; as_long = has.as_long }
+beyond : (name : List ℕ) (count : ℕ) (volume : Volume) (volumes : VolumeList) → Below volume.name volumes → HasLength name count volumes
+    → HasLength name count (volume ∷ volumes)
+beyond name count volume volumes below has = record {
+  blocks = has.blocks;
+  found =
+      ap (λ (b : Bool). cond b (Some volume.blocks) (blocks_of name volumes)) (other_name name volume.name apart) ∙ has.found;
+  as_long = has.as_long;
+}
   where
     apart : name ≡ volume.name → ⊥
     apart same = none-some has.blocks (sym (none_below volume.name volumes below) ∙ ap (λ n. blocks_of n volumes) (sym same) ∙ has.found)
@@ -496,13 +584,15 @@ listed_is_found name count (volume ∷ volumes) rising (zero, within, at) =
     let same : volume.name ≡ name = ap (λ (p : List ℕ × ℕ). p.0) at in
     record {
       blocks = volume.blocks;
-      found = ap (λ (b : Bool). cond b (Some volume.blocks) (blocks_of name volumes)) (ap (λ n. is_same_name n volume.name) (sym same) ∙ same_name_itself volume.name);
+      found = ap (λ (b : Bool). cond b (Some volume.blocks) (blocks_of name volumes))
+          (ap (λ n. is_same_name n volume.name) (sym same) ∙ same_name_itself volume.name);
       as_long = ap (λ (p : List ℕ × ℕ). p.1) at;
     }
 listed_is_found name count (volume ∷ volumes) rising (suc k, within, at) =
     beyond name count volume volumes rising.0 (listed_is_found name count volumes rising.1 (k, omega (arith, within), at))
 
-pub list_is_exact : (extents : ℕ) (volumes : VolumeMap) (listed : List (List ℕ × ℕ)) → AreVolumes extents volumes → reply_to extents Names volumes ≡ Volumes listed → ListsExactly volumes.volumes listed
+pub list_is_exact : (extents : ℕ) (volumes : VolumeMap) (listed : List (List ℕ × ℕ)) → AreVolumes extents volumes
+    → reply_to extents Names volumes ≡ Volumes listed → ListsExactly volumes.volumes listed
 unfolding shown
 list_is_exact extents volumes listed are replied =
     subst (ListsExactly volumes.volumes) same (record {
@@ -518,13 +608,15 @@ list_is_exact extents volumes listed are replied =
     same : shown volumes.volumes ≡ listed
     same = ap listed_in replied
 
-pub created_is_listed : (extents : ℕ) (name : List ℕ) (count : ℕ) (volumes : VolumeMap) → reply_to extents (Create name count) volumes ≡ Done → IsListed extents name count (volumes_after extents (Create name count) volumes)
+pub created_is_listed : (extents : ℕ) (name : List ℕ) (count : ℕ) (volumes : VolumeMap) → reply_to extents (Create name count) volumes ≡ Done
+    → IsListed extents name count (volumes_after extents (Create name count) volumes)
 created_is_listed extents name count volumes done =
     let left = volumes_after extents (Create name count) volumes in
     subst (λ n. IsListed extents name n left) (length-replicate count zero_block)
     (found_is_listed extents name (zero_blocks count) left (created_is_zero extents name count volumes done).1)
 
-pub renamed_is_listed : (extents : ℕ) (old new : List ℕ) (count : ℕ) (volumes : VolumeMap) → reply_to extents (Rename old new) volumes ≡ Done → HasLength old count volumes.volumes
+pub renamed_is_listed : (extents : ℕ) (old new : List ℕ) (count : ℕ) (volumes : VolumeMap) → reply_to extents (Rename old new) volumes ≡ Done
+    → HasLength old count volumes.volumes
     → IsListed extents new count (volumes_after extents (Rename old new) volumes)
 renamed_is_listed extents old new count volumes done has =
     let it = renamed_has_blocks extents old new volumes done in

@@ -1,5 +1,6 @@
 -- From what calls of an array do to its logical list to what a command on volumes does to its store.
-use Rattle.std.proofs.Common.{◌≡◌, ◌⊎◌, inl, inr, ℕ, zero, suc, ◌+◌, ◌<◌, ◌≤◌, Bool, true, false, cond, not, ◌&&◌, ◌||◌, nat_lt, List, [], ◌∷◌, length, take, Contains, Option, Some, None, Ok, Err, refl, sym, ◌∙◌, ap, ap₂, subst, arith}
+use Rattle.std.proofs.Common.{◌≡◌, ◌⊎◌, inl, inr, ℕ, zero, suc, ◌+◌, ◌<◌, ◌≤◌, Bool, true, false, cond, not, ◌&&◌, ◌||◌, nat_lt, List, [], ◌∷◌, length, take}
+use Rattle.std.proofs.Common.{Contains, Option, Some, None, Ok, Err, refl, sym, ◌∙◌, ap, ap₂, subst, arith}
 use Rattle.std.specs.List.{filter, list_any, range_with_len}
 use Rattle.std.specs.List.Sorted.{IsStrictlyIncreasing}
 use Rattle.std.proofs.lemmas.Bool.{and_from, and_parts, cases_eq, not-false, not-true, true≢false}
@@ -33,7 +34,8 @@ use Rattle.extents.proofs.TableLaws.{one_table}
 use Rattle.scrub.specs.Scrubbing.{AreUnsound, row_in}
 use Rattle.volume_table.specs.Names.{is_same_name}
 use Rattle.volume_table.specs.Volumes.{Block, VolumeMap}
-use Rattle.volume_table.specs.VolumeStep.{Command, Create, Done, Event, Extend, HasBlocks, Names, OnSet, OnVolumes, Read, Refused, Remove, Rename, Reply, Scrub, Upgrade, Write, answer, done, or_refused, refusal_of, unless_refused, volumes_after}
+use Rattle.volume_table.specs.VolumeStep.{Command, Create, Done, Event, Extend, HasBlocks, Names, OnSet, OnVolumes, Read, Refused, Remove, Rename, Reply, Scrub}
+use Rattle.volume_table.specs.VolumeStep.{Upgrade, Write, answer, done, or_refused, refusal_of, unless_refused, volumes_after}
 use Rattle.volume_table.specs.SetReplies.{Devices, SetState, settled, with_faults}
 use Rattle.volume_table.specs.Shows.{Shows}
 use Rattle.volume_table.specs.Stands.{IsSettledAfter, IsSettledOn, ShowsOneOf, StandsNow, StandsThroughout, StoreView, extents_in}
@@ -61,7 +63,8 @@ not_sound table image row is sound = true≢false (sym (same_name_itself zero_se
 
 is_sound : (table : Table) (image : Slots) (row : ℕ) → is_unsound table image row ≡ false → IsSoundRow (row_in table image row)
 unfolding is_unsound
-is_sound table image row is = same_name_is (xor_of_all (row_in table image row)) zero_sector (not-false (is_same_name (xor_of_all (row_in table image row)) zero_sector) is)
+is_sound table image row is = same_name_is (xor_of_all (row_in table image row)) zero_sector
+    (not-false (is_same_name (xor_of_all (row_in table image row)) zero_sector) is)
 
 -- what passes a test is kept
 kept : (test : ℕ → Bool) (rows : List ℕ) (row : ℕ) → Contains rows row → test row ≡ true → Contains (filter test rows) row
@@ -95,14 +98,17 @@ are_unsound table image = record {
   rising = IsStrictlyIncreasing-filter (is_unsound table image) (range_with_len 0 (row_count table)) (rises (row_count table));
   unsound = λ row among. (
     below_count (row_count table) row (All-contains (Contains (range_with_len 0 (row_count table))) (unsound_rows table image) row
-        (All-filter (is_unsound table image) (Contains (range_with_len 0 (row_count table))) (range_with_len 0 (row_count table)) (All-contains_itself (range_with_len 0 (row_count table)))) among),
+        (All-filter (is_unsound table image) (Contains (range_with_len 0 (row_count table))) (range_with_len 0 (row_count table))
+        (All-contains_itself (range_with_len 0 (row_count table)))) among),
     not_sound table image row
-        (All-contains (λ r. is_unsound table image r ≡ true) (unsound_rows table image) row (filter_passes (is_unsound table image) (range_with_len 0 (row_count table))) among),
+        (All-contains (λ r. is_unsound table image r ≡ true) (unsound_rows table image) row
+        (filter_passes (is_unsound table image) (range_with_len 0 (row_count table))) among),
   );
   all = λ row below. by_test row below (is_unsound table image row) refl;
 }
   where
-    by_test : (row : ℕ) → row < row_count table → (b : Bool) → is_unsound table image row ≡ b → Contains (unsound_rows table image) row ⊎ IsSoundRow (row_in table image row)
+    by_test : (row : ℕ) → row < row_count table → (b : Bool) → is_unsound table image row ≡ b → Contains (unsound_rows table image) row
+        ⊎ IsSoundRow (row_in table image row)
     by_test row below true is = inl (kept (is_unsound table image) (range_with_len 0 (row_count table)) row (in_range (row_count table) row below) is)
     by_test row below false is = inr (is_sound table image row is)
 
@@ -139,10 +145,12 @@ stays_or_fails old new (inr lost) slot = elim (cases_eq slot lost.slot) [
 -- so it is missing where its device answered a fault, and else as it was
 state_left : (old new : ArrayView) (slot : ℕ) → KeepsItsState old new slot → (b : Bool) → has_fault new slot ≡ b
     → cond b Missing (state_at old.table.states slot) ≡ state_at new.table.states slot
-state_left old new slot keeps true is = sym (missing_is (state_at new.table.states slot) (and_parts (is_missing (state_at new.table.states slot)) (new.panel.down slot) is).0)
+state_left old new slot keeps true is = sym (missing_is (state_at new.table.states slot)
+    (and_parts (is_missing (state_at new.table.states slot)) (new.panel.down slot) is).0)
 state_left old new slot keeps false is = elim keeps.state [
   | inl same ↦ sym same
-  | inr (down, missing) ↦ absurd (true≢false (sym (and_from (is_missing (state_at new.table.states slot)) (new.panel.down slot) (ap is_missing missing) down) ∙ is))
+  | inr (down, missing) ↦ absurd (true≢false (sym (and_from (is_missing (state_at new.table.states slot)) (new.panel.down slot) (ap is_missing missing) down)
+      ∙ is))
 ]
 
 faults_leave : (faults : ℕ → Bool) (before after : List State) → length before ≡ length after
@@ -164,7 +172,8 @@ same_slots old new goes = ap (λ (g : Geometry). g.members + 2) goes.not_older.s
 pub states_left : (old new : ArrayView) → GoesOn old new → ((slot : ℕ) → slot < slots_of old.table → KeepsItsState old new slot)
     → with_faults (has_fault new) (set_of old.table).states ≡ (set_of new.table).states
 states_left old new goes keeps =
-    faults_leave (has_fault new) (set_of old.table).states (set_of new.table).states (length-set_of old.table ∙ sym (same_slots old new goes) ∙ sym (length-set_of new.table)) (λ slot below.
+    faults_leave (has_fault new) (set_of old.table).states (set_of new.table).states
+    (length-set_of old.table ∙ sym (same_slots old new goes) ∙ sym (length-set_of new.table)) (λ slot below.
     let of_set : slot < slots_of old.table = omega (arith, below, length-set_of old.table) in
     ap (λ (s : State). cond (has_fault new slot) Missing s) (get_or-take (slots_of old.table) old.table.states slot Missing of_set)
     ∙ state_left old new slot (keeps slot of_set) (has_fault new slot) refl
@@ -176,7 +185,8 @@ any_more test zero states any = absurd (true≢false (sym any))
 any_more test (suc n) [] any = any
 any_more test (suc n) (state ∷ states) any = by_test (any_more test n states) (test state) any
   where
-    by_test : (list_any test (take n states) ≡ true → list_any test states ≡ true) → (b : Bool) → (b || list_any test (take n states)) ≡ true → (b || list_any test states) ≡ true
+    by_test : (list_any test (take n states) ≡ true → list_any test states ≡ true) → (b : Bool) → (b || list_any test (take n states)) ≡ true
+        → (b || list_any test states) ≡ true
     by_test beyond true any = refl
     by_test beyond false any = beyond any
 
@@ -187,7 +197,8 @@ no_position table none = table.allowed.no_position (λ slot is.
     true≢false (sym (list_any_at is_rebuilding (set_of table).states slot Missing (omega (arith, of_set, length-set_of table))
     (ap is_rebuilding (get_or-take (slots_of table) table.states slot Missing of_set ∙ is))) ∙ none))
 
-pub position_left : (old new : ArrayView) → (new.table ≡ old.table) ⊎ HasLostOne old new → (b : Bool) → has_rebuilding (set_of new.table).states ≡ b → cond b old.table.position 0 ≡ new.table.position
+pub position_left : (old new : ArrayView) → (new.table ≡ old.table) ⊎ HasLostOne old new → (b : Bool) → has_rebuilding (set_of new.table).states ≡ b
+    → cond b old.table.position 0 ≡ new.table.position
 position_left old new table false none = sym (no_position new.table none)
 position_left old new (inl same) true is = ap (λ (t : Table). t.position) (sym same)
 position_left old new (inr lost) true is =
@@ -202,15 +213,18 @@ made states position = record { states = states; position = position }
 pub failures_leave : (old new : ArrayView) → GoesOn old new → (new.table ≡ old.table) ⊎ HasLostOne old new
     → settled (devices_in old new) (set_of old.table) ≡ set_of new.table
 failures_leave old new goes table =
-    ap (λ (states : List State). made states (position_in states old.table.position)) (states_left old new goes (λ slot of_set. stays_or_fails old new table slot))
+    ap (λ (states : List State). made states (position_in states old.table.position))
+    (states_left old new goes (λ slot of_set. stays_or_fails old new table slot))
     ∙ ap (made (set_of new.table).states) (position_left old new table (has_rebuilding (set_of new.table).states) refl)
 
-set_is_left : (honest : Type 0) (command : Command) (old new : StoreView) (reply : Reply) (ended : Type 0) → GoesOn old.array new.array → StaysButForFailures honest old.array new.array ended
+set_is_left : (honest : Type 0) (command : Command) (old new : StoreView) (reply : Reply) (ended : Type 0) → GoesOn old.array new.array
+    → StaysButForFailures honest old.array new.array ended
     → ¬ ended → SetIsLeft honest (OnVolumes command) old new reply
 set_is_left honest command old new reply ended goes stays unended = record {
   devices = devices_in old.array new.array;
   are = record {
-    failed = λ fair slot of_set failed. and_from (is_missing (state_at new.array.table.states slot)) (new.array.panel.down slot) (ap is_missing (stays.failure fair unended slot of_set failed)) failed.is_down;
+    failed = λ fair slot of_set failed. and_from (is_missing (state_at new.array.table.states slot)) (new.array.panel.down slot)
+        (ap is_missing (stays.failure fair unended slot of_set failed)) failed.is_down;
     is_down = λ slot of_set fault. (and_parts (is_missing (state_at new.array.table.states slot)) (new.array.panel.down slot) fault).1;
     unusable = λ slot of_set. refl;
     rows = refl;
@@ -252,21 +266,29 @@ incarnations_left event old new (inr lost) = incarnations_marked event old.table
 -- ---- the volumes that a case stands for
 
 -- where a store is settled, its list shows the volumes by the table that it keeps
-shown_by : (store : StoreView) (lost : Option Lost) (volumes : VolumeMap) (settled : IsSettledOn store lost volumes) → ShowsBy (extents_for_store store) store.keeps settled.logical volumes
+shown_by : (store : StoreView) (lost : Option Lost) (volumes : VolumeMap) (settled : IsSettledOn store lost volumes)
+    → ShowsBy (extents_for_store store) store.keeps settled.logical volumes
 shown_by store lost volumes settled = record {
   shows = settled.shown;
   by = one_table settled.logical settled.shown.table store.keeps settled.shown.spelled settled.spelled;
 }
 
-stands_by : (base : Table) (devices : ℕ) (lost : Option Lost) (kind : Kind) (maps : List VolumeMap) → ((W : List Bytes) → kind W → ShowsOneOf base.geometry maps W) → (h : History)
+stands_by : (base : Table) (devices : ℕ) (lost : Option Lost) (kind : Kind) (maps : List VolumeMap)
+    → ((W : List Bytes) → kind W → ShowsOneOf base.geometry maps W) → (h : History)
     → HoldsForSomeNow base devices lost kind h → StandsNow base devices lost maps h
 stands_by base devices lost kind maps shows h now after image is may =
     let some = now after image is may in
     record { lists = some.lists; holds = some.holds; shown = λ logical among. shows logical (some.each logical among) }
 
 -- the volumes before a command, or those after it
-one_of_both : (geometry : Geometry) (volumes left : VolumeMap) (W : List Bytes) → Shows (extents_in geometry) W volumes ⊎ Shows (extents_in geometry) W left → ShowsOneOf geometry (volumes ∷ left ∷ []) W
-one_of_both geometry volumes left W (inl shown) = record { volumes = volumes; among = Contains-append_left (volumes ∷ []) (left ∷ []) volumes (Contains-push [] volumes); shown = shown }
+one_of_both : (geometry : Geometry) (volumes left : VolumeMap) (W : List Bytes) → Shows (extents_in geometry) W volumes ⊎ Shows (extents_in geometry) W left
+    → ShowsOneOf geometry (volumes ∷ left ∷ []) W
+one_of_both geometry volumes left W (inl shown) = record {
+  volumes = volumes;
+  among =
+      Contains-append_left (volumes ∷ []) (left ∷ []) volumes (Contains-push [] volumes);
+  shown = shown;
+}
 one_of_both geometry volumes left W (inr shown) = record { volumes = left; among = Contains-push (volumes ∷ []) left; shown = shown }
 
 -- how a change shows in volumes that a list shows by the table kept
@@ -286,11 +308,13 @@ moments honest entries passes leaves old new result after changes on_the_way fai
 -- after a row of calls that was answered the store is settled on the volumes that its new list shows by its new table
 settled_then : (honest : Type 0) (entries : ℕ) (passes leaves : Change) (old new : StoreView) (after : VolumeMap → VolumeMap) → new.ended ≡ None
     → ChangesList honest entries passes leaves old.array new.array (Ok tt)
-    → ((V W : List Block) (volumes : VolumeMap) → ShowsBy (extents_for_store old) old.keeps V volumes → leaves V W → ShowsBy (extents_for_store old) new.keeps W (after volumes))
+    → ((V W : List Block) (volumes : VolumeMap) → ShowsBy (extents_for_store old) old.keeps V volumes → leaves V W
+    → ShowsBy (extents_for_store old) new.keeps W (after volumes))
     → honest → (lost : Option Lost) (volumes : VolumeMap) → IsSettledOn old lost volumes → IsSettledAfter lost new (after volumes)
 settled_then honest entries passes leaves old new after going changes done fair lost volumes settled =
     let some = changes.rests fair refl lost settled.logical settled.rests in
-    let now : ShowsBy (extents_for_store old) new.keeps some.logical (after volumes) = done settled.logical some.logical volumes (shown_by old lost volumes settled) some.is in
+    let now : ShowsBy (extents_for_store old) new.keeps some.logical (after volumes) =
+    done settled.logical some.logical volumes (shown_by old lost volumes settled) some.is in
     record {
       lost = some.rests.lost;
       is_lost = some.rests.is_lost;
@@ -333,7 +357,8 @@ kind_is_listed command (Refused refusal) kind = absurd (not_refused command (Ref
 kind_is_listed command reply kind = kind
 
 -- the entries of a command are counted
-end_more : (command : Command) (entries : ℕ) (old new : ArrayView) (refusal : Refusal) → entries ≤ MOST_BLOCKS + 1 → IsEndOf old new (IsNumberFull entries old new) refusal
+end_more : (command : Command) (entries : ℕ) (old new : ArrayView) (refusal : Refusal) → entries ≤ MOST_BLOCKS + 1
+    → IsEndOf old new (IsNumberFull entries old new) refusal
     → IsEndOf old new (IsCounterFull (OnVolumes command) old new) refusal
 end_more command entries old new TwoLost few end = end
 end_more command entries old new Worn few (inl worn) = inl worn
@@ -342,7 +367,8 @@ end_more command entries old new refusal few end = absurd end
 
 -- the store does not refuse the command, by the table that it keeps
 abbrev IsAdmitted : Command → StoreView → Type 0
-IsAdmitted command old = (sectors : List Block) (volumes : VolumeMap) → ShowsBy (extents_for_store old) old.keeps sectors volumes → None ≡ refusal_of (extents_for_store old) command volumes
+IsAdmitted command old = (sectors : List Block) (volumes : VolumeMap) → ShowsBy (extents_for_store old) old.keeps sectors volumes
+    → None ≡ refusal_of (extents_for_store old) command volumes
 
 -- so it leaves the changed volumes
 left_then : (command : Command) (old : StoreView) (lost : Option Lost) (volumes : VolumeMap) → IsSettledOn old lost volumes → IsAdmitted command old
@@ -351,8 +377,10 @@ left_then command old lost volumes settled admitted =
     sym (changed_if_done (extents_for_store old) command volumes (sym (admitted settled.logical volumes (shown_by old lost volumes settled))))
 
 -- A command that its store refuses at once leaves it as it is.
-pub refused_at_once : (honest : Type 0) (command : Command) (store : StoreView) (refusal : Refusal) → store.ended ≡ None → Contains (refusals_of command) refusal → ¬ EndsIt refusal
-    → ((sectors : List Block) (volumes : VolumeMap) → ShowsBy (extents_for_store store) store.keeps sectors volumes → Some refusal ≡ refusal_of (extents_for_store store) command volumes)
+pub refused_at_once : (honest : Type 0) (command : Command) (store : StoreView) (refusal : Refusal) → store.ended ≡ None
+    → Contains (refusals_of command) refusal → ¬ EndsIt refusal
+    → ((sectors : List Block) (volumes : VolumeMap) → ShowsBy (extents_for_store store) store.keeps sectors volumes
+    → Some refusal ≡ refusal_of (extents_for_store store) command volumes)
     → Applies honest (OnVolumes command) store store (Refused refusal)
 refused_at_once honest command store refusal going among goes refuses = record {
   ended = λ other is. absurd (none_ended other (sym is ∙ going));
@@ -368,7 +396,8 @@ refused_at_once honest command store refusal going among goes refuses = record {
     scrubs = λ fair scrub. absurd (not_scrub command scrub);
     moments = moments honest 0 IsSame IsSame store store (Ok tt) (volumes_after (extents_for_store store) command) nothing
         (λ V W volumes shown same. inl (subst (λ (l : List Block). Shows (extents_for_store store) l volumes) (sym same) shown.shows));
-    answered = λ fair unended lost volumes settled. inl (ap (λ o. or_refused o (answer command volumes.volumes)) (refuses settled.logical volumes (shown_by store lost volumes settled)));
+    answered = λ fair unended lost volumes settled. inl
+        (ap (λ o. or_refused o (answer command volumes.volumes)) (refuses settled.logical volumes (shown_by store lost volumes settled)));
     settled = λ fair unended lost volumes settled. subst (IsSettledAfter lost store) (same volumes settled.logical (shown_by store lost volumes settled))
         (settled_then honest 0 IsSame IsSame store store (λ those. those) going nothing
         (λ V W those shown is. subst (λ (l : List Block). ShowsBy (extents_for_store store) store.keeps l those) (sym is) shown) fair lost volumes settled);
@@ -378,17 +407,23 @@ refused_at_once honest command store refusal going among goes refuses = record {
     nothing : ChangesList honest 0 IsSame IsSame store.array store.array (Ok tt)
     nothing = changes_none honest 0 IsSame IsSame store.array (λ V. refl) (λ V. refl)
 
-    same : (volumes : VolumeMap) (V : List Block) → ShowsBy (extents_for_store store) store.keeps V volumes → volumes ≡ volumes_after (extents_for_store store) command volumes
+    same : (volumes : VolumeMap) (V : List Block) → ShowsBy (extents_for_store store) store.keeps V volumes
+        → volumes ≡ volumes_after (extents_for_store store) command volumes
     same volumes V shown = ap (λ o. unless_refused o (done command volumes) volumes) (refuses V volumes shown)
 
 -- A command that is admitted, and whose calls were all answered, is done.
-pub done_with_volumes : (honest : Type 0) (command : Command) (entries : ℕ) (passes leaves : Change) (old new : StoreView) (reply : Reply) → HasBlocks command → entries ≤ MOST_BLOCKS + 1
-    → old.ended ≡ None → new.ended ≡ None → (honest → IsTrueTo new.array.panel new.array.history) → ChangesList honest entries passes leaves old.array new.array (Ok tt) → IsOfItsKind command reply
-    → ((sectors : List Block) (volumes : VolumeMap) → ShowsBy (extents_for_store old) old.keeps sectors volumes → None ≡ refusal_of (extents_for_store old) command volumes)
-    → (honest → (lost : Option Lost) (V : List Block) (volumes : VolumeMap) → RestsOn old.array lost V → ShowsBy (extents_for_store old) old.keeps V volumes → reply ≡ answer command volumes.volumes)
+pub done_with_volumes : (honest : Type 0) (command : Command) (entries : ℕ) (passes leaves : Change) (old new : StoreView) (reply : Reply) → HasBlocks command
+    → entries ≤ MOST_BLOCKS + 1
+    → old.ended ≡ None → new.ended ≡ None → (honest → IsTrueTo new.array.panel new.array.history)
+    → ChangesList honest entries passes leaves old.array new.array (Ok tt) → IsOfItsKind command reply
+    → ((sectors : List Block) (volumes : VolumeMap) → ShowsBy (extents_for_store old) old.keeps sectors volumes
+    → None ≡ refusal_of (extents_for_store old) command volumes)
+    → (honest → (lost : Option Lost) (V : List Block) (volumes : VolumeMap) → RestsOn old.array lost V → ShowsBy (extents_for_store old) old.keeps V volumes
+    → reply ≡ answer command volumes.volumes)
     → ((V W : List Block) (volumes : VolumeMap) → ShowsBy (extents_for_store old) old.keeps V volumes → passes V W
     → Shows (extents_for_store old) W volumes ⊎ Shows (extents_for_store old) W (done command volumes))
-    → ((V W : List Block) (volumes : VolumeMap) → ShowsBy (extents_for_store old) old.keeps V volumes → leaves V W → ShowsBy (extents_for_store old) new.keeps W (done command volumes))
+    → ((V W : List Block) (volumes : VolumeMap) → ShowsBy (extents_for_store old) old.keeps V volumes → leaves V W
+    → ShowsBy (extents_for_store old) new.keeps W (done command volumes))
     → Applies honest (OnVolumes command) old new reply
 done_with_volumes honest command entries passes leaves old new reply whole few going goes true_to changes kind admitted replied on_the_way left = record {
   ended = λ other is. absurd (none_ended other (sym is ∙ going));
@@ -404,19 +439,24 @@ done_with_volumes honest command entries passes leaves old new reply whole few g
     scrubs = λ fair scrub. absurd (not_scrub command scrub);
     moments = λ fair lost volumes settled.
         subst (λ (after : VolumeMap). StandsThroughout old.array.table old.array.panel.devices lost (volumes ∷ after ∷ []) old.array.history new.array.history)
-        (left_then command old lost volumes settled admitted) (moments honest entries passes leaves old new (Ok tt) (done command) changes on_the_way fair lost volumes settled);
+        (left_then command old lost volumes settled admitted)
+        (moments honest entries passes leaves old new (Ok tt) (done command) changes on_the_way fair lost volumes settled);
     answered = λ fair unended lost volumes settled.
         let shown = shown_by old lost volumes settled in
-        inl (replied fair lost settled.logical volumes settled.rests shown ∙ ap (λ o. or_refused o (answer command volumes.volumes)) (admitted settled.logical volumes shown));
+        inl (replied fair lost settled.logical volumes settled.rests shown
+        ∙ ap (λ o. or_refused o (answer command volumes.volumes)) (admitted settled.logical volumes shown));
     settled = λ fair unended lost volumes settled. subst (IsSettledAfter lost new) (left_then command old lost volumes settled admitted)
         (settled_then honest entries passes leaves old new (done command) goes changes left fair lost volumes settled);
   };
 }
 
 -- A command that is admitted, and whose calls ended with 15 or 16, ends the store.
-pub ended_with_volumes : (honest : Type 0) (command : Command) (entries : ℕ) (passes leaves : Change) (old new : StoreView) (refusal : Refusal) → HasBlocks command → entries ≤ MOST_BLOCKS + 1
-    → old.ended ≡ None → new.ended ≡ Some refusal → (honest → IsTrueTo new.array.panel new.array.history) → ChangesList honest entries passes leaves old.array new.array (Err refusal)
-    → ((sectors : List Block) (volumes : VolumeMap) → ShowsBy (extents_for_store old) old.keeps sectors volumes → None ≡ refusal_of (extents_for_store old) command volumes)
+pub ended_with_volumes : (honest : Type 0) (command : Command) (entries : ℕ) (passes leaves : Change) (old new : StoreView) (refusal : Refusal)
+    → HasBlocks command → entries ≤ MOST_BLOCKS + 1
+    → old.ended ≡ None → new.ended ≡ Some refusal → (honest → IsTrueTo new.array.panel new.array.history)
+    → ChangesList honest entries passes leaves old.array new.array (Err refusal)
+    → ((sectors : List Block) (volumes : VolumeMap) → ShowsBy (extents_for_store old) old.keeps sectors volumes
+    → None ≡ refusal_of (extents_for_store old) command volumes)
     → ((V W : List Block) (volumes : VolumeMap) → ShowsBy (extents_for_store old) old.keeps V volumes → passes V W
     → Shows (extents_for_store old) W volumes ⊎ Shows (extents_for_store old) W (done command volumes))
     → Applies honest (OnVolumes command) old new (Refused refusal)
@@ -428,14 +468,16 @@ ended_with_volumes honest command entries passes leaves old new refusal whole fe
     incarnations = incarnations_left (OnVolumes command) old.array new.array changes.stays.table;
     spared = λ slot of_set in_sync kept. slot_spared old.array new.array slot (stays_or_fails old.array new.array changes.stays.table slot) in_sync;
     set_left = λ unended. absurd (unended it_ends);
-    ends = λ other is ends. subst (λ (r : Refusal). (new.ended ≡ Some r) × IsEndOf old.array new.array (IsCounterFull (OnVolumes command) old.array new.array) r) (same_refusal refusal other is)
+    ends = λ other is ends. subst (λ (r : Refusal). (new.ended ≡ Some r)
+        × IsEndOf old.array new.array (IsCounterFull (OnVolumes command) old.array new.array) r) (same_refusal refusal other is)
         (ended, end_more command entries old.array new.array refusal few (changes.cause refusal refl));
     goes = λ unended. absurd (unended it_ends);
     listed = inr it_ends;
     scrubs = λ fair scrub. absurd (not_scrub command scrub);
     moments = λ fair lost volumes settled.
         subst (λ (after : VolumeMap). StandsThroughout old.array.table old.array.panel.devices lost (volumes ∷ after ∷ []) old.array.history new.array.history)
-        (left_then command old lost volumes settled admitted) (moments honest entries passes leaves old new (Err refusal) (done command) changes on_the_way fair lost volumes settled);
+        (left_then command old lost volumes settled admitted)
+        (moments honest entries passes leaves old new (Err refusal) (done command) changes on_the_way fair lost volumes settled);
     answered = λ fair unended. absurd (unended it_ends);
     settled = λ fair unended. absurd (unended it_ends);
   };

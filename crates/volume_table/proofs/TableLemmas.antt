@@ -1,5 +1,6 @@
 -- What a logical list shows after its table is changed.
-use Rattle.std.proofs.Common.{◌≡◌, ◌≢◌, ⊎_elim, ℕ, ◌/◌, ◌≤◌, Bool, true, false, List, [], ◌++◌, take, get_or, slice_set, IsTrue, Option, Some, None, refl, sym, ap, subst, ◌∙◌, arith}
+use Rattle.std.proofs.Common.{◌≡◌, ◌≢◌, ⊎_elim, ℕ, ◌/◌, ◌≤◌, Bool, true, false, List, [], ◌++◌, take, get_or, slice_set, IsTrue, Option, Some, None, refl, sym}
+use Rattle.std.proofs.Common.{ap, subst, ◌∙◌, arith}
 use Rattle.std.proofs.lemmas.Bool.{cases_eq, true≢false}
 use Rattle.std.specs.Prelude.{unwrap_or}
 use Rattle.std.proofs.lemmas.List.{get_or-set_other, get_or-set_same}
@@ -28,7 +29,8 @@ abbrev with_list : VolumeList → VolumeMap → VolumeMap
 with_list list volumes = record { version = volumes.version; volumes = list }
 
 -- a volume whose blocks stay where they are
-stands_still : (owners : List (Option Owned)) (before left : List Block) (volumes : VolumeList) (number : ℕ) (entry : Record) → HaveSameBlocks EXTENT_SECTORS owners number entry before left → IsOfVolume EXTENT_SECTORS owners before volumes number entry
+stands_still : (owners : List (Option Owned)) (before left : List Block) (volumes : VolumeList) (number : ℕ) (entry : Record)
+    → HaveSameBlocks EXTENT_SECTORS owners number entry before left → IsOfVolume EXTENT_SECTORS owners before volumes number entry
     → IsOfVolume EXTENT_SECTORS owners left volumes number entry
 stands_still owners before left volumes number entry same was =
     record {
@@ -38,8 +40,10 @@ stands_still owners before left volumes number entry same was =
       stand = λ j extent within at_extent. same j extent (omega (arith, within, was.as_long)) at_extent ∙ was.stand j extent within at_extent;
     }
 
-pub unused_may_change : (extents : ℕ) (before left : List Block) (volumes : VolumeMap) (shows : Shows extents before volumes) → take (table_length volumes.version) left ≡ take (table_length volumes.version) before
-    → ((number : ℕ) (entry : Record) → record_of shows.table.records number ≡ Some entry → HaveSameBlocks EXTENT_SECTORS shows.table.extents number entry before left) → Shows extents left volumes
+pub unused_may_change : (extents : ℕ) (before left : List Block) (volumes : VolumeMap) (shows : Shows extents before volumes)
+    → take (table_length volumes.version) left ≡ take (table_length volumes.version) before
+    → ((number : ℕ) (entry : Record) → record_of shows.table.records number ≡ Some entry
+    → HaveSameBlocks EXTENT_SECTORS shows.table.extents number entry before left) → Shows extents left volumes
 unused_may_change extents before left volumes shows same_table same =
     let table = shows.table in
     record {
@@ -49,15 +53,19 @@ unused_may_change extents before left volumes shows same_table same =
       spelled = subst (λ (v : ℕ). take (table_length v) left ≡ take (table_length v) before) (sym shows.of_version) same_table ∙ shows.spelled;
       free_beyond = shows.free_beyond;
       shown = record {
-        used = λ number entry used. stands_still table.extents before left volumes.volumes number entry (same number entry used) (shows.shown.used number entry used);
+        used = λ number entry used. stands_still table.extents before left volumes.volumes number entry (same number entry used)
+            (shows.shown.used number entry used);
         all = shows.shown.all;
       };
     }
 
 -- the volume of another record, in the new table
-other_record : (records new_records : List (Option Record)) (owners new_owners : List (Option Owned)) (before left : List Block) (volumes new_volumes : VolumeList) (number other : ℕ) (entry : Record)
-    → AreShown EXTENT_SECTORS records owners before volumes → ChangesOneRecord EXTENT_SECTORS records new_records owners new_owners before left number → other ≢ number → record_of new_records other ≡ Some entry
-    → blocks_of entry.name.bytes.items new_volumes ≡ blocks_of entry.name.bytes.items volumes → IsOfVolume EXTENT_SECTORS new_owners left new_volumes other entry
+other_record : (records new_records : List (Option Record)) (owners new_owners : List (Option Owned)) (before left : List Block)
+    (volumes new_volumes : VolumeList) (number other : ℕ) (entry : Record)
+    → AreShown EXTENT_SECTORS records owners before volumes → ChangesOneRecord EXTENT_SECTORS records new_records owners new_owners before left number
+    → other ≢ number → record_of new_records other ≡ Some entry
+    → blocks_of entry.name.bytes.items new_volumes ≡ blocks_of entry.name.bytes.items volumes
+    → IsOfVolume EXTENT_SECTORS new_owners left new_volumes other entry
 other_record records new_records owners new_owners before left volumes new_volumes number other entry shown changes differ new_used same_found =
     let used : record_of records other ≡ Some entry = sym (changes.same_records other differ) ∙ new_used in
     let was : IsOfVolume EXTENT_SECTORS owners before volumes other entry = shown.used other entry used in
@@ -72,21 +80,27 @@ other_record records new_records owners new_owners before left volumes new_volum
 
 -- the record of another volume, in the new table
 other_volume : (records new_records : List (Option Record)) (owners new_owners : List (Option Owned)) (before left : List Block) (number : ℕ) (name : List ℕ)
-    → ChangesOneRecord EXTENT_SECTORS records new_records owners new_owners before left number → ((entry : Record) → record_of records number ≡ Some entry → entry.name.bytes.items ≡ name → ⊥) → HasRecord records name → HasRecord new_records name
+    → ChangesOneRecord EXTENT_SECTORS records new_records owners new_owners before left number
+    → ((entry : Record) → record_of records number ≡ Some entry → entry.name.bytes.items ≡ name → ⊥) → HasRecord records name → HasRecord new_records name
 other_volume records new_records owners new_owners before left number name changes not_this has =
     let differ : has.number ≢ number = λ same. not_this has.entry (ap (record_of records) (sym same) ∙ has.used) has.named in
     record { number = has.number; entry = has.entry; used = changes.same_records has.number differ ∙ has.used; named = has.named }
 
-put_is_shown_by : (records new_records : List (Option Record)) (owners new_owners : List (Option Owned)) (before left : List Block) (volumes : VolumeList) (new : Volume) (number : ℕ)
-    → AreShown EXTENT_SECTORS records owners before volumes → AreDistinct new_records → ChangesOneRecord EXTENT_SECTORS records new_records owners new_owners before left number → IsRecordOf EXTENT_SECTORS new_records new_owners left number new
-    → ((entry : Record) → record_of records number ≡ Some entry → entry.name.bytes.items ≡ new.name) → AreShown EXTENT_SECTORS new_records new_owners left (with_volume new volumes)
+put_is_shown_by : (records new_records : List (Option Record)) (owners new_owners : List (Option Owned)) (before left : List Block) (volumes : VolumeList)
+    (new : Volume) (number : ℕ)
+    → AreShown EXTENT_SECTORS records owners before volumes → AreDistinct new_records
+    → ChangesOneRecord EXTENT_SECTORS records new_records owners new_owners before left number
+    → IsRecordOf EXTENT_SECTORS new_records new_owners left number new
+    → ((entry : Record) → record_of records number ≡ Some entry → entry.name.bytes.items ≡ new.name)
+    → AreShown EXTENT_SECTORS new_records new_owners left (with_volume new volumes)
 put_is_shown_by records new_records owners new_owners before left volumes new number shown distinct changes is_of was_named =
     record {
       used = λ other entry used. ⊎_elim (this_record other entry used) (any_other other entry used) (cases_eq other number);
       all = λ name blocks found. by_name name blocks found (is_same_name name new.name) refl;
     }
   where
-    this_record : (other : ℕ) (entry : Record) → record_of new_records other ≡ Some entry → other ≡ number → IsOfVolume EXTENT_SECTORS new_owners left (with_volume new volumes) other entry
+    this_record : (other : ℕ) (entry : Record) → record_of new_records other ≡ Some entry → other ≡ number
+        → IsOfVolume EXTENT_SECTORS new_owners left (with_volume new volumes) other entry
     this_record other entry used same =
         let one : entry ≡ is_of.entry = same_Some entry is_of.entry (sym used ∙ ap (record_of new_records) same ∙ is_of.used) in
         let named : entry.name.bytes.items ≡ new.name = ap (λ (r : Record). r.name.bytes.items) one ∙ is_of.named in
@@ -97,19 +111,29 @@ put_is_shown_by records new_records owners new_owners before left volumes new nu
           stand = subst (λ n. AreBlocksIn EXTENT_SECTORS left new_owners n new.blocks) (sym same) is_of.stand;
         }
 
-    any_other : (other : ℕ) (entry : Record) → record_of new_records other ≡ Some entry → (other ≡ number → ⊥) → IsOfVolume EXTENT_SECTORS new_owners left (with_volume new volumes) other entry
+    any_other : (other : ℕ) (entry : Record) → record_of new_records other ≡ Some entry → (other ≡ number → ⊥)
+        → IsOfVolume EXTENT_SECTORS new_owners left (with_volume new volumes) other entry
     any_other other entry used differ =
         let apart : entry.name.bytes.items ≡ new.name → ⊥ = λ same. differ (distinct other number entry is_of.entry used is_of.used (same ∙ sym is_of.named)) in
-        other_record records new_records owners new_owners before left volumes (with_volume new volumes) number other entry shown changes differ used (others_with_volume entry.name.bytes.items new volumes apart)
+        other_record records new_records owners new_owners before left volumes (with_volume new volumes) number other entry shown changes differ used
+        (others_with_volume entry.name.bytes.items new volumes apart)
 
-    by_name : (name : List ℕ) (blocks : List Block) → blocks_of name (with_volume new volumes) ≡ Some blocks → (b : Bool) → is_same_name name new.name ≡ b → HasRecord new_records name
-    by_name name blocks found true e = record { number = number; entry = is_of.entry; used = is_of.used; named = is_of.named ∙ sym (same_name_is name new.name e) }
+    by_name : (name : List ℕ) (blocks : List Block) → blocks_of name (with_volume new volumes) ≡ Some blocks → (b : Bool) → is_same_name name new.name ≡ b
+        → HasRecord new_records name
+    by_name name blocks found true e = record {
+      number = number;
+      entry = is_of.entry;
+      used = is_of.used;
+      named =
+          is_of.named ∙ sym (same_name_is name new.name e);
+    }
     by_name name blocks found false e =
         let apart : name ≡ new.name → ⊥ = λ same. true≢false (sym (same_name_itself new.name) ∙ ap (λ n. is_same_name n new.name) (sym same) ∙ e) in
         other_volume records new_records owners new_owners before left number name changes (λ entry used named. apart (sym named ∙ was_named entry used))
         (shown.all name blocks (sym (others_with_volume name new volumes apart) ∙ found))
 
-pub put_is_shown : (extents : ℕ) (before left : List Block) (volumes : VolumeMap) (new : Volume) (table : VolumeTable) (number : ℕ) (shows : Shows extents before volumes)
+pub put_is_shown : (extents : ℕ) (before left : List Block) (volumes : VolumeMap) (new : Volume) (table : VolumeTable) (number : ℕ)
+    (shows : Shows extents before volumes)
     → AreVolumes extents (with_list (with_volume new volumes.volumes) volumes)
     → Spell left table → table.version ≡ volumes.version → ((extent : ℕ) → extents ≤ extent → owner_of table.extents extent ≡ None)
     → ChangesOneRecord EXTENT_SECTORS shows.table.records table.records shows.table.extents table.extents before left number
@@ -123,11 +147,15 @@ put_is_shown extents before left volumes new table number shows limits spelled o
       of_version = of_version;
       spelled = spelled;
       free_beyond = free_beyond;
-      shown = put_is_shown_by shows.table.records table.records shows.table.extents table.extents before left volumes.volumes new number shows.shown (distinct_names table.version table.records table.extents table.is_table) changes is_of was_named;
+      shown = put_is_shown_by shows.table.records table.records shows.table.extents table.extents before left volumes.volumes new number shows.shown
+          (distinct_names table.version table.records table.extents table.is_table) changes is_of was_named;
     }
 
-removal_is_shown_by : (records new_records : List (Option Record)) (owners new_owners : List (Option Owned)) (before left : List Block) (volumes : VolumeList) (number : ℕ) (entry : Record)
-    → AreShown EXTENT_SECTORS records owners before volumes → AreDistinct records → ChangesOneRecord EXTENT_SECTORS records new_records owners new_owners before left number → record_of records number ≡ Some entry → record_of new_records number ≡ None
+removal_is_shown_by : (records new_records : List (Option Record)) (owners new_owners : List (Option Owned)) (before left : List Block) (volumes : VolumeList)
+    (number : ℕ) (entry : Record)
+    → AreShown EXTENT_SECTORS records owners before volumes → AreDistinct records
+    → ChangesOneRecord EXTENT_SECTORS records new_records owners new_owners before left number → record_of records number ≡ Some entry
+    → record_of new_records number ≡ None
     → AreShown EXTENT_SECTORS new_records new_owners left (without entry.name.bytes.items volumes)
 removal_is_shown_by records new_records owners new_owners before left volumes number entry shown distinct changes used free =
     record {
@@ -138,22 +166,27 @@ removal_is_shown_by records new_records owners new_owners before left volumes nu
     name : List ℕ
     name = entry.name.bytes.items
 
-    any_other : (other : ℕ) (other_entry : Record) → record_of new_records other ≡ Some other_entry → IsOfVolume EXTENT_SECTORS new_owners left (without name volumes) other other_entry
+    any_other : (other : ℕ) (other_entry : Record) → record_of new_records other ≡ Some other_entry
+        → IsOfVolume EXTENT_SECTORS new_owners left (without name volumes) other other_entry
     any_other other other_entry new_used =
         let differ : other ≢ number = λ same. none-some other_entry (sym free ∙ ap (record_of new_records) (sym same) ∙ new_used) in
         let old_used : record_of records other ≡ Some other_entry = sym (changes.same_records other differ) ∙ new_used in
         let apart : other_entry.name.bytes.items ≡ name → ⊥ = λ same. differ (distinct other number other_entry entry old_used used same) in
-        other_record records new_records owners new_owners before left volumes (without name volumes) number other other_entry shown changes differ new_used (others_without other_entry.name.bytes.items name volumes apart)
+        other_record records new_records owners new_owners before left volumes (without name volumes) number other other_entry shown changes differ new_used
+        (others_without other_entry.name.bytes.items name volumes apart)
 
-    by_name : (other : List ℕ) (blocks : List Block) → blocks_of other (without name volumes) ≡ Some blocks → (b : Bool) → is_same_name other name ≡ b → HasRecord new_records other
-    by_name other blocks found true e = absurd (none-some blocks (sym (gone_without name volumes) ∙ ap (λ n. blocks_of n (without name volumes)) (sym (same_name_is other name e)) ∙ found))
+    by_name : (other : List ℕ) (blocks : List Block) → blocks_of other (without name volumes) ≡ Some blocks → (b : Bool) → is_same_name other name ≡ b
+        → HasRecord new_records other
+    by_name other blocks found true e = absurd (none-some blocks
+        (sym (gone_without name volumes) ∙ ap (λ n. blocks_of n (without name volumes)) (sym (same_name_is other name e)) ∙ found))
     by_name other blocks found false e =
         let apart : other ≡ name → ⊥ = λ same. true≢false (sym (same_name_itself name) ∙ ap (λ n. is_same_name n name) (sym same) ∙ e) in
         other_volume records new_records owners new_owners before left number other changes
         (λ this this_used named. apart (sym named ∙ ap (λ (r : Record). r.name.bytes.items) (same_Some this entry (sym this_used ∙ used))))
         (shown.all other blocks (sym (others_without other name volumes apart) ∙ found))
 
-pub removal_is_shown : (extents : ℕ) (before left : List Block) (volumes : VolumeMap) (table : VolumeTable) (number : ℕ) (entry : Record) (shows : Shows extents before volumes)
+pub removal_is_shown : (extents : ℕ) (before left : List Block) (volumes : VolumeMap) (table : VolumeTable) (number : ℕ) (entry : Record)
+    (shows : Shows extents before volumes)
     → AreVolumes extents (with_list (without entry.name.bytes.items volumes.volumes) volumes)
     → Spell left table → table.version ≡ volumes.version → ((extent : ℕ) → extents ≤ extent → owner_of table.extents extent ≡ None)
     → ChangesOneRecord EXTENT_SECTORS shows.table.records table.records shows.table.extents table.extents before left number
@@ -166,11 +199,13 @@ removal_is_shown extents before left volumes table number entry shows limits spe
       of_version = of_version;
       spelled = spelled;
       free_beyond = free_beyond;
-      shown = removal_is_shown_by shows.table.records table.records shows.table.extents table.extents before left volumes.volumes number entry shows.shown (distinct_names shows.table.version shows.table.records shows.table.extents shows.table.is_table) changes used free;
+      shown = removal_is_shown_by shows.table.records table.records shows.table.extents table.extents before left volumes.volumes number entry shows.shown
+          (distinct_names shows.table.version shows.table.records shows.table.extents shows.table.is_table) changes used free;
     }
 
 -- the commands
-pub create_is_shown : (extents : ℕ) (before left : List Block) (volumes : VolumeMap) (name : List ℕ) (count : ℕ) (table : VolumeTable) (number : ℕ) (shows : Shows extents before volumes)
+pub create_is_shown : (extents : ℕ) (before left : List Block) (volumes : VolumeMap) (name : List ℕ) (count : ℕ) (table : VolumeTable) (number : ℕ)
+    (shows : Shows extents before volumes)
     → reply_to extents (Create name count) volumes ≡ Done
     → Spell left table → table.version ≡ volumes.version → ((extent : ℕ) → extents ≤ extent → owner_of table.extents extent ≡ None)
     → ChangesOneRecord EXTENT_SECTORS shows.table.records table.records shows.table.extents table.extents before left number
@@ -181,25 +216,30 @@ create_is_shown extents before left volumes name count table number shows replie
     let same = changed_if_done extents (Create name count) volumes (done_if_not_refused (refusal_of extents (Create name count) volumes) Done replied) in
     let limits = step_keeps extents (Create name count) volumes tt shows.limits in
     subst (Shows extents left) (sym same)
-    (put_is_shown extents before left volumes (record { name = name; blocks = zero_blocks count }) table number shows (subst (AreVolumes extents) same limits) spelled of_version free_beyond changes is_of
+    (put_is_shown extents before left volumes (record { name = name; blocks = zero_blocks count }) table number shows (subst (AreVolumes extents) same limits)
+    spelled of_version free_beyond changes is_of
     (λ entry used. absurd (none-some entry (sym unused ∙ used))))
 
-pub extend_is_shown : (extents : ℕ) (before left : List Block) (volumes : VolumeMap) (growth : ℕ) (table : VolumeTable) (number : ℕ) (entry : Record) (shows : Shows extents before volumes)
+pub extend_is_shown : (extents : ℕ) (before left : List Block) (volumes : VolumeMap) (growth : ℕ) (table : VolumeTable) (number : ℕ) (entry : Record)
+    (shows : Shows extents before volumes)
     → record_of shows.table.records number ≡ Some entry
     → reply_to extents (Extend entry.name.bytes.items growth) volumes ≡ Done
     → Spell left table → table.version ≡ volumes.version → ((extent : ℕ) → extents ≤ extent → owner_of table.extents extent ≡ None)
     → ChangesOneRecord EXTENT_SECTORS shows.table.records table.records shows.table.extents table.extents before left number
-    → IsRecordOf EXTENT_SECTORS table.records table.extents left number (record { name = entry.name.bytes.items; blocks = blocks_in entry.name.bytes.items volumes.volumes ++ zero_blocks growth })
+    → IsRecordOf EXTENT_SECTORS table.records table.extents left number
+    (record { name = entry.name.bytes.items; blocks = blocks_in entry.name.bytes.items volumes.volumes ++ zero_blocks growth })
     → Shows extents left (volumes_after extents (Extend entry.name.bytes.items growth) volumes)
 extend_is_shown extents before left volumes growth table number entry shows used replied spelled of_version free_beyond changes is_of =
     let name = entry.name.bytes.items in
     let same = changed_if_done extents (Extend name growth) volumes (done_if_not_refused (refusal_of extents (Extend name growth) volumes) Done replied) in
     let limits = step_keeps extents (Extend name growth) volumes tt shows.limits in
     subst (Shows extents left) (sym same)
-    (put_is_shown extents before left volumes (record { name = name; blocks = blocks_in name volumes.volumes ++ zero_blocks growth }) table number shows (subst (AreVolumes extents) same limits) spelled of_version free_beyond changes is_of
+    (put_is_shown extents before left volumes (record { name = name; blocks = blocks_in name volumes.volumes ++ zero_blocks growth }) table number shows
+    (subst (AreVolumes extents) same limits) spelled of_version free_beyond changes is_of
     (λ other other_used. ap (λ (r : Record). r.name.bytes.items) (same_Some other entry (sym other_used ∙ used))))
 
-pub remove_is_shown : (extents : ℕ) (before left : List Block) (volumes : VolumeMap) (table : VolumeTable) (number : ℕ) (entry : Record) (shows : Shows extents before volumes)
+pub remove_is_shown : (extents : ℕ) (before left : List Block) (volumes : VolumeMap) (table : VolumeTable) (number : ℕ) (entry : Record)
+    (shows : Shows extents before volumes)
     → record_of shows.table.records number ≡ Some entry
     → reply_to extents (Remove entry.name.bytes.items) volumes ≡ Done
     → Spell left table → table.version ≡ volumes.version → ((extent : ℕ) → extents ≤ extent → owner_of table.extents extent ≡ None)
@@ -211,20 +251,27 @@ remove_is_shown extents before left volumes table number entry shows used replie
     let same = changed_if_done extents (Remove name) volumes (done_if_not_refused (refusal_of extents (Remove name) volumes) Done replied) in
     let limits = step_keeps extents (Remove name) volumes tt shows.limits in
     subst (Shows extents left) (sym same)
-    (removal_is_shown extents before left volumes table number entry shows (subst (AreVolumes extents) same limits) spelled of_version free_beyond changes used free)
+    (removal_is_shown extents before left volumes table number entry shows (subst (AreVolumes extents) same limits) spelled of_version free_beyond changes used
+    free)
 
 -- ---- a rename
 
 -- the volume is taken away with its record, and put back with the record of its new name
-renaming_is_shown_by : (records new_records : List (Option Record)) (owners new_owners : List (Option Owned)) (before left : List Block) (volumes : VolumeList) (number : ℕ) (entry : Record) (name : List ℕ)
-    → AreShown EXTENT_SECTORS records owners before volumes → AreDistinct records → AreDistinct new_records → record_of records number ≡ Some entry → ChangesName records new_records number entry name
+renaming_is_shown_by : (records new_records : List (Option Record)) (owners new_owners : List (Option Owned)) (before left : List Block) (volumes : VolumeList)
+    (number : ℕ) (entry : Record) (name : List ℕ)
+    → AreShown EXTENT_SECTORS records owners before volumes → AreDistinct records → AreDistinct new_records → record_of records number ≡ Some entry
+    → ChangesName records new_records number entry name
     → ((extent : ℕ) → owner_of new_owners extent ≡ owner_of owners extent)
     → ((extent j : ℕ) → get_or left (sector_of_block EXTENT_SECTORS extent j) [] ≡ get_or before (sector_of_block EXTENT_SECTORS extent j) [])
-    → AreShown EXTENT_SECTORS new_records new_owners left (with_volume (record { name = name; blocks = blocks_in entry.name.bytes.items volumes }) (without entry.name.bytes.items volumes))
-renaming_is_shown_by records new_records owners new_owners before left volumes number entry name shown distinct new_distinct used changes same_owner same_sector =
-    subst (λ (blocks : List Block). AreShown EXTENT_SECTORS new_records new_owners left (with_volume (record { name = name; blocks = blocks }) (without old volumes)))
+    → AreShown EXTENT_SECTORS new_records new_owners left
+    (with_volume (record { name = name; blocks = blocks_in entry.name.bytes.items volumes }) (without entry.name.bytes.items volumes))
+renaming_is_shown_by records new_records owners new_owners before left volumes number entry name shown distinct new_distinct used changes same_owner
+    same_sector =
+    subst (λ (blocks : List Block). AreShown EXTENT_SECTORS new_records new_owners left
+    (with_volume (record { name = name; blocks = blocks }) (without old volumes)))
     (sym (ap (λ o. unwrap_or o []) its.named))
-    (put_is_shown_by rest new_records owners new_owners before left (without old volumes) (record { name = name; blocks = its.blocks }) number without_it new_distinct back is_of
+    (put_is_shown_by rest new_records owners new_owners before left (without old volumes) (record { name = name; blocks = its.blocks }) number without_it
+    new_distinct back is_of
     (λ one one_used. absurd (none-some one (sym gone ∙ one_used))))
   where
     old : List ℕ
@@ -268,7 +315,8 @@ renaming_is_shown_by records new_records owners new_owners before left volumes n
       stand = λ j extent below at. same_sector extent j ∙ its.stand j extent below (sym (same_owner extent) ∙ at);
     }
 
-pub rename_is_shown : (extents : ℕ) (before left : List Block) (volumes : VolumeMap) (name : List ℕ) (table : VolumeTable) (number : ℕ) (entry : Record) (shows : Shows extents before volumes)
+pub rename_is_shown : (extents : ℕ) (before left : List Block) (volumes : VolumeMap) (name : List ℕ) (table : VolumeTable) (number : ℕ) (entry : Record)
+    (shows : Shows extents before volumes)
     → record_of shows.table.records number ≡ Some entry
     → reply_to extents (Rename entry.name.bytes.items name) volumes ≡ Done
     → Spell left table → table.version ≡ volumes.version → ChangesName shows.table.records table.records number entry name
@@ -280,14 +328,16 @@ rename_is_shown extents before left volumes name table number entry shows used r
     let was = shows.table in
     let same = changed_if_done extents (Rename old name) volumes (done_if_not_refused (refusal_of extents (Rename old name) volumes) Done replied) in
     let limits = step_keeps extents (Rename old name) volumes tt shows.limits in
-    let after : Shows extents left (with_list (with_volume (record { name = name; blocks = blocks_in old volumes.volumes }) (without old volumes.volumes)) volumes) = record {
+    let after : Shows extents left (with_list (with_volume (record { name = name; blocks = blocks_in old volumes.volumes }) (without old volumes.volumes))
+    volumes) = record {
       limits = subst (AreVolumes extents) same limits;
       table = table;
       of_version = of_version;
       spelled = spelled;
       free_beyond = λ extent above. same_owner extent ∙ shows.free_beyond extent above;
       shown = renaming_is_shown_by was.records table.records was.extents table.extents before left volumes.volumes number entry name shows.shown
-          (distinct_names was.version was.records was.extents was.is_table) (distinct_names table.version table.records table.extents table.is_table) used changes same_owner
+          (distinct_names was.version was.records was.extents was.is_table) (distinct_names table.version table.records table.extents table.is_table) used
+          changes same_owner
           (λ extent j. beyond (sector_of_block EXTENT_SECTORS extent j) (omega (arith, table_short volumes.version)));
     } in
     subst (Shows extents left) (sym same) after
@@ -331,6 +381,7 @@ upgrade_is_shown extents before left volumes table shows spelled of_version same
     still_shown = record {
       used = λ number entry used.
           stands_still shows.table.extents before left volumes.volumes number entry
-          (λ j extent below at. beyond (sector_of_block EXTENT_SECTORS extent j) (omega (arith, table_short LAST_VERSION))) (shows.shown.used number entry used);
+          (λ j extent below at. beyond (sector_of_block EXTENT_SECTORS extent j) (omega (arith, table_short LAST_VERSION)))
+          (shows.shown.used number entry used);
       all = shows.shown.all;
     }

@@ -54,7 +54,8 @@ pub same_map : (first second : VolumeMap) → first.version ≡ second.version �
 same_map first second version volumes = λ i. record { version = version i; volumes = volumes i }
 
 -- lists that are as long, and the same in their first n sectors, begin with the same n sectors
-pub same_first : (n : ℕ) (before now : List Block) → length now ≡ length before → ((sector : ℕ) → sector < n → get_or now sector [] ≡ get_or before sector []) → take n now ≡ take n before
+pub same_first : (n : ℕ) (before now : List Block) → length now ≡ length before → ((sector : ℕ) → sector < n → get_or now sector [] ≡ get_or before sector [])
+    → take n now ≡ take n before
 same_first n before now as_long same =
     same_lists (take n now) (take n before) (omega (arith, length-take n now, length-take n before, as_long)) (λ k d within.
     let less : k < n = omega (arith, within, length-take n now) in

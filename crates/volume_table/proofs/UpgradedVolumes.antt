@@ -32,7 +32,8 @@ pub record IsUpgraded (old new : VolumeTable) : Type 0 where
   pub extents : new.extents ≡ old.extents
 
 -- a map of extents is that of the new table too
-pub kept_upgraded : (geometry now : Geometry) (old new : VolumeTable) (owners : List (Option Owned)) → now ≡ geometry → IsUpgraded old new → AreKept (extents_in geometry) old owners
+pub kept_upgraded : (geometry now : Geometry) (old new : VolumeTable) (owners : List (Option Owned)) → now ≡ geometry → IsUpgraded old new
+    → AreKept (extents_in geometry) old owners
     → AreKept (extents_in now) new owners
 kept_upgraded geometry now old new owners same is kept = subst (λ (g : Geometry). AreKept (extents_in g) new owners) (sym same) record {
   same = kept.same ∙ ap (λ (those : List (Option Owned)). take (extents_in geometry) those) (sym is.extents);
@@ -40,11 +41,13 @@ kept_upgraded geometry now old new owners same is kept = subst (λ (g : Geometry
 }
 
 -- the list that has it shows the same volumes, with the new version
-upgraded_is_shown : (extents : ℕ) (old new : VolumeTable) (V W : List Block) (volumes : VolumeMap) → IsUpgraded old new → (by : ShowsBy extents old V volumes) → HasTable new V W
+upgraded_is_shown : (extents : ℕ) (old new : VolumeTable) (V W : List Block) (volumes : VolumeMap) → IsUpgraded old new → (by : ShowsBy extents old V volumes)
+    → HasTable new V W
     → ShowsBy extents new W (done Upgrade volumes)
 upgraded_is_shown extents old new V W volumes is by has =
     let after : Shows extents W (done Upgrade volumes) =
-    upgrade_is_shown extents V W volumes new by.shows has.spelled is.version (is.records ∙ ap (λ (t : VolumeTable). t.records) (sym by.by)) (is.extents ∙ ap (λ (t : VolumeTable). t.extents) (sym by.by))
+    upgrade_is_shown extents V W volumes new by.shows has.spelled is.version (is.records ∙ ap (λ (t : VolumeTable). t.records) (sym by.by))
+    (is.extents ∙ ap (λ (t : VolumeTable). t.extents) (sym by.by))
     (λ sector past. has.beyond sector (subst (λ (v : ℕ). table_length v ≤ sector) (sym is.version) past)) in
     record { shows = after; by = one_table W after.table new after.spelled has.spelled }
 
@@ -76,7 +79,8 @@ upgrade_applies honest old new result going is true_to changes goes ends = by_re
         (λ V W volumes shown put. shows V W volumes shown (put (begins V volumes shown)))
     by_result (Err refusal) changes goes ends =
         ended_with_volumes honest Upgrade 1 (MayPutTable old.keeps new.keeps) (PutsTable old.keeps new.keeps) old new refusal tt (omega arith) going
-        (ends refusal refl) true_to changes (λ sectors volumes shown. refl) (λ V W volumes shown passed. either V W volumes shown (passed (begins V volumes shown)))
+        (ends refusal refl) true_to changes (λ sectors volumes shown. refl)
+        (λ V W volumes shown passed. either V W volumes shown (passed (begins V volumes shown)))
 
 -- An upgrade that was done changed the version alone, by one entry.
 pub upgrade_kept : (old new : StoreView) (result : Answer) → old.keeps.version ≢ LAST_VERSION → IsUpgraded old.keeps new.keeps
@@ -91,17 +95,20 @@ upgrade_kept old new (Ok unit) differs is one_entry = record {
 upgrade_kept old new (Err refusal) differs is one_entry = tt
 
 -- a map of version 2 is as it was
-nothing_changes : (extents : ℕ) (table : VolumeTable) (V : List Block) (volumes : VolumeMap) → table.version ≡ LAST_VERSION → ShowsBy extents table V volumes → volumes ≡ done Upgrade volumes
+nothing_changes : (extents : ℕ) (table : VolumeTable) (V : List Block) (volumes : VolumeMap) → table.version ≡ LAST_VERSION → ShowsBy extents table V volumes
+    → volumes ≡ done Upgrade volumes
 nothing_changes extents table V volumes is shown =
     let version : volumes.version ≡ 2 = sym shown.shows.of_version ∙ ap (λ (t : VolumeTable). t.version) shown.by ∙ is in
     λ i. record { version = version i; volumes = volumes.volumes }
 
 -- An upgrade of a table of version 2 does nothing.
-pub upgraded_already : (honest : Type 0) (store : StoreView) → store.ended ≡ None → store.keeps.version ≡ LAST_VERSION → (honest → IsTrueTo store.array.panel store.array.history)
+pub upgraded_already : (honest : Type 0) (store : StoreView) → store.ended ≡ None → store.keeps.version ≡ LAST_VERSION
+    → (honest → IsTrueTo store.array.panel store.array.history)
     → UpgradesTable honest store store (Ok tt)
 upgraded_already honest store going is true_to =
     done_with_volumes honest Upgrade 0 IsSame IsSame store store Done tt (omega arith) going going true_to
     (changes_none honest 0 IsSame IsSame store.array (λ V. refl) (λ V. refl)) refl (λ sectors volumes shown. refl) (λ fair lost V volumes rests shown. refl)
     (λ V W volumes shown same. inl (subst (λ (l : List Block). Shows (extents_for_store store) l volumes) (sym same) shown.shows))
-    (λ V W volumes shown same. subst (ShowsBy (extents_for_store store) store.keeps W) (nothing_changes (extents_for_store store) store.keeps V volumes is shown)
+    (λ V W volumes shown same. subst (ShowsBy (extents_for_store store) store.keeps W)
+    (nothing_changes (extents_for_store store) store.keeps V volumes is shown)
     (subst (λ (l : List Block). ShowsBy (extents_for_store store) store.keeps l volumes) (sym same) shown))

@@ -1,5 +1,6 @@
 -- What the words on volumes keep.
-use Rattle.std.proofs.Common.{◌≡◌, ℕ, ◌+◌, ◌≤◌, Bool, true, false, cond, not, List, [], ◌∷◌, length, All, Option, Some, None, refl, sym, ap, ap₂, subst, ◌∙◌, arith}
+use Rattle.std.proofs.Common.{◌≡◌, ℕ, ◌+◌, ◌≤◌, Bool, true, false, cond, not, List, [], ◌∷◌, length, All, Option, Some, None, refl, sym, ap, ap₂, subst, ◌∙◌}
+use Rattle.std.proofs.Common.{arith}
 use Rattle.std.specs.declared.cmp.Ordering.{Ordering}
 use Rattle.std.specs.declared.cmp.Ordering.TheVariants.{Less, Equal, Greater}
 use Rattle.std.specs.Ordering.{match_ordering, is_eq, ordering_reverse}
@@ -52,11 +53,13 @@ none_below name [] below = refl
 none_below name (volume ∷ volumes) below =
     ap (λ o. cond (is_eq o) (Some volume.blocks) (blocks_of name volumes)) below.0 ∙ none_below name volumes below.1
 
-below_with_volume : (name : List ℕ) (new : Volume) (volumes : VolumeList) → name_order name new.name ≡ Less → Below name volumes → Below name (with_volume new volumes)
+below_with_volume : (name : List ℕ) (new : Volume) (volumes : VolumeList) → name_order name new.name ≡ Less → Below name volumes
+    → Below name (with_volume new volumes)
 below_with_volume name new [] less below = (less, tt)
 below_with_volume name new (volume ∷ volumes) less below = by_case (below_with_volume name new volumes less below.1) (name_order new.name volume.name)
   where
-    by_case : (Below name (with_volume new volumes)) → (o : Ordering) → Below name (match_ordering o (new ∷ volume ∷ volumes) (new ∷ volumes) (volume ∷ with_volume new volumes))
+    by_case : (Below name (with_volume new volumes)) → (o : Ordering)
+        → Below name (match_ordering o (new ∷ volume ∷ volumes) (new ∷ volumes) (volume ∷ with_volume new volumes))
     by_case rec Less = (less, below)
     by_case rec Equal = (less, below.1)
     by_case rec Greater = (below.0, rec)
@@ -67,7 +70,8 @@ unfolding IsStrictlySortedBy
 rising_with_volume new [] rising = (tt, tt)
 rising_with_volume new (volume ∷ volumes) rising = by_case (rising_with_volume new volumes rising.1) (name_order new.name volume.name) refl
   where
-    by_case : (Rising (with_volume new volumes)) → (o : Ordering) → name_order new.name volume.name ≡ o → Rising (match_ordering o (new ∷ volume ∷ volumes) (new ∷ volumes) (volume ∷ with_volume new volumes))
+    by_case : (Rising (with_volume new volumes)) → (o : Ordering) → name_order new.name volume.name ≡ o
+        → Rising (match_ordering o (new ∷ volume ∷ volumes) (new ∷ volumes) (volume ∷ with_volume new volumes))
     by_case rec Less e = ((e, below_below new.name volume.name volumes e rising.0), rising)
     by_case rec Equal e = (subst (λ name. Below name volumes) (sym (exact_bytes new.name volume.name e)) rising.0, rising.1)
     by_case rec Greater e = (below_with_volume volume.name new volumes (order_back new.name volume.name e) rising.0, rec)
@@ -80,7 +84,8 @@ All-with_volume P new (volume ∷ volumes) one all = by_case (All-with_volume P 
     rest : All P volumes
     rest = All-tail P volume volumes all
 
-    by_case : (All P (with_volume new volumes)) → (o : Ordering) → All P (match_ordering o (new ∷ volume ∷ volumes) (new ∷ volumes) (volume ∷ with_volume new volumes))
+    by_case : (All P (with_volume new volumes)) → (o : Ordering)
+        → All P (match_ordering o (new ∷ volume ∷ volumes) (new ∷ volumes) (volume ∷ with_volume new volumes))
     by_case rec Less = All-cons P new (volume ∷ volumes) one all
     by_case rec Equal = All-cons P new volumes one rest
     by_case rec Greater = All-cons P volume (with_volume new volumes) (All-head P volume volumes all) rec
@@ -101,11 +106,13 @@ unfolding IsStrictlySortedBy total of_found
 total_with_volume f new [] rising = omega arith
 total_with_volume f new (volume ∷ volumes) rising = by_case (total_with_volume f new volumes rising.1) (name_order new.name volume.name) refl
   where
-    by_case : (total f (with_volume new volumes) + of_found f (blocks_of new.name volumes) ≡ total f volumes + f new.blocks) → (o : Ordering) → name_order new.name volume.name ≡ o
+    by_case : (total f (with_volume new volumes) + of_found f (blocks_of new.name volumes) ≡ total f volumes + f new.blocks) → (o : Ordering)
+        → name_order new.name volume.name ≡ o
         → total f (match_ordering o (new ∷ volume ∷ volumes) (new ∷ volumes) (volume ∷ with_volume new volumes))
         + of_found f (cond (is_eq o) (Some volume.blocks) (blocks_of new.name volumes)) ≡ f volume.blocks + total f volumes + f new.blocks
     by_case rec Less e =
-        let none : of_found f (blocks_of new.name volumes) ≡ 0 = ap (of_found f) (none_below new.name volumes (below_below new.name volume.name volumes e rising.0)) in
+        let none : of_found f (blocks_of new.name volumes) ≡ 0 =
+        ap (of_found f) (none_below new.name volumes (below_below new.name volume.name volumes e rising.0)) in
         omega (arith, none)
     by_case rec Equal e = omega arith
     by_case rec Greater e = omega (arith, rec)
@@ -121,13 +128,15 @@ need_is_total [] = refl
 need_is_total (volume ∷ volumes) = ap (λ n. extents_for EXTENT_SECTORS (length volume.blocks) + n) (need_is_total volumes)
 
 -- one volume more where there was none of this name
-pub length-with_new : (new : Volume) (volumes : VolumeList) → Rising volumes → blocks_of new.name volumes ≡ None → length (with_volume new volumes) ≡ length volumes + 1
+pub length-with_new : (new : Volume) (volumes : VolumeList) → Rising volumes → blocks_of new.name volumes ≡ None
+    → length (with_volume new volumes) ≡ length volumes + 1
 unfolding of_found
 length-with_new new volumes rising none =
     let one : of_found (λ blocks. 1) (blocks_of new.name volumes) ≡ 0 = ap (of_found (λ blocks. 1)) none in
     omega (arith, one, length_is_total volumes, length_is_total (with_volume new volumes), total_with_volume (λ blocks. 1) new volumes rising)
 
-pub need-with_new : (new : Volume) (volumes : VolumeList) → Rising volumes → blocks_of new.name volumes ≡ None → need EXTENT_SECTORS (with_volume new volumes) ≡ need EXTENT_SECTORS volumes + extents_for EXTENT_SECTORS (length new.blocks)
+pub need-with_new : (new : Volume) (volumes : VolumeList) → Rising volumes → blocks_of new.name volumes ≡ None
+    → need EXTENT_SECTORS (with_volume new volumes) ≡ need EXTENT_SECTORS volumes + extents_for EXTENT_SECTORS (length new.blocks)
 unfolding of_found
 need-with_new new volumes rising none =
     let f : List Block → ℕ = λ blocks. extents_for EXTENT_SECTORS (length blocks) in
@@ -135,14 +144,16 @@ need-with_new new volumes rising none =
     omega (arith, one, need_is_total volumes, need_is_total (with_volume new volumes), total_with_volume f new volumes rising)
 
 -- as many volumes where there was one of this name
-pub length-with_other : (new : Volume) (volumes : VolumeList) (blocks : List Block) → Rising volumes → blocks_of new.name volumes ≡ Some blocks → length (with_volume new volumes) ≡ length volumes
+pub length-with_other : (new : Volume) (volumes : VolumeList) (blocks : List Block) → Rising volumes → blocks_of new.name volumes ≡ Some blocks
+    → length (with_volume new volumes) ≡ length volumes
 unfolding of_found
 length-with_other new volumes blocks rising some =
     let one : of_found (λ blocks. 1) (blocks_of new.name volumes) ≡ 1 = ap (of_found (λ blocks. 1)) some in
     omega (arith, one, length_is_total volumes, length_is_total (with_volume new volumes), total_with_volume (λ blocks. 1) new volumes rising)
 
 pub need-with_other : (new : Volume) (volumes : VolumeList) (blocks : List Block) → Rising volumes → blocks_of new.name volumes ≡ Some blocks
-    → need EXTENT_SECTORS (with_volume new volumes) + extents_for EXTENT_SECTORS (length blocks) ≡ need EXTENT_SECTORS volumes + extents_for EXTENT_SECTORS (length new.blocks)
+    → need EXTENT_SECTORS (with_volume new volumes) + extents_for EXTENT_SECTORS (length blocks) ≡ need EXTENT_SECTORS volumes + extents_for EXTENT_SECTORS
+    (length new.blocks)
 unfolding of_found
 need-with_other new volumes blocks rising some =
     let f : List Block → ℕ = λ blocks. extents_for EXTENT_SECTORS (length blocks) in
@@ -157,7 +168,8 @@ found_with_volume new (volume ∷ volumes) = by_case (found_with_volume new volu
     first : (rest : VolumeList) → blocks_of new.name (new ∷ rest) ≡ Some new.blocks
     first rest = ap (λ (b : Bool). cond b (Some new.blocks) (blocks_of new.name rest)) (same_name_itself new.name)
 
-    by_case : (blocks_of new.name (with_volume new volumes) ≡ Some new.blocks) → (o : Ordering) → name_order new.name volume.name ≡ o → blocks_of new.name (match_ordering o (new ∷ volume ∷ volumes) (new ∷ volumes) (volume ∷ with_volume new volumes)) ≡ Some new.blocks
+    by_case : (blocks_of new.name (with_volume new volumes) ≡ Some new.blocks) → (o : Ordering) → name_order new.name volume.name ≡ o
+        → blocks_of new.name (match_ordering o (new ∷ volume ∷ volumes) (new ∷ volumes) (volume ∷ with_volume new volumes)) ≡ Some new.blocks
     by_case rec Less e = first (volume ∷ volumes)
     by_case rec Equal e = first volumes
     by_case rec Greater e = ap (λ o. cond (is_eq o) (Some volume.blocks) (blocks_of new.name (with_volume new volumes))) e ∙ rec
@@ -171,7 +183,8 @@ other_name first second apart = by_case (is_same_name first second) refl
     by_case false e = refl
 
 -- the volumes of other names stay
-pub others_with_volume : (name : List ℕ) (new : Volume) (volumes : VolumeList) → (name ≡ new.name → ⊥) → blocks_of name (with_volume new volumes) ≡ blocks_of name volumes
+pub others_with_volume : (name : List ℕ) (new : Volume) (volumes : VolumeList) → (name ≡ new.name → ⊥)
+    → blocks_of name (with_volume new volumes) ≡ blocks_of name volumes
 others_with_volume name new [] apart = ap (λ (b : Bool). cond b (Some new.blocks) None) (other_name name new.name apart)
 others_with_volume name new (volume ∷ volumes) apart = by_case (others_with_volume name new volumes apart) (name_order new.name volume.name) refl
   where
@@ -187,11 +200,14 @@ others_with_volume name new (volume ∷ volumes) apart = by_case (others_with_vo
     by_case rec Greater e = ap (λ rest. cond (is_same_name name volume.name) (Some volume.blocks) rest) rec
 
 -- what holds of all volumes holds of the one that is found
-pub found_has : (P : Volume → Type 0) (name : List ℕ) (volumes : VolumeList) (blocks : List Block) → All P volumes → blocks_of name volumes ≡ Some blocks → P (record { name = name; blocks = blocks })
+pub found_has : (P : Volume → Type 0) (name : List ℕ) (volumes : VolumeList) (blocks : List Block) → All P volumes → blocks_of name volumes ≡ Some blocks
+    → P (record { name = name; blocks = blocks })
 found_has P name [] blocks all some = absurd (none-some blocks some)
-found_has P name (volume ∷ volumes) blocks all some = by_case (found_has P name volumes blocks (All-tail P volume volumes all)) (is_same_name name volume.name) refl some
+found_has P name (volume ∷ volumes) blocks all some = by_case (found_has P name volumes blocks (All-tail P volume volumes all)) (is_same_name name volume.name)
+    refl some
   where
-    by_case : (blocks_of name volumes ≡ Some blocks → P (record { name = name; blocks = blocks })) → (b : Bool) → is_same_name name volume.name ≡ b → cond b (Some volume.blocks) (blocks_of name volumes) ≡ Some blocks → P (record { name = name; blocks = blocks })
+    by_case : (blocks_of name volumes ≡ Some blocks → P (record { name = name; blocks = blocks })) → (b : Bool) → is_same_name name volume.name ≡ b
+        → cond b (Some volume.blocks) (blocks_of name volumes) ≡ Some blocks → P (record { name = name; blocks = blocks })
     by_case rec true e h =
         subst (λ other. P (record { name = other; blocks = blocks })) (sym (same_name_is name volume.name e))
         (subst (λ others. P (record { name = volume.name; blocks = others })) (same_Some volume.blocks blocks h) (All-head P volume volumes all))
@@ -219,7 +235,8 @@ pub length-without : (name : List ℕ) (volumes : VolumeList) → length (withou
 length-without name [] = omega arith
 length-without name (volume ∷ volumes) = by_case (length-without name volumes) (is_same_name name volume.name)
   where
-    by_case : (length (without name volumes) ≤ length volumes) → (b : Bool) → length (cond (not b) (volume ∷ without name volumes) (without name volumes)) ≤ length (volume ∷ volumes)
+    by_case : (length (without name volumes) ≤ length volumes) → (b : Bool)
+        → length (cond (not b) (volume ∷ without name volumes) (without name volumes)) ≤ length (volume ∷ volumes)
     by_case rec true = omega (arith, rec)
     by_case rec false = omega (arith, rec)
 
@@ -227,7 +244,8 @@ pub need-without : (name : List ℕ) (volumes : VolumeList) → need EXTENT_SECT
 need-without name [] = omega arith
 need-without name (volume ∷ volumes) = by_case (need-without name volumes) (is_same_name name volume.name)
   where
-    by_case : (need EXTENT_SECTORS (without name volumes) ≤ need EXTENT_SECTORS volumes) → (b : Bool) → need EXTENT_SECTORS (cond (not b) (volume ∷ without name volumes) (without name volumes)) ≤ need EXTENT_SECTORS (volume ∷ volumes)
+    by_case : (need EXTENT_SECTORS (without name volumes) ≤ need EXTENT_SECTORS volumes) → (b : Bool)
+        → need EXTENT_SECTORS (cond (not b) (volume ∷ without name volumes) (without name volumes)) ≤ need EXTENT_SECTORS (volume ∷ volumes)
     by_case rec true = omega (arith, rec)
     by_case rec false = omega (arith, rec)
 
@@ -236,7 +254,8 @@ pub gone_without : (name : List ℕ) (volumes : VolumeList) → blocks_of name (
 gone_without name [] = refl
 gone_without name (volume ∷ volumes) = by_case (gone_without name volumes) (is_same_name name volume.name) refl
   where
-    by_case : (blocks_of name (without name volumes) ≡ None) → (b : Bool) → is_same_name name volume.name ≡ b → blocks_of name (cond (not b) (volume ∷ without name volumes) (without name volumes)) ≡ None
+    by_case : (blocks_of name (without name volumes) ≡ None) → (b : Bool) → is_same_name name volume.name ≡ b
+        → blocks_of name (cond (not b) (volume ∷ without name volumes) (without name volumes)) ≡ None
     by_case rec true e = rec
     by_case rec false e = ap (λ (b : Bool). cond b (Some volume.blocks) (blocks_of name (without name volumes))) e ∙ rec
 
@@ -245,10 +264,12 @@ pub others_without : (other name : List ℕ) (volumes : VolumeList) → (other �
 others_without other name [] apart = refl
 others_without other name (volume ∷ volumes) apart = by_case (others_without other name volumes apart) (is_same_name name volume.name) refl
   where
-    by_case : (blocks_of other (without name volumes) ≡ blocks_of other volumes) → (b : Bool) → is_same_name name volume.name ≡ b → blocks_of other (cond (not b) (volume ∷ without name volumes) (without name volumes)) ≡ blocks_of other (volume ∷ volumes)
+    by_case : (blocks_of other (without name volumes) ≡ blocks_of other volumes) → (b : Bool) → is_same_name name volume.name ≡ b
+        → blocks_of other (cond (not b) (volume ∷ without name volumes) (without name volumes)) ≡ blocks_of other (volume ∷ volumes)
     by_case rec true e =
         rec
-        ∙ sym (ap (λ (b : Bool). cond b (Some volume.blocks) (blocks_of other volumes)) (other_name other volume.name (λ same. apart (same ∙ sym (same_name_is name volume.name e)))))
+        ∙ sym (ap (λ (b : Bool). cond b (Some volume.blocks) (blocks_of other volumes))
+        (other_name other volume.name (λ same. apart (same ∙ sym (same_name_is name volume.name e)))))
     by_case rec false e = ap (λ rest. cond (is_same_name other volume.name) (Some volume.blocks) rest) rec
 
 -- volumes in their order are known by the blocks of each name
@@ -256,8 +277,10 @@ first_is_found : (volume : Volume) (volumes : VolumeList) → blocks_of volume.n
 first_is_found volume volumes = ap (λ (b : Bool). cond b (Some volume.blocks) (blocks_of volume.name volumes)) (same_name_itself volume.name)
 
 -- who is found on one side alone
-found_on_one_side : (volume : Volume) (volumes others : VolumeList) → Below volume.name others → ((name : List ℕ) → blocks_of name (volume ∷ volumes) ≡ blocks_of name others) → ⊥
-found_on_one_side volume volumes others below same = none-some volume.blocks (sym (none_below volume.name others below) ∙ sym (same volume.name) ∙ first_is_found volume volumes)
+found_on_one_side : (volume : Volume) (volumes others : VolumeList) → Below volume.name others
+    → ((name : List ℕ) → blocks_of name (volume ∷ volumes) ≡ blocks_of name others) → ⊥
+found_on_one_side volume volumes others below same = none-some volume.blocks (sym (none_below volume.name others below) ∙ sym (same volume.name)
+    ∙ first_is_found volume volumes)
 
 -- where the first volumes have one name, the others agree as well
 rest_agrees : (first second : Volume) (firsts seconds : VolumeList) → Below first.name firsts → Below second.name seconds → first.name ≡ second.name
@@ -274,7 +297,8 @@ rest_agrees first second firsts seconds below_first below_second one same name =
         ∙ sym (none_below name seconds (subst (λ n. Below n seconds) (sym (is_first ∙ one)) below_second))
     by_case false e = sym (skip first firsts e) ∙ same name ∙ skip second seconds (sym (ap (is_same_name name) one) ∙ e)
 
-pub known_by_blocks : (first second : VolumeList) → Rising first → Rising second → ((name : List ℕ) → blocks_of name first ≡ blocks_of name second) → first ≡ second
+pub known_by_blocks : (first second : VolumeList) → Rising first → Rising second → ((name : List ℕ) → blocks_of name first ≡ blocks_of name second)
+    → first ≡ second
 unfolding IsStrictlySortedBy
 known_by_blocks [] [] one two same = refl
 known_by_blocks [] (volume ∷ volumes) one two same = absurd (found_on_one_side volume volumes [] tt (λ name. sym (same name)))
@@ -282,7 +306,8 @@ known_by_blocks (volume ∷ volumes) [] one two same = absurd (found_on_one_side
 known_by_blocks (first ∷ firsts) (second ∷ seconds) one two same =
     by_case (λ agree. known_by_blocks firsts seconds one.1 two.1 agree) (name_order first.name second.name) refl
   where
-    by_case : (((name : List ℕ) → blocks_of name firsts ≡ blocks_of name seconds) → firsts ≡ seconds) → (o : Ordering) → name_order first.name second.name ≡ o → first ∷ firsts ≡ second ∷ seconds
+    by_case : (((name : List ℕ) → blocks_of name firsts ≡ blocks_of name seconds) → firsts ≡ seconds) → (o : Ordering) → name_order first.name second.name ≡ o
+        → first ∷ firsts ≡ second ∷ seconds
     by_case rec Less e = absurd (found_on_one_side first firsts (second ∷ seconds) (e, below_below first.name second.name seconds e two.0) same)
     by_case rec Equal e =
         let name_same : first.name ≡ second.name = exact_bytes first.name second.name e in
@@ -299,7 +324,8 @@ known_by_blocks (first ∷ firsts) (second ∷ seconds) one two same =
 put_back : (name : List ℕ) (volumes : VolumeList) (blocks : List Block) → Rising volumes → blocks_of name volumes ≡ Some blocks
     → with_volume (record { name = name; blocks = blocks }) (without name volumes) ≡ volumes
 put_back name volumes blocks rising some =
-    known_by_blocks (with_volume it (without name volumes)) volumes (rising_with_volume it (without name volumes) (rising_without name volumes rising)) rising (λ other. by_name other (is_same_name other name) refl)
+    known_by_blocks (with_volume it (without name volumes)) volumes (rising_with_volume it (without name volumes) (rising_without name volumes rising)) rising
+    (λ other. by_name other (is_same_name other name) refl)
   where
     it : Volume
     it = record { name = name; blocks = blocks }
@@ -307,13 +333,15 @@ put_back name volumes blocks rising some =
     by_name : (other : List ℕ) (b : Bool) → is_same_name other name ≡ b → blocks_of other (with_volume it (without name volumes)) ≡ blocks_of other volumes
     by_name other true e =
         let same : other ≡ name = same_name_is other name e in
-        ap (λ n. blocks_of n (with_volume it (without name volumes))) same ∙ found_with_volume it (without name volumes) ∙ sym some ∙ ap (λ n. blocks_of n volumes) (sym same)
+        ap (λ n. blocks_of n (with_volume it (without name volumes))) same ∙ found_with_volume it (without name volumes) ∙ sym some
+        ∙ ap (λ n. blocks_of n volumes) (sym same)
     by_name other false e =
         let apart : other ≡ name → ⊥ = λ same. true≢false (sym (same_name_itself name) ∙ ap (λ n. is_same_name n name) (sym same) ∙ e) in
         others_with_volume other it (without name volumes) apart ∙ others_without other name volumes apart
 
 -- so there is one volume less without it, and they need as many extents less
-pub length-without_one : (name : List ℕ) (volumes : VolumeList) (blocks : List Block) → Rising volumes → blocks_of name volumes ≡ Some blocks → length volumes ≡ length (without name volumes) + 1
+pub length-without_one : (name : List ℕ) (volumes : VolumeList) (blocks : List Block) → Rising volumes → blocks_of name volumes ≡ Some blocks
+    → length volumes ≡ length (without name volumes) + 1
 length-without_one name volumes blocks rising some =
     ap length (sym (put_back name volumes blocks rising some))
     ∙ length-with_new (record { name = name; blocks = blocks }) (without name volumes) (rising_without name volumes rising) (gone_without name volumes)

@@ -1,7 +1,9 @@
 -- Small runs of commands are computed.
 use Rattle.std.proofs.Common.{refl}
 use Rattle.extents.specs.Versions.{most_name_bytes, most_volumes}
-use Rattle.volume_table.specs.Rows.{ExtendIntoNewExtent, ExtendKeepsAndZeroes, FillThenNoSpace, LargestVolume, ListRises, LongNames, NamesAtTheLimits, OneBlockTooMany, ReadsAtTheLimits, RefusedCommands, RenameScript, ReusedIsZero, SixtyFourVolumes, ThirtyTwoBlocks, ThirtyTwoVolumes, WriteOutOfRange}
+use Rattle.volume_table.specs.Rows.{ExtendIntoNewExtent, ExtendKeepsAndZeroes, FillThenNoSpace, LargestVolume, ListRises, LongNames, NamesAtTheLimits}
+use Rattle.volume_table.specs.Rows.{OneBlockTooMany, ReadsAtTheLimits, RefusedCommands, RenameScript, ReusedIsZero, SixtyFourVolumes, ThirtyTwoBlocks}
+use Rattle.volume_table.specs.Rows.{ThirtyTwoVolumes, WriteOutOfRange}
 
 pub fill_then_no_space : FillThenNoSpace
 unfolding most_name_bytes most_volumes

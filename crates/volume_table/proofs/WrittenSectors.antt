@@ -18,8 +18,10 @@ written_elsewhere V (sector ∷ sectors) k apart =
     ∙ written_elsewhere V sectors k (λ i within. apart (suc i) (omega (arith, within)))
 
 -- and one that is among them is as given
-pub written_at : (V : List Block) (sectors : List (ℕ × Block)) (i : ℕ) → ((a b : ℕ) → a < b → b < length sectors → (get_or sectors a no_sector).0 ≢ (get_or sectors b no_sector).0)
-    → i < length sectors → (get_or sectors i no_sector).0 < length V → get_or (written V sectors) (get_or sectors i no_sector).0 [] ≡ (get_or sectors i no_sector).1
+pub written_at : (V : List Block) (sectors : List (ℕ × Block)) (i : ℕ)
+    → ((a b : ℕ) → a < b → b < length sectors → (get_or sectors a no_sector).0 ≢ (get_or sectors b no_sector).0)
+    → i < length sectors → (get_or sectors i no_sector).0 < length V
+    → get_or (written V sectors) (get_or sectors i no_sector).0 [] ≡ (get_or sectors i no_sector).1
 written_at V [] i apart within below = absurd (omega (arith, within))
 written_at V (sector ∷ sectors) zero apart within below =
     get_or-set_same (written V sectors) sector.0 sector.1 [] (omega (arith, below, length-written V sectors))

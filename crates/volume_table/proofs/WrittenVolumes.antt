@@ -1,5 +1,6 @@
 -- A write of blocks, by what its calls of the array do.
-use Rattle.std.proofs.Common.{◌≡◌, ◌⊎◌, inl, inr, ℕ, zero, suc, ◌<◌, List, [], ◌∷◌, length, take, get_or, All, Option, Some, None, Ok, Err, refl, sym, ◌∙◌, ap, ap₂, subst, arith}
+use Rattle.std.proofs.Common.{◌≡◌, ◌⊎◌, inl, inr, ℕ, zero, suc, ◌<◌, List, [], ◌∷◌, length, take, get_or, All, Option, Some, None, Ok, Err, refl, sym, ◌∙◌, ap}
+use Rattle.std.proofs.Common.{ap₂, subst, arith}
 use Rattle.std.specs.Prelude.{Contains}
 use Rattle.sector_model.specs.declared.refusal.Refusal.{Refusal}
 use Rattle.sector_model.specs.declared.refusal.Refusal.TheVariants.{BadCount, NoVolume, OutOfRange}
@@ -29,7 +30,8 @@ use Rattle.volume_table.proofs.StoreSteps.{done_with_volumes, ended_with_volumes
 use Rattle.layout_map.specs.declared.sizes.TheConstants.{EXTENT_SECTORS}
 
 -- the first sectors are the same where each of them is
-pub first_same : (n : ℕ) (before left : List Block) → length left ≡ length before → ((sector : ℕ) → sector < n → get_or left sector [] ≡ get_or before sector []) → take n left ≡ take n before
+pub first_same : (n : ℕ) (before left : List Block) → length left ≡ length before
+    → ((sector : ℕ) → sector < n → get_or left sector [] ≡ get_or before sector []) → take n left ≡ take n before
 first_same zero before left long each = refl
 first_same (suc n) [] [] long each = refl
 first_same (suc n) [] (block ∷ left) long each = absurd (omega (arith, long))
@@ -38,7 +40,8 @@ first_same (suc n) (block ∷ before) (new ∷ left) long each =
     ap₂ (λ b bs. b ∷ bs) (each 0 (omega arith)) (first_same n before left (omega (arith, long)) (λ sector below. each (suc sector) (omega (arith, below))))
 
 -- what is written by the map that a store keeps is written by its table
-written_by_table : (extents : ℕ) (table : VolumeTable) (owners : List (Option Owned)) (number at : ℕ) (blocks before left : List Block) → AreKept extents table owners
+written_by_table : (extents : ℕ) (table : VolumeTable) (owners : List (Option Owned)) (number at : ℕ) (blocks before left : List Block)
+    → AreKept extents table owners
     → HasWritten EXTENT_SECTORS owners number at blocks before left → HasWritten EXTENT_SECTORS table.extents number at blocks before left
 written_by_table extents table owners number at blocks before left kept has = record {
   inside = λ j extent below there. has.inside j extent below (kept_owner extents table owners kept extent ∙ there);
@@ -46,19 +49,23 @@ written_by_table extents table owners number at blocks before left kept has = re
 }
 
 -- the table stands below all blocks
-table_stays : (version : ℕ) (owners : List (Option Owned)) (number at : ℕ) (blocks before left : List Block) → IsWrittenAt EXTENT_SECTORS owners number at blocks before left
+table_stays : (version : ℕ) (owners : List (Option Owned)) (number at : ℕ) (blocks before left : List Block)
+    → IsWrittenAt EXTENT_SECTORS owners number at blocks before left
     → take (table_length version) left ≡ take (table_length version) before
 table_stays version owners number at blocks before left is =
     first_same (table_length version) before left is.as_long
     (λ sector below. is.written.outside sector (λ j extent within there same. absurd (omega (arith, below, same, table_length_most version))))
 
 -- a list with blocks written shows the volumes after the write, by the same table
-write_shows : (extents : ℕ) (table : VolumeTable) (owners : List (Option Owned)) (name : List ℕ) (number at : ℕ) (blocks before left : List Block) (volumes : VolumeMap)
+write_shows : (extents : ℕ) (table : VolumeTable) (owners : List (Option Owned)) (name : List ℕ) (number at : ℕ) (blocks before left : List Block)
+    (volumes : VolumeMap)
     → AreKept extents table owners → HasRecordAt table.records name number → All IsBlock blocks → ShowsBy extents table before volumes
-    → None ≡ refusal_of extents (Write name at blocks) volumes → IsWrittenAt EXTENT_SECTORS owners number at blocks before left → ShowsBy extents table left (done (Write name at blocks) volumes)
+    → None ≡ refusal_of extents (Write name at blocks) volumes → IsWrittenAt EXTENT_SECTORS owners number at blocks before left
+    → ShowsBy extents table left (done (Write name at blocks) volumes)
 write_shows extents table owners name number at blocks before left volumes kept found whole shown admitted is = record {
   shows = after;
-  by = one_table left after.table table after.spelled (table_stays table.version owners number at blocks before left is ∙ subst (Spell before) shown.by shown.shows.spelled);
+  by = one_table left after.table table after.spelled (table_stays table.version owners number at blocks before left is
+      ∙ subst (Spell before) shown.by shown.shows.spelled);
 }
   where
     is_done : reply_to extents (Write name at blocks) volumes ≡ Done
@@ -75,34 +82,47 @@ write_shows extents table owners name number at blocks before left volumes kept 
         (written_by_table extents table owners number at blocks before left kept is.written))))
 
 -- A write that is admitted, by its one call.
-pub write_applies : (honest : Type 0) (name : List ℕ) (at : ℕ) (blocks : List Block) (old new : StoreView) (owners : List (Option Owned)) (number : ℕ) (result : Answer)
-    → old.ended ≡ None → AreKept (extents_for_store old) old.keeps owners → ∥ IsWithinVolume old.keeps.records name number at (length blocks) ∥₁ → All IsBlock blocks
-    → ((extents : ℕ) (sectors : List Block) (volumes : VolumeMap) → ShowsBy extents old.keeps sectors volumes → None ≡ refusal_of extents (Write name at blocks) volumes)
+pub write_applies : (honest : Type 0) (name : List ℕ) (at : ℕ) (blocks : List Block) (old new : StoreView) (owners : List (Option Owned)) (number : ℕ)
+    (result : Answer)
+    → old.ended ≡ None → AreKept (extents_for_store old) old.keeps owners → ∥ IsWithinVolume old.keeps.records name number at (length blocks) ∥₁
+    → All IsBlock blocks
+    → ((extents : ℕ) (sectors : List Block) (volumes : VolumeMap) → ShowsBy extents old.keeps sectors volumes
+    → None ≡ refusal_of extents (Write name at blocks) volumes)
     → (honest → IsTrueTo new.array.panel new.array.history)
-    → ChangesList honest 1 (IsSameOr (IsWrittenAt EXTENT_SECTORS owners number at blocks)) (IsWrittenAt EXTENT_SECTORS owners number at blocks) old.array new.array result
+    → ChangesList honest 1 (IsSameOr (IsWrittenAt EXTENT_SECTORS owners number at blocks)) (IsWrittenAt EXTENT_SECTORS owners number at blocks) old.array
+    new.array result
     → new.keeps ≡ old.keeps → (result ≡ Ok tt → new.ended ≡ None) → ((refusal : Refusal) → result ≡ Err refusal → new.ended ≡ Some refusal)
     → WritesBlocks honest name at blocks old new result
-write_applies honest name at blocks old new owners number result going kept within whole admitted true_to changes keeps goes ends = by_result result changes goes ends
+write_applies honest name at blocks old new owners number result going kept within whole admitted true_to changes keeps goes ends =
+    by_result result changes goes ends
   where
-    shows : (V W : List Block) (volumes : VolumeMap) → ShowsBy (extents_for_store old) old.keeps V volumes → IsWrittenAt EXTENT_SECTORS owners number at blocks V W
+    shows : (V W : List Block) (volumes : VolumeMap) → ShowsBy (extents_for_store old) old.keeps V volumes
+        → IsWrittenAt EXTENT_SECTORS owners number at blocks V W
         → ShowsBy (extents_for_store old) old.keeps W (done (Write name at blocks) volumes)
     shows V W volumes shown is =
-        write_shows (extents_for_store old) old.keeps owners name number at blocks V W volumes kept (within_record old.keeps.records name number at (length blocks) within) whole shown
+        write_shows (extents_for_store old) old.keeps owners name number at blocks V W volumes kept
+        (within_record old.keeps.records name number at (length blocks) within) whole shown
         (admitted (extents_for_store old) V volumes shown) is
 
-    on_the_way : (V W : List Block) (volumes : VolumeMap) → ShowsBy (extents_for_store old) old.keeps V volumes → IsSameOr (IsWrittenAt EXTENT_SECTORS owners number at blocks) V W
+    on_the_way : (V W : List Block) (volumes : VolumeMap) → ShowsBy (extents_for_store old) old.keeps V volumes
+        → IsSameOr (IsWrittenAt EXTENT_SECTORS owners number at blocks) V W
         → Shows (extents_for_store old) W volumes ⊎ Shows (extents_for_store old) W (done (Write name at blocks) volumes)
     on_the_way V W volumes shown (inl same) = inl (subst (λ (l : List Block). Shows (extents_for_store old) l volumes) (sym same) shown.shows)
     on_the_way V W volumes shown (inr is) = inr (shows V W volumes shown is).shows
 
-    by_result : (result : Answer) → ChangesList honest 1 (IsSameOr (IsWrittenAt EXTENT_SECTORS owners number at blocks)) (IsWrittenAt EXTENT_SECTORS owners number at blocks) old.array new.array result
-        → (result ≡ Ok tt → new.ended ≡ None) → ((refusal : Refusal) → result ≡ Err refusal → new.ended ≡ Some refusal) → WritesBlocks honest name at blocks old new result
+    by_result : (result : Answer) → ChangesList honest 1 (IsSameOr (IsWrittenAt EXTENT_SECTORS owners number at blocks))
+        (IsWrittenAt EXTENT_SECTORS owners number at blocks) old.array new.array result
+        → (result ≡ Ok tt → new.ended ≡ None) → ((refusal : Refusal) → result ≡ Err refusal → new.ended ≡ Some refusal)
+        → WritesBlocks honest name at blocks old new result
     by_result (Ok unit) changes goes ends =
-        done_with_volumes honest (Write name at blocks) 1 (IsSameOr (IsWrittenAt EXTENT_SECTORS owners number at blocks)) (IsWrittenAt EXTENT_SECTORS owners number at blocks) old new Done whole (omega arith) going (goes refl)
+        done_with_volumes honest (Write name at blocks) 1 (IsSameOr (IsWrittenAt EXTENT_SECTORS owners number at blocks))
+        (IsWrittenAt EXTENT_SECTORS owners number at blocks) old new Done whole (omega arith) going (goes refl)
         true_to changes refl (admitted (extents_for_store old)) (λ fair lost V volumes rests shown. refl) on_the_way
-        (λ V W volumes shown is. subst (λ (t : VolumeTable). ShowsBy (extents_for_store old) t W (done (Write name at blocks) volumes)) (sym keeps) (shows V W volumes shown is))
+        (λ V W volumes shown is. subst (λ (t : VolumeTable). ShowsBy (extents_for_store old) t W (done (Write name at blocks) volumes)) (sym keeps)
+        (shows V W volumes shown is))
     by_result (Err refusal) changes goes ends =
-        ended_with_volumes honest (Write name at blocks) 1 (IsSameOr (IsWrittenAt EXTENT_SECTORS owners number at blocks)) (IsWrittenAt EXTENT_SECTORS owners number at blocks) old new refusal whole (omega arith) going (ends refusal refl)
+        ended_with_volumes honest (Write name at blocks) 1 (IsSameOr (IsWrittenAt EXTENT_SECTORS owners number at blocks))
+        (IsWrittenAt EXTENT_SECTORS owners number at blocks) old new refusal whole (omega arith) going (ends refusal refl)
         true_to changes (admitted (extents_for_store old)) on_the_way
 
 -- What a write is refused with at once does not end the store.
@@ -114,7 +134,8 @@ not_ended refusal (suc (suc (suc k)), below, is) ends = absurd (omega (arith, be
 
 pub write_is_refused : (honest : Type 0) (name : List ℕ) (at : ℕ) (blocks : List Block) (store : StoreView) (refusal : Refusal) → store.ended ≡ None
     → Contains (NoVolume ∷ BadCount ∷ OutOfRange ∷ []) refusal
-    → ((extents : ℕ) (sectors : List Block) (volumes : VolumeMap) → ShowsBy extents store.keeps sectors volumes → Some refusal ≡ refusal_of extents (Write name at blocks) volumes)
+    → ((extents : ℕ) (sectors : List Block) (volumes : VolumeMap) → ShowsBy extents store.keeps sectors volumes
+    → Some refusal ≡ refusal_of extents (Write name at blocks) volumes)
     → WritesBlocks honest name at blocks store store (Err refusal)
 write_is_refused honest name at blocks store refusal going among refuses =
     refused_at_once honest (Write name at blocks) store refusal going among (not_ended refusal among) (refuses (extents_for_store store))

@@ -1,5 +1,6 @@
 -- Blocks of a volume are made zero, some at a time.
-use Rattle.std.proofs.Common.{◌≡◌, ◌⊎◌, inl, inr, ℕ, ◌+◌, ◌-◌, ◌*◌, ◌/◌, ◌%◌, ◌<◌, ◌≤◌, List, [], length, get_or, replicate, Option, Some, None, refl, sym, ◌∙◌, ap, subst, arith}
+use Rattle.std.proofs.Common.{◌≡◌, ◌⊎◌, inl, inr, ℕ, ◌+◌, ◌-◌, ◌*◌, ◌/◌, ◌%◌, ◌<◌, ◌≤◌, List, [], length, get_or, replicate, Option, Some, None, refl, sym, ◌∙◌}
+use Rattle.std.proofs.Common.{ap, subst, arith}
 use Rattle.std.specs.Prelude.{Ok, Err}
 use Rattle.std.proofs.lemmas.Bool.{cases_eq, cases_lt}
 use Rattle.std.proofs.lemmas.List.{get_or-replicate, length-replicate}
@@ -28,10 +29,13 @@ module _ (owners : List (Option Owned)) (number first last sector : ℕ) where
   of_extent : (is : IsOfBlocks EXTENT_SECTORS owners number first last sector) → is.extent ≡ place
   of_extent is = omega (arith, is.is)
 
-  owned_is : (owned : Owned) → owner_of owners place ≡ Some owned → (is : IsOfBlocks EXTENT_SECTORS owners number first last sector) → owned ≡ record { volume = number; place = is.block / EXTENT_SECTORS }
-  owned_is owned at is = same_owned owned (record { volume = number; place = is.block / EXTENT_SECTORS }) (sym at ∙ ap (owner_of owners) (sym (of_extent is)) ∙ is.at)
+  owned_is : (owned : Owned) → owner_of owners place ≡ Some owned → (is : IsOfBlocks EXTENT_SECTORS owners number first last sector)
+      → owned ≡ record { volume = number; place = is.block / EXTENT_SECTORS }
+  owned_is owned at is = same_owned owned (record { volume = number; place = is.block / EXTENT_SECTORS })
+      (sym at ∙ ap (owner_of owners) (sym (of_extent is)) ∙ is.at)
 
-  by_owned : (above : RESERVED_SECTORS ≤ sector) (owned : Owned) → owner_of owners place ≡ Some owned → IsOfBlocks EXTENT_SECTORS owners number first last sector ⊎ ¬ IsOfBlocks EXTENT_SECTORS owners number first last sector
+  by_owned : (above : RESERVED_SECTORS ≤ sector) (owned : Owned) → owner_of owners place ≡ Some owned
+      → IsOfBlocks EXTENT_SECTORS owners number first last sector ⊎ ¬ IsOfBlocks EXTENT_SECTORS owners number first last sector
   by_owned above owned at = elim (cases_eq owned.volume number) [
     | inr other ↦ inr (λ is. other (ap (λ (o : Owned). o.volume) (owned_is owned at is)))
     | inl same ↦
@@ -56,7 +60,8 @@ module _ (owners : List (Option Owned)) (number first last sector : ℕ) where
         ]
   ]
 
-  by_owner : (above : RESERVED_SECTORS ≤ sector) (owner : Option Owned) → owner_of owners place ≡ owner → IsOfBlocks EXTENT_SECTORS owners number first last sector ⊎ ¬ IsOfBlocks EXTENT_SECTORS owners number first last sector
+  by_owner : (above : RESERVED_SECTORS ≤ sector) (owner : Option Owned) → owner_of owners place ≡ owner
+      → IsOfBlocks EXTENT_SECTORS owners number first last sector ⊎ ¬ IsOfBlocks EXTENT_SECTORS owners number first last sector
   by_owner above None free = inr (λ is. none-some _ (sym free ∙ ap (owner_of owners) (sym (of_extent is)) ∙ is.at))
   by_owner above (Some owned) at = by_owned above owned at
 
@@ -82,7 +87,8 @@ module _ (owners : List (Option Owned)) (number first at count : ℕ) (blocks V 
       let below : j < count = omega (arith, is.least, is.most) in
       let block_is : at + j ≡ is.block = omega (arith, is.least) in
       ap (λ (s : ℕ). get_or W s []) (is.is ∙ ap (λ (b : ℕ). sector_of_block EXTENT_SECTORS is.extent b) (sym block_is))
-      ∙ written.written.inside j is.extent (omega (arith, below, as_many)) (subst (λ (b : ℕ). IsAt owners is.extent number (b / EXTENT_SECTORS)) (sym block_is) is.at)
+      ∙ written.written.inside j is.extent (omega (arith, below, as_many))
+      (subst (λ (b : ℕ). IsAt owners is.extent number (b / EXTENT_SECTORS)) (sym block_is) is.at)
       ∙ ap (λ (bs : List Block). get_or bs j []) zeros ∙ get_or-replicate {A = Block} count j zero_block [] below
 
   same_elsewhere : (sector : ℕ) → ¬ IsOfBlocks EXTENT_SECTORS owners number at (at + count) sector → get_or W sector [] ≡ get_or U sector []
@@ -99,10 +105,24 @@ module _ (owners : List (Option Owned)) (number first at count : ℕ) (blocks V 
   partly_more last within order = record {
     as_long = written.as_long ∙ zeroed.partly.as_long;
     each = λ sector. elim (of_blocks_or_not owners number at (at + count) sector) [
-      | inl is ↦ inr (zero_here sector is, record { block = is.block; extent = is.extent; least = omega (arith, is.least, order); most = omega (arith, is.most, within); at = is.at; is = is.is })
+      | inl is ↦ inr (
+        zero_here sector is,
+        record {
+          block = is.block;
+          extent = is.extent;
+          least = omega (arith, is.least, order);
+          most =
+              omega (arith, is.most, within);
+          at = is.at;
+          is = is.is;
+        },
+      )
       | inr none ↦ elim (zeroed.partly.each sector) [
         | inl same ↦ inl (same_elsewhere sector none ∙ same)
-        | inr is ↦ inr (same_elsewhere sector none ∙ is.0, record { block = is.1.block; extent = is.1.extent; least = is.1.least; most = omega (arith, is.1.most, within); at = is.1.at; is = is.1.is })
+        | inr is ↦ inr (
+          same_elsewhere sector none ∙ is.0,
+          record { block = is.1.block; extent = is.1.extent; least = is.1.least; most = omega (arith, is.1.most, within); at = is.1.at; is = is.1.is },
+        )
       ]
     ];
   }
@@ -127,12 +147,24 @@ module _ (owners : List (Option Owned)) (number first at count : ℕ) (blocks V 
   }
 
 -- what is zero up to some block is partly zero up to a later one
-partly_later : (owners : List (Option Owned)) (number first at last : ℕ) (V U : List Block) → at ≤ last → IsZeroed EXTENT_SECTORS owners number first at V U → IsPartlyZero EXTENT_SECTORS owners number first last V U
+partly_later : (owners : List (Option Owned)) (number first at last : ℕ) (V U : List Block) → at ≤ last → IsZeroed EXTENT_SECTORS owners number first at V U
+    → IsPartlyZero EXTENT_SECTORS owners number first last V U
 partly_later owners number first at last V U within zeroed = record {
   as_long = zeroed.partly.as_long;
   each = λ sector. elim (zeroed.partly.each sector) [
     | inl same ↦ inl same
-    | inr is ↦ inr (is.0, record { block = is.1.block; extent = is.1.extent; least = is.1.least; most = omega (arith, is.1.most, within); at = is.1.at; is = is.1.is })
+    | inr is ↦ inr (
+      is.0,
+      record {
+        block = is.1.block;
+        extent = is.1.extent;
+        least = is.1.least;
+        most = omega (arith, is.1.most, within);
+        at = is.1.at;
+        is =
+            is.1.is;
+      },
+    )
   ];
 }
 
@@ -149,9 +181,11 @@ pub record IsZeroing (honest still : Type 0) (owners : List (Option Owned)) (num
   pub back : still → honest
   pub least : first ≤ at
   pub most : at ≤ last
-  pub changes : ChangesList honest (at - first) (IsPartlyZero EXTENT_SECTORS owners number first last) (IsZeroed EXTENT_SECTORS owners number first at) old now (Ok tt)
+  pub changes : ChangesList honest (at - first) (IsPartlyZero EXTENT_SECTORS owners number first last) (IsZeroed EXTENT_SECTORS owners number first at) old now
+      (Ok tt)
 
-pub zeroing_begins : (honest : Type 0) (owners : List (Option Owned)) (number first last : ℕ) (old : ArrayView) → first ≤ last → IsZeroing honest honest owners number first last first old old
+pub zeroing_begins : (honest : Type 0) (owners : List (Option Owned)) (number first last : ℕ) (old : ArrayView) → first ≤ last
+    → IsZeroing honest honest owners number first last first old old
 zeroing_begins honest owners number first last old order = record {
   forth = λ is. is;
   back = λ is. is;
@@ -161,12 +195,17 @@ zeroing_begins honest owners number first last old order = record {
       (λ V. record { as_long = refl; each = λ sector. inl refl }) (none_zeroed owners number first);
 }
 
-module _ (honest still : Type 0) (owners : List (Option Owned)) (number first last at count : ℕ) (blocks : List Block) (old mid new : ArrayView) (zeros : AreZero blocks count) (within : at + count ≤ last)
+module _ (honest still : Type 0) (owners : List (Option Owned)) (number first last at count : ℕ) (blocks : List Block) (old mid new : ArrayView)
+    (zeros : AreZero blocks count) (within : at + count ≤ last)
     (some : 1 ≤ count) (zeroing : IsZeroing honest still owners number first last at old mid) (true_mid : still → IsTrueTo mid.panel mid.history) where
-  both : (answer : Answer) → ChangesList still 1 (IsSameOr (IsWrittenAt EXTENT_SECTORS owners number at blocks)) (IsWrittenAt EXTENT_SECTORS owners number at blocks) mid new answer
-      → ChangesList honest (at - first + 1) (IsPartlyZero EXTENT_SECTORS owners number first last) (IsZeroed EXTENT_SECTORS owners number first (at + count)) old new answer
-  both answer writes = changes_both honest still zeroing.forth (at - first) 1 (IsPartlyZero EXTENT_SECTORS owners number first last) (IsZeroed EXTENT_SECTORS owners number first at)
-      (IsSameOr (IsWrittenAt EXTENT_SECTORS owners number at blocks)) (IsWrittenAt EXTENT_SECTORS owners number at blocks) (IsPartlyZero EXTENT_SECTORS owners number first last) (IsZeroed EXTENT_SECTORS owners number first (at + count))
+  both : (answer : Answer) → ChangesList still 1 (IsSameOr (IsWrittenAt EXTENT_SECTORS owners number at blocks))
+      (IsWrittenAt EXTENT_SECTORS owners number at blocks) mid new answer
+      → ChangesList honest (at - first + 1) (IsPartlyZero EXTENT_SECTORS owners number first last) (IsZeroed EXTENT_SECTORS owners number first (at + count))
+      old new answer
+  both answer writes = changes_both honest still zeroing.forth (at - first) 1 (IsPartlyZero EXTENT_SECTORS owners number first last)
+      (IsZeroed EXTENT_SECTORS owners number first at)
+      (IsSameOr (IsWrittenAt EXTENT_SECTORS owners number at blocks)) (IsWrittenAt EXTENT_SECTORS owners number at blocks)
+      (IsPartlyZero EXTENT_SECTORS owners number first last) (IsZeroed EXTENT_SECTORS owners number first (at + count))
       old mid new answer (λ is. true_mid (zeroing.forth is)) zeroing.changes writes (λ V W partly. partly)
       (λ V U W zeroed either. elim either [
         | inl same ↦ partly_later owners number first at last V W zeroing.most (subst (IsZeroed EXTENT_SECTORS owners number first at V) (sym same) zeroed)
@@ -182,12 +221,18 @@ module _ (honest still : Type 0) (owners : List (Option Owned)) (number first la
     back = λ is. zeroing.back (back is);
     least = omega (arith, zeroing.least);
     most = within;
-    changes = changes_more honest (at - first + 1) (at + count - first) (IsPartlyZero EXTENT_SECTORS owners number first last) (IsZeroed EXTENT_SECTORS owners number first (at + count))
-        (IsPartlyZero EXTENT_SECTORS owners number first last) (IsZeroed EXTENT_SECTORS owners number first (at + count)) old new (Ok tt) (omega (arith, zeroing.least, some)) (both (Ok tt) writes)
+    changes = changes_more honest (at - first + 1) (at + count - first) (IsPartlyZero EXTENT_SECTORS owners number first last)
+        (IsZeroed EXTENT_SECTORS owners number first (at + count))
+        (IsPartlyZero EXTENT_SECTORS owners number first last) (IsZeroed EXTENT_SECTORS owners number first (at + count)) old new (Ok tt)
+        (omega (arith, zeroing.least, some)) (both (Ok tt) writes)
         (λ lost V W rests is. is) (λ lost V W rests is. is);
   }
 
-  pub zeroing_refused : (refusal : Refusal) → ChangesList still 1 (IsSameOr (IsWrittenAt EXTENT_SECTORS owners number at blocks)) (IsWrittenAt EXTENT_SECTORS owners number at blocks) mid new (Err refusal)
-      → ChangesList honest (last - first) (IsPartlyZero EXTENT_SECTORS owners number first last) (IsZeroed EXTENT_SECTORS owners number first last) old new (Err refusal)
-  zeroing_refused refusal writes = changes_refused honest (at - first + 1) (last - first) (IsPartlyZero EXTENT_SECTORS owners number first last) (IsZeroed EXTENT_SECTORS owners number first (at + count))
-      (IsPartlyZero EXTENT_SECTORS owners number first last) (IsZeroed EXTENT_SECTORS owners number first last) old new refusal (omega (arith, zeroing.least, some, within)) (both (Err refusal) writes) (λ V W is. is)
+  pub zeroing_refused : (refusal : Refusal) → ChangesList still 1 (IsSameOr (IsWrittenAt EXTENT_SECTORS owners number at blocks))
+      (IsWrittenAt EXTENT_SECTORS owners number at blocks) mid new (Err refusal)
+      → ChangesList honest (last - first) (IsPartlyZero EXTENT_SECTORS owners number first last) (IsZeroed EXTENT_SECTORS owners number first last) old new
+      (Err refusal)
+  zeroing_refused refusal writes = changes_refused honest (at - first + 1) (last - first) (IsPartlyZero EXTENT_SECTORS owners number first last)
+      (IsZeroed EXTENT_SECTORS owners number first (at + count))
+      (IsPartlyZero EXTENT_SECTORS owners number first last) (IsZeroed EXTENT_SECTORS owners number first last) old new refusal
+      (omega (arith, zeroing.least, some, within)) (both (Err refusal) writes) (λ V W is. is)

@@ -11,7 +11,8 @@ use Rattle.volume_table.specs.Listing.{told}
 use Rattle.volume_table.specs.Stands.{StoreView}
 use Rattle.volume_table.specs.StoreCalls.{Applies, EndsStore}
 use Rattle.volume_table.specs.StoreFunctions.{Answer}
-use Rattle.volume_table.specs.VolumeStep.{Blocks, Create, Done, Event, Extend, Fail, Names, OnSet, OnVolumes, Progressed, Read, RebuildStep, Refused, Remove, Rename, Replace, Reply, Scrub, Scrubbed, Upgrade, Volumes, Write}
+use Rattle.volume_table.specs.VolumeStep.{Blocks, Create, Done, Event, Extend, Fail, Names, OnSet, OnVolumes, Progressed, Read, RebuildStep, Refused, Remove}
+use Rattle.volume_table.specs.VolumeStep.{Rename, Replace, Reply, Scrub, Scrubbed, Upgrade, Volumes, Write}
 
 -- what a store is asked
 abbrev pub event_of : asked.Event → Event

@@ -16,7 +16,8 @@ use Rattle.volume_table.specs.VolumeStep.{Event, OnSet, OnVolumes, Refused, Repl
 use Rattle.volume_table.specs.Stands.{IsSettledOn, StoreView, extents_in}
 use Rattle.volume_table.specs.StoreCalls.{LacksMemory, lost_in}
 use Rattle.volume_table.specs.Opening.{IsNoOpening, Opened, Outcome, Returned}
-use Rattle.volume_table.specs.Runs.{Does, Fate, Run, Runs, Serving, Session, none_done, then_done, World, in_assembling, assembled, unopened, in_opening, between_events, in_event, no_more, next_run, begun_with}
+use Rattle.volume_table.specs.Runs.{Does, Fate, Run, Runs, Serving, Session, none_done, then_done, World, in_assembling, assembled, unopened, in_opening}
+use Rattle.volume_table.specs.Runs.{between_events, in_event, no_more, next_run, begun_with}
 
 -- What went before: the volumes that a store was opened with, the events of its run, and how many of them were acknowledged.
 pub record Before : Type 0 where
@@ -39,29 +40,35 @@ IsRight extents volumes (OnSet Scrub) after reply = IsComplete after.array.table
 IsRight extents volumes (OnSet command) after reply = Unit {0}
 
 -- so are events that are done one after another
-abbrev pub AreRight : {slots : ℕ} {events : List Event} {replies : List Reply} {old new : Serving} → (extents : ℕ) → VolumeMap → Does slots events replies old new → Type 0
+abbrev pub AreRight : {slots : ℕ} {events : List Event} {replies : List Reply} {old new : Serving} → (extents : ℕ) → VolumeMap
+    → Does slots events replies old new → Type 0
 AreRight extents volumes none_done = Unit {0}
-AreRight extents volumes (then_done mid event reply done rest) = IsRight extents volumes event mid.store reply × AreRight extents (left_by extents event volumes) rest
+AreRight extents volumes (then_done mid event reply done rest) = IsRight extents volumes event mid.store reply
+    × AreRight extents (left_by extents event volumes) rest
 
 -- with one slot lost at most, assembling is refused only where a counter stands at 2^62
 abbrev pub IsAssembledUnlessWorn : List ℕ → (slots : ℕ) → Option Lost → BankView → recovery.Outcome → Type 0
 IsAssembledUnlessWorn id slots lost old (recovery.Opened array) = Unit {0}
-IsAssembledUnlessWorn id slots lost old (recovery.Returned bank refusal) = IsSingleFailure slots lost bank.history → (refusal ≡ Worn) × IsNoAssembly id old bank Worn
+IsAssembledUnlessWorn id slots lost old (recovery.Returned bank refusal) = IsSingleFailure slots lost bank.history → (refusal ≡ Worn)
+    × IsNoAssembly id old bank Worn
 
 -- and so is opening
 abbrev pub IsOpenedUnlessWorn : (slots : ℕ) → Option Lost → ArrayView → Outcome → Type 0
 IsOpenedUnlessWorn slots lost array (Opened store) = Unit {0}
-IsOpenedUnlessWorn slots lost array (Returned bank refusal) = IsSingleFailure slots lost bank.history → (refusal ≡ Worn) × IsNoOpening (Unit {0}) array bank Worn
+IsOpenedUnlessWorn slots lost array (Returned bank refusal) = IsSingleFailure slots lost bank.history → (refusal ≡ Worn)
+    × IsNoOpening (Unit {0}) array bank Worn
 
 -- The store was opened with volumes after a prefix, with every acknowledged event, of the events before; and all events were answered rightly.
-pub record IsServed {slots : ℕ} {events : List Event} {replies : List Reply} {first serving : Serving} (extents : ℕ) (before : Before) (does : Does slots events replies first serving)
+pub record IsServed {slots : ℕ} {events : List Event} {replies : List Reply} {first serving : Serving} (extents : ℕ) (before : Before)
+    (does : Does slots events replies first serving)
     (volumes : VolumeMap) : Type 0 where
   pub after_prefix : IsAfterPrefix extents before volumes
   pub settled : IsSettledOn first.store first.fate.lost volumes
   pub right : AreRight extents volumes does
 
 -- A session keeps the promise, and what comes after it by what then went before.
-abbrev pub SessionKeeps : (extents slots : ℕ) → Before → {array : ArrayView} {fate : Fate} {left : World} → Session slots array fate left → (Before → Type 0) → Type 0
+abbrev pub SessionKeeps : (extents slots : ℕ) → Before → {array : ArrayView} {fate : Fate} {left : World} → Session slots array fate left → (Before → Type 0)
+    → Type 0
 SessionKeeps extents slots before (unopened crashes) later = later before
 SessionKeeps extents slots before {array = array} {fate = fate} (in_opening outcome opens true_to crashes) later =
     IsOpenedUnlessWorn slots fate.lost array outcome × later before
@@ -73,7 +80,8 @@ SessionKeeps extents slots before (in_event first serving events replies event s
     × (IsSingleFailure slots (lost_in event serving.store.array.table serving.fate.lost) store.array.history → reply ≢ Refused TwoLost)
     × later (record { volumes = volumes; events = events ++ event ∷ []; acknowledged = length events })
 
-abbrev pub RunKeeps : (id : List ℕ) (extents slots : ℕ) → Before → {panel : Panel} {world left : World} → Run id slots panel world left → (Before → Type 0) → Type 0
+abbrev pub RunKeeps : (id : List ℕ) (extents slots : ℕ) → Before → {panel : Panel} {world left : World} → Run id slots panel world left → (Before → Type 0)
+    → Type 0
 RunKeeps id extents slots before {panel = panel} {world = world} (in_assembling outcome assembles crashes) later =
     IsAssembledUnlessWorn id slots world.fate.lost (begun_with panel world.image) outcome × later before
 RunKeeps id extents slots before (assembled array fate is session) later = SessionKeeps extents slots before session later

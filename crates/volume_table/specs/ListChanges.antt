@@ -41,7 +41,8 @@ pub record RestsOnSome (before : Option Lost) (array : ArrayView) (kind : Kind) 
 abbrev pub IsNumberFull : (entries : ℕ) (old new : ArrayView) → Type 0
 IsNumberFull entries old new = (GREATEST_COUNT ≤ old.number + entries) × (GREATEST_COUNT ≤ new.number)
 
--- Calls that write so many entries at most. From settled on some list, each case holds at each moment for lists that differ from it as `passes` says; at Ok the array is settled
+-- Calls that write so many entries at most. From settled on some list, each case holds at each moment for lists that differ from it as `passes` says; at Ok the
+-- array is settled
 -- on one that differs as `leaves` says. 15, 16.
 pub record ChangesList (honest : Type 0) (entries : ℕ) (passes leaves : Change) (old new : ArrayView) (answer : Answer) : Type 0 where
   pub goes_on : GoesOn old new

@@ -1,10 +1,12 @@
 -- Small runs of commands, worked out by hand.
 use Rattle.std.specs.Prelude.{◌≡◌, ℕ, ◌+◌, ◌/◌, ◌%◌, false, List, [], ◌∷◌, ◌++◌, map, replicate, codes, None}
 use Rattle.std.specs.List.{range_with_len}
-use Rattle.sector_model.specs.declared.refusal.Refusal.TheVariants.{BadName, BadSize, Exists, TooManyVolumes, NoSpace, NoVolume, BadCount, OutOfRange, WouldLose, NotMissing, Incomplete}
+use Rattle.sector_model.specs.declared.refusal.Refusal.TheVariants.{BadName, BadSize, Exists, TooManyVolumes, NoSpace, NoVolume, BadCount, OutOfRange}
+use Rattle.sector_model.specs.declared.refusal.Refusal.TheVariants.{WouldLose, NotMissing, Incomplete}
 use Rattle.superblock.specs.declared.state.State.TheVariants.{InSync}
 use Rattle.volume_table.specs.Volumes.{Block, zero_block, VolumeMap, no_volumes}
-use Rattle.volume_table.specs.VolumeStep.{Command, Create, Extend, Remove, Read, Write, Rename, Names, Upgrade, SetCommand, Fail, Replace, RebuildStep, Scrub, OnSet, Reply, Done, Blocks, Volumes, Progressed, Scrubbed, Refused, reply_to, volumes_after}
+use Rattle.volume_table.specs.VolumeStep.{Command, Create, Extend, Remove, Read, Write, Rename, Names, Upgrade, SetCommand, Fail, Replace, RebuildStep, Scrub}
+use Rattle.volume_table.specs.VolumeStep.{OnSet, Reply, Done, Blocks, Volumes, Progressed, Scrubbed, Refused, reply_to, volumes_after}
 use Rattle.rebuild.specs.Rebuilding.{Complete, Position}
 use Rattle.volume_table.specs.SetReplies.{SetState, Devices, set_reply, set_after}
 
@@ -22,32 +24,38 @@ abbrev pub OneBlockTooMany : Type 0
 OneBlockTooMany = replies 7 (Create (codes "a") 449 ∷ Names ∷ []) no_volumes ≡ Refused NoSpace ∷ Volumes [] ∷ []
 
 abbrev pub ExtendIntoNewExtent : Type 0
-ExtendIntoNewExtent = replies 7 (Create (codes "a") 64 ∷ Extend (codes "a") 1 ∷ Read (codes "a") 64 1 ∷ []) no_volumes ≡ Done ∷ Done ∷ Blocks (zero_block ∷ []) ∷ []
+ExtendIntoNewExtent = replies 7 (Create (codes "a") 64 ∷ Extend (codes "a") 1 ∷ Read (codes "a") 64 1 ∷ []) no_volumes ≡ Done ∷ Done ∷ Blocks (zero_block ∷ [])
+    ∷ []
 
 -- growth keeps the last block and appends zeros
 abbrev pub ExtendKeepsAndZeroes : Type 0
-ExtendKeepsAndZeroes = (block : Block) → replies 7 (Create (codes "a") 10 ∷ Write (codes "a") 9 (block ∷ []) ∷ Extend (codes "a") 10 ∷ Read (codes "a") 9 2 ∷ []) no_volumes
+ExtendKeepsAndZeroes = (block : Block) → replies 7 (Create (codes "a") 10 ∷ Write (codes "a") 9 (block ∷ []) ∷ Extend (codes "a") 10 ∷ Read (codes "a") 9 2
+    ∷ []) no_volumes
     ≡ Done ∷ Done ∷ Done ∷ Blocks (block ∷ zero_block ∷ []) ∷ []
 
 -- blocks of a volume that is gone are zero in the next
 abbrev pub ReusedIsZero : Type 0
 ReusedIsZero = (block : Block) → replies 7
     (Create (codes "a") 128 ∷ Write (codes "a") 0 (replicate 32 block) ∷ Write (codes "a") 32 (replicate 32 block) ∷ Write (codes "a") 64 (replicate 32 block)
-    ∷ Remove (codes "a") ∷ Create (codes "b") 10 ∷ Extend (codes "b") 118 ∷ Read (codes "b") 0 1 ∷ Read (codes "b") 10 1 ∷ Read (codes "b") 64 1 ∷ []) no_volumes
+    ∷ Remove (codes "a") ∷ Create (codes "b") 10 ∷ Extend (codes "b") 118 ∷ Read (codes "b") 0 1 ∷ Read (codes "b") 10 1 ∷ Read (codes "b") 64 1 ∷ [])
+    no_volumes
     ≡ replicate 7 Done ++ replicate 3 (Blocks (zero_block ∷ []))
 
 -- 32 blocks are written at most, and 1 at least
 abbrev pub ThirtyTwoBlocks : Type 0
-ThirtyTwoBlocks = (block : Block) → replies 7 (Create (codes "a") 128 ∷ Write (codes "a") 48 (replicate 32 block) ∷ Write (codes "a") 48 (replicate 33 block) ∷ Write (codes "a") 48 [] ∷ []) no_volumes
+ThirtyTwoBlocks = (block : Block) → replies 7 (Create (codes "a") 128 ∷ Write (codes "a") 48 (replicate 32 block) ∷ Write (codes "a") 48 (replicate 33 block)
+    ∷ Write (codes "a") 48 [] ∷ []) no_volumes
     ≡ Done ∷ Done ∷ Refused BadCount ∷ Refused BadCount ∷ []
 
 -- a write past the end writes nothing
 abbrev pub WriteOutOfRange : Type 0
-WriteOutOfRange = (first second : Block) → replies 7 (Create (codes "a") 64 ∷ Write (codes "a") 63 (first ∷ second ∷ []) ∷ Read (codes "a") 63 1 ∷ []) no_volumes
+WriteOutOfRange = (first second : Block) → replies 7 (Create (codes "a") 64 ∷ Write (codes "a") 63 (first ∷ second ∷ []) ∷ Read (codes "a") 63 1 ∷ [])
+    no_volumes
     ≡ Done ∷ Refused OutOfRange ∷ Blocks (zero_block ∷ []) ∷ []
 
 abbrev pub RefusedCommands : Type 0
-RefusedCommands = replies 7 (Create (codes "A") 0 ∷ Create (codes "a") 0 ∷ Create (codes "a") 65537 ∷ Read (codes "b") 0 0 ∷ Extend (codes "b") 0 ∷ Remove (codes "b") ∷ []) no_volumes
+RefusedCommands = replies 7 (Create (codes "A") 0 ∷ Create (codes "a") 0 ∷ Create (codes "a") 65537 ∷ Read (codes "b") 0 0 ∷ Extend (codes "b") 0
+    ∷ Remove (codes "b") ∷ []) no_volumes
     ≡ Refused BadName ∷ Refused BadSize ∷ Refused BadSize ∷ Refused NoVolume ∷ Refused NoVolume ∷ Refused NoVolume ∷ []
 
 -- 65,536 blocks are a volume that needs 1,024 extents
@@ -56,12 +64,14 @@ LargestVolume = (reply_to 1024 (Create (codes "a") 65536) no_volumes ≡ Done) �
 
 -- 32 blocks are read at most, and 1 at least; the name is looked at first, then the number, then the range
 abbrev pub ReadsAtTheLimits : Type 0
-ReadsAtTheLimits = replies 7 (Create (codes "a") 40 ∷ Read (codes "a") 8 32 ∷ Read (codes "a") 9 32 ∷ Read (codes "a") 0 33 ∷ Read (codes "a") 0 0 ∷ Read (codes "a") 99 33 ∷ Read (codes "b") 99 33 ∷ []) no_volumes
+ReadsAtTheLimits = replies 7 (Create (codes "a") 40 ∷ Read (codes "a") 8 32 ∷ Read (codes "a") 9 32 ∷ Read (codes "a") 0 33 ∷ Read (codes "a") 0 0
+    ∷ Read (codes "a") 99 33 ∷ Read (codes "b") 99 33 ∷ []) no_volumes
     ≡ Done ∷ Blocks (replicate 32 zero_block) ∷ Refused OutOfRange ∷ Refused BadCount ∷ Refused BadCount ∷ Refused BadCount ∷ Refused NoVolume ∷ []
 
 -- names of 24 bytes, and of 25; a name begins with a letter
 abbrev pub NamesAtTheLimits : Type 0
-NamesAtTheLimits = replies 7 (Create (codes "a23456789-123456789_1234") 1 ∷ Create (codes "a23456789-123456789_12345") 1 ∷ Create (codes "1a") 1 ∷ Create (codes "-a") 1 ∷ Create (codes "aB") 1 ∷ Create [] 1 ∷ []) no_volumes
+NamesAtTheLimits = replies 7 (Create (codes "a23456789-123456789_1234") 1 ∷ Create (codes "a23456789-123456789_12345") 1 ∷ Create (codes "1a") 1
+    ∷ Create (codes "-a") 1 ∷ Create (codes "aB") 1 ∷ Create [] 1 ∷ []) no_volumes
     ≡ Done ∷ replicate 5 (Refused BadName)
 
 -- 'v' and two digits
@@ -70,16 +80,19 @@ numbered_name n = 118 ∷ (48 + n / 10) ∷ (48 + n % 10) ∷ []
 
 -- 32 volumes of a block each need 32 of 33 extents, and there may be no 33rd volume
 abbrev pub ThirtyTwoVolumes : Type 0
-ThirtyTwoVolumes = replies 33 (map (λ n. Create (numbered_name n) 1) (range_with_len 0 32) ++ Create (codes "w") 1 ∷ []) no_volumes ≡ replicate 32 Done ++ Refused TooManyVolumes ∷ []
+ThirtyTwoVolumes = replies 33 (map (λ n. Create (numbered_name n) 1) (range_with_len 0 32) ++ Create (codes "w") 1 ∷ []) no_volumes ≡ replicate 32 Done
+    ++ Refused TooManyVolumes ∷ []
 
 -- with a table of version 2 there may be 64
 abbrev pub SixtyFourVolumes : Type 0
-SixtyFourVolumes = replies 64 (map (λ n. Create (numbered_name n) 1) (range_with_len 0 32) ++ Create (codes "w") 1 ∷ Upgrade ∷ map (λ n. Create (numbered_name n) 1) (range_with_len 32 32) ++ Create (codes "w") 1 ∷ []) no_volumes
+SixtyFourVolumes = replies 64 (map (λ n. Create (numbered_name n) 1) (range_with_len 0 32) ++ Create (codes "w") 1 ∷ Upgrade
+    ∷ map (λ n. Create (numbered_name n) 1) (range_with_len 32 32) ++ Create (codes "w") 1 ∷ []) no_volumes
     ≡ replicate 32 Done ++ Refused TooManyVolumes ∷ replicate 33 Done ++ Refused TooManyVolumes ∷ []
 
 -- and names of 63 bytes
 abbrev pub LongNames : Type 0
-LongNames = replies 7 (Create (replicate 25 97) 1 ∷ Upgrade ∷ Create (replicate 25 97) 1 ∷ Create (replicate 63 98) 1 ∷ Create (replicate 64 99) 1 ∷ Upgrade ∷ []) no_volumes
+LongNames = replies 7 (Create (replicate 25 97) 1 ∷ Upgrade ∷ Create (replicate 25 97) 1 ∷ Create (replicate 63 98) 1 ∷ Create (replicate 64 99) 1 ∷ Upgrade
+    ∷ []) no_volumes
     ≡ Refused BadName ∷ Done ∷ Done ∷ Done ∷ Refused BadName ∷ Done ∷ []
 
 -- the list is in rising byte order, whatever the order of creation
@@ -113,13 +126,17 @@ FailRefusals = set_replies (Fail 5 ∷ Replace 0 ∷ Scrub ∷ Fail 0 ∷ Fail 1
 
 -- a member is rebuilt in steps of at most 64 rows
 abbrev pub RebuildInSteps : Type 0
-RebuildInSteps = set_replies (Fail 2 ∷ Replace 2 ∷ RebuildStep 64 ∷ RebuildStep 0 ∷ RebuildStep 100 ∷ RebuildStep 64 ∷ Scrub ∷ RebuildStep 64 ∷ Scrub ∷ []) complete_set
-    ≡ Done ∷ Done ∷ Progressed (Position 64) ∷ Progressed (Position 64) ∷ Progressed (Position 128) ∷ Progressed (Position 192) ∷ Refused Incomplete ∷ Progressed Complete ∷ Scrubbed 256 0 None ∷ []
+RebuildInSteps = set_replies (Fail 2 ∷ Replace 2 ∷ RebuildStep 64 ∷ RebuildStep 0 ∷ RebuildStep 100 ∷ RebuildStep 64 ∷ Scrub ∷ RebuildStep 64 ∷ Scrub ∷ [])
+    complete_set
+    ≡ Done ∷ Done ∷ Progressed (Position 64) ∷ Progressed (Position 64) ∷ Progressed (Position 128) ∷ Progressed (Position 192) ∷ Refused Incomplete
+    ∷ Progressed Complete ∷ Scrubbed 256 0 None ∷ []
 
 -- a step of no rows moves nothing, none has more than 64, and the last is not full
 abbrev pub RebuildPositions : Type 0
-RebuildPositions = set_replies (Fail 0 ∷ Replace 0 ∷ RebuildStep 0 ∷ RebuildStep 1000 ∷ RebuildStep 1 ∷ RebuildStep 64 ∷ RebuildStep 64 ∷ RebuildStep 64 ∷ []) complete_set
-    ≡ Done ∷ Done ∷ Progressed (Position 0) ∷ Progressed (Position 64) ∷ Progressed (Position 65) ∷ Progressed (Position 129) ∷ Progressed (Position 193) ∷ Progressed Complete ∷ []
+RebuildPositions = set_replies (Fail 0 ∷ Replace 0 ∷ RebuildStep 0 ∷ RebuildStep 1000 ∷ RebuildStep 1 ∷ RebuildStep 64 ∷ RebuildStep 64 ∷ RebuildStep 64 ∷ [])
+    complete_set
+    ≡ Done ∷ Done ∷ Progressed (Position 0) ∷ Progressed (Position 64) ∷ Progressed (Position 65) ∷ Progressed (Position 129) ∷ Progressed (Position 193)
+    ∷ Progressed Complete ∷ []
 
 -- a journal is whole when it has joined
 abbrev pub JournalJoins : Type 0

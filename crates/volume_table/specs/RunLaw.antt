@@ -8,7 +8,8 @@ use Rattle.volume_table.specs.StoreCalls.{Applies, extents_for_store, lost_in}
 use Rattle.volume_table.specs.StoreFunctions.{Chain, none_done, then_done}
 
 -- what is lost goes from event to event, by what the table then lacks
-abbrev pub IsLostOver : {events : List Event} {acks : List ℕ} {old new : StoreView} → Chain (Unit {0}) events acks old new → (before after : Option Lost) → Type 0
+abbrev pub IsLostOver : {events : List Event} {acks : List ℕ} {old new : StoreView} → Chain (Unit {0}) events acks old new → (before after : Option Lost)
+    → Type 0
 IsLostOver none_done before after = after ≡ before
 IsLostOver (then_done {old = old} mid event reply ack applies goes counted rest) before after =
     (next : Option Lost) × IsLostAfter (lost_in event old.array.table before) mid.array.table next × IsLostOver rest next after
@@ -34,7 +35,8 @@ StandsOneMore extents done event old new lost before = StandsThroughout old.arra
 
 -- One of the events of a chain, with those before it and those after it: while it is done, each case that a crash may leave stands for the
 -- volumes before it or for those after it.
-pub record StandsInEvent (extents : ℕ) (done : List Event) (event : Event) (undone : List Event) (acks : List ℕ) (old new : StoreView) (first : Option Lost) (before : VolumeMap) : Type 0 where
+pub record StandsInEvent (extents : ℕ) (done : List Event) (event : Event) (undone : List Event) (acks : List ℕ) (old new : StoreView) (first : Option Lost)
+    (before : VolumeMap) : Type 0 where
   pub mid : StoreView
   pub next : StoreView
   pub acks_before : List ℕ

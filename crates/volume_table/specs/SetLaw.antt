@@ -33,11 +33,13 @@ PositionIsZero = (devices : Devices) (event : Event) (set : SetState) → IsZero
 
 -- without a fault a command on volumes changes nothing of the set
 abbrev pub VolumesLeaveSet : Type 0
-VolumesLeaveSet = (devices : Devices) (command : Command) (set : SetState) → NoFaults devices set → IsZeroUnlessRebuilding set → set_after devices (OnVolumes command) set ≡ set
+VolumesLeaveSet = (devices : Devices) (command : Command) (set : SetState) → NoFaults devices set → IsZeroUnlessRebuilding set
+    → set_after devices (OnVolumes command) set ≡ set
 
 -- neither does a refused command on the set
 abbrev pub RefusedLeavesSet : Type 0
-RefusedLeavesSet = (devices : Devices) (command : SetCommand) (set : SetState) (refusal : Refusal) → NoFaults devices set → IsZeroUnlessRebuilding set → set_reply devices command set ≡ Refused refusal
+RefusedLeavesSet = (devices : Devices) (command : SetCommand) (set : SetState) (refusal : Refusal) → NoFaults devices set → IsZeroUnlessRebuilding set
+    → set_reply devices command set ≡ Refused refusal
     → set_after devices (OnSet command) set ≡ set
 
 -- the set after so many rebuild steps of 64 rows, one after another
@@ -104,7 +106,8 @@ steps_among (call ∷ calls) = steps_of call.event + steps_among calls
 -- Whatever other calls stand between the steps, each step but the last brings the position 64 rows on and answers it, and no other call moves
 -- it.
 abbrev pub RebuildGoesOnAmongOthers : Type 0
-RebuildGoesOnAmongOthers = (devices : Devices) (calls : List Call) (set : SetState) → NoFaults devices set → IsOneOut set.states → has_rebuilding set.states ≡ true
+RebuildGoesOnAmongOthers = (devices : Devices) (calls : List Call) (set : SetState) → NoFaults devices set → IsOneOut set.states
+    → has_rebuilding set.states ≡ true
     → AllLetRebuildGoOn devices.rows set calls → steps_among calls < steps_left devices set
     → (after_calls calls set ≡ record { states = set.states; position = set.position + MOST_ROWS * steps_among calls })
     × (steps_among calls + 1 < steps_left devices set
@@ -112,7 +115,8 @@ RebuildGoesOnAmongOthers = (devices : Devices) (calls : List Call) (set : SetSta
 
 -- and the rebuild is complete right after the last step that is left, whatever stood between
 abbrev pub RebuildIsCountedAmongOthers : Type 0
-RebuildIsCountedAmongOthers = (devices : Devices) (calls : List Call) (set : SetState) → NoFaults devices set → IsOneOut set.states → has_rebuilding set.states ≡ true
+RebuildIsCountedAmongOthers = (devices : Devices) (calls : List Call) (set : SetState) → NoFaults devices set → IsOneOut set.states
+    → has_rebuilding set.states ≡ true
     → AllLetRebuildGoOn devices.rows set calls → steps_among calls + 1 ≡ steps_left devices set
     → (set_after devices (OnSet (RebuildStep MOST_ROWS)) (after_calls calls set) ≡ record { states = rebuilt set.states; position = 0 })
     × (set_reply devices (RebuildStep MOST_ROWS) (after_calls calls set) ≡ Progressed Complete)

@@ -1,12 +1,14 @@
 -- What each command on the set answers, and which states and position every call leaves.
-use Rattle.std.specs.Prelude.{◌≡◌, Option, Some, None, ℕ, ◌+◌, Bool, not, ◌||◌, ◌==◌, nat_lt, nat_le, if◌then◌else◌, List, [], ◌∷◌, length, map, slice_get, slice_index_or, slice_set}
+use Rattle.std.specs.Prelude.{◌≡◌, Option, Some, None, ℕ, ◌+◌, Bool, not, ◌||◌, ◌==◌, nat_lt, nat_le, if◌then◌else◌, List, [], ◌∷◌, length, map, slice_get}
+use Rattle.std.specs.Prelude.{slice_index_or, slice_set}
 use Rattle.sector_model.specs.declared.refusal.Refusal.{Refusal}
 use Rattle.sector_model.specs.declared.refusal.Refusal.TheVariants.{WouldLose, NotMissing, NotUsable, NothingToRebuild, Incomplete}
 use Rattle.superblock.specs.declared.state.State.{State}
 use Rattle.superblock.specs.declared.state.State.TheVariants.{Missing, InSync, Rebuilding}
 use Rattle.superblock.specs.States.{has_rebuilding, is_complete, is_missing, is_rebuilding, position_in}
 use Rattle.rebuild.specs.Rebuilding.{Complete, Position, stepped}
-use Rattle.volume_table.specs.VolumeStep.{SetCommand, Fail, Replace, RebuildStep, Scrub, Reply, Done, Progressed, Scrubbed, Check, first_refusal, or_refused, Event, OnVolumes, OnSet}
+use Rattle.volume_table.specs.VolumeStep.{SetCommand, Fail, Replace, RebuildStep, Scrub, Reply, Done, Progressed, Scrubbed, Check, first_refusal, or_refused}
+use Rattle.volume_table.specs.VolumeStep.{Event, OnVolumes, OnSet}
 
 -- what a set is between two calls
 pub record SetState : Type 0 where

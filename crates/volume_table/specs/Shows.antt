@@ -16,7 +16,8 @@ sector_of_block each extent j = RESERVED_SECTORS + each * extent + j % each
 
 -- a volume's blocks stand in its extents, so many in each
 abbrev pub AreBlocksIn : (each : ℕ) → List Block → List (Option Owned) → ℕ → List Block → Type 0
-AreBlocksIn each sectors owners number blocks = (j extent : ℕ) → j < length blocks → IsAt owners extent number (j / each) → slice_index_or sectors (sector_of_block each extent j) [] ≡ slice_index_or blocks j []
+AreBlocksIn each sectors owners number blocks = (j extent : ℕ) → j < length blocks → IsAt owners extent number (j / each)
+    → slice_index_or sectors (sector_of_block each extent j) [] ≡ slice_index_or blocks j []
 
 -- a used record is of a volume that has its name and its length, and whose blocks stand in its extents
 pub record IsOfVolume (each : ℕ) (owners : List (Option Owned)) (sectors : List Block) (volumes : VolumeList) (number : ℕ) (entry : Record) : Type 0 where
@@ -41,27 +42,32 @@ pub record Shows (extents : ℕ) (sectors : List Block) (volumes : VolumeMap) : 
 
 -- `left` is the list with these blocks in place of those of record `number`'s volume from `at` on
 pub record HasWritten (each : ℕ) (owners : List (Option Owned)) (number at : ℕ) (written : List Block) (before left : List Block) : Type 0 where
-  pub inside : (j extent : ℕ) → j < length written → IsAt owners extent number ((at + j) / each) → slice_index_or left (sector_of_block each extent (at + j)) [] ≡ slice_index_or written j []
-  pub outside : (sector : ℕ) → ((j extent : ℕ) → j < length written → IsAt owners extent number ((at + j) / each) → sector ≢ sector_of_block each extent (at + j))
+  pub inside : (j extent : ℕ) → j < length written → IsAt owners extent number ((at + j) / each)
+      → slice_index_or left (sector_of_block each extent (at + j)) [] ≡ slice_index_or written j []
+  pub outside : (sector : ℕ) → ((j extent : ℕ) → j < length written → IsAt owners extent number ((at + j) / each)
+      → sector ≢ sector_of_block each extent (at + j))
       → slice_index_or left sector [] ≡ slice_index_or before sector []
 
 -- both lists have the same blocks of a record's volume
 abbrev pub HaveSameBlocks : (each : ℕ) → List (Option Owned) → ℕ → Record → List Block → List Block → Type 0
-HaveSameBlocks each owners number entry before left = (j extent : ℕ) → j < entry.blocks → IsAt owners extent number (j / each) → slice_index_or left (sector_of_block each extent j) [] ≡ slice_index_or before (sector_of_block each extent j) []
+HaveSameBlocks each owners number entry before left = (j extent : ℕ) → j < entry.blocks → IsAt owners extent number (j / each)
+    → slice_index_or left (sector_of_block each extent j) [] ≡ slice_index_or before (sector_of_block each extent j) []
 
 -- all records but one stay as they were, with the extents and the blocks of their volumes
-pub record ChangesOneRecord (each : ℕ) (records new_records : List (Option Record)) (owners new_owners : List (Option Owned)) (before left : List Block) (number : ℕ) : Type 0 where
+pub record ChangesOneRecord (each : ℕ) (records new_records : List (Option Record)) (owners new_owners : List (Option Owned)) (before left : List Block)
+    (number : ℕ) : Type 0 where
   pub same_records : (other : ℕ) → other ≢ number → record_of new_records other ≡ record_of records other
   pub same_extents : (other extent place : ℕ) → other ≢ number → IsAt new_owners extent other place → IsAt owners extent other place
   pub same_blocks : (other : ℕ) (entry : Record) → other ≢ number → record_of records other ≡ Some entry → HaveSameBlocks each owners other entry before left
 
 -- a record is of this volume, whose blocks stand in its extents
-pub record IsRecordOf (each : ℕ) (records : List (Option Record)) (owners : List (Option Owned)) (sectors : List Block) (number : ℕ) (volume : Volume) : Type 0 where
-  pub entry : Record
-  pub used : record_of records number ≡ Some entry
-  pub named : entry.name.bytes.items ≡ volume.name
-  pub as_long : length volume.blocks ≡ entry.blocks
-  pub stand : AreBlocksIn each sectors owners number volume.blocks
+pub record IsRecordOf (each : ℕ) (records : List (Option Record)) (owners : List (Option Owned)) (sectors : List Block) (number : ℕ) (volume : Volume) : Type 0
+  where
+    pub entry : Record
+    pub used : record_of records number ≡ Some entry
+    pub named : entry.name.bytes.items ≡ volume.name
+    pub as_long : length volume.blocks ≡ entry.blocks
+    pub stand : AreBlocksIn each sectors owners number volume.blocks
 
 -- the used record of this number has another name and as many blocks as before, and all other records are as they were
 pub record ChangesName (records new_records : List (Option Record)) (number : ℕ) (before : Record) (name : List ℕ) : Type 0 where

@@ -16,7 +16,8 @@ use Rattle.array_io.specs.Believed.Holds.{row_count}
 use Rattle.array_io.specs.Believed.Views.{ArrayView, EndsIt, DeviceFailed, GoesOn, IsEndOf}
 use Rattle.scrub.specs.Scrubbing.{AreUnsound}
 use Rattle.volume_table.specs.Volumes.{Block, VolumeMap}
-use Rattle.volume_table.specs.VolumeStep.{Blocks, Command, Create, Done, Event, Extend, Fail, Names, OnSet, OnVolumes, Refused, Remove, Rename, Replace, Reply, Scrub, Scrubbed, Upgrade, Volumes, Write, Read, left_by, reply_to}
+use Rattle.volume_table.specs.VolumeStep.{Blocks, Command, Create, Done, Event, Extend, Fail, Names, OnSet, OnVolumes, Refused, Remove, Rename, Replace, Reply}
+use Rattle.volume_table.specs.VolumeStep.{Scrub, Scrubbed, Upgrade, Volumes, Write, Read, left_by, reply_to}
 use Rattle.volume_table.specs.SetReplies.{AnswersSet, Devices, SetState, set_after, set_refusal}
 use Rattle.volume_table.specs.Stands.{IsSettledAfter, IsSettledOn, StandsThroughout, StoreView, extents_in}
 use Rattle.extents.specs.Versions.{most_blocks}
@@ -68,7 +69,8 @@ pub record LacksMemory (command : Command) (reply : Reply) : Type 0 where
   pub listing : command ≡ Names
   pub refused : reply ≡ Refused Memory
 
--- The counter that an event would raise, besides the generation, stands at 2^62. A command on volumes has an entry for each block of the largest volume at most, and one for the table.
+-- The counter that an event would raise, besides the generation, stands at 2^62. A command on volumes has an entry for each block of the largest volume at
+-- most, and one for the table.
 abbrev pub IsCounterFull : Event → (old new : ArrayView) → Type 0
 IsCounterFull (OnVolumes command) old new = (GREATEST_COUNT ≤ old.number + (most_blocks LAST_VERSION + 1)) × (GREATEST_COUNT ≤ new.number)
 IsCounterFull (OnSet (Replace slot)) old new = GREATEST_COUNT ≤ incarnation_at old.table.incarnations slot

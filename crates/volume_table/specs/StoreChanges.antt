@@ -65,7 +65,8 @@ pub record IsGrown (table : VolumeTable) (number first last : ℕ) (before now :
 
 -- what may be on the way there: some of these blocks are zero, or all, and the new table is there
 abbrev pub MayGrow : (old : VolumeTable) → VolumeTable → (number first last : ℕ) → Change
-MayGrow old table number first last = From old (λ before now. IsPartlyZero (extent_blocks table.version) table.extents number first last before now ⊎ IsGrown table number first last before now)
+MayGrow old table number first last = From old (λ before now. IsPartlyZero (extent_blocks table.version) table.extents number first last before now
+    ⊎ IsGrown table number first last before now)
 
 abbrev pub Grows : (old : VolumeTable) → VolumeTable → (number first last : ℕ) → Change
 Grows old table number first last = From old (IsGrown table number first last)

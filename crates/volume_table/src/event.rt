@@ -9,8 +9,8 @@ use sector_model::{Refusal, Sector};
 /// The most blocks of a read or a write.
 pub const MOST_BLOCKS_AT_ONCE: usize = 32;
 
-/// A command on the volumes of a store, or on its set. Names and blocks are lent; a name may be any bytes, and whether it is a good one
-/// is decided by the command.
+/// A command on the volumes of a store, or on its set. Names and blocks are lent; a name may be any bytes, and whether
+/// it is a good one is decided by the command.
 #[derive(Clone, Copy)]
 pub enum Event<'a> {
     /// A new volume of so many zero blocks.

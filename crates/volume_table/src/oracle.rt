@@ -1,5 +1,5 @@
-//! Which volumes a logical list shows: the definitions, run over a list in memory, plain and slow. Tests compare with it, and
-//! nothing else uses it.
+//! Which volumes a logical list shows: the definitions, run over a list in memory, plain and slow. Tests compare with
+//! it, and nothing else uses it.
 ghost use Rattle.std.specs.Prelude.{◌≡◌, ◌<◌, ℕ, length, take, Some, None, IfSome, MatchOption};
 ghost use Rattle.extents.specs.Checks.{AreFreeFrom};
 ghost use Rattle.extents.specs.Owners.{IsAt};
@@ -14,8 +14,8 @@ use sector_model::Sector;
 
 /// The table of volumes in the first sectors of a logical list, of a set with so many extents.
 ///
-/// `None` where there are fewer sectors than a table of its version has, where these spell no table, and where an extent that the set does not
-/// have is in use. The list then shows no map of volumes, not even the empty one.
+/// `None` where there are fewer sectors than a table of its version has, where these spell no table, and where an
+/// extent that the set does not have is in use. The list then shows no map of volumes, not even the empty one.
 pub fn table_shown(sectors: &[Sector], extents: u32) -> Option<VolumeTable>
     ensures some { IfSome result (λ t. Spell sectors.now t) }
     ensures free { IfSome result (λ t. AreFreeFrom t.extents extents) }
@@ -35,7 +35,8 @@ pub fn table_shown(sectors: &[Sector], extents: u32) -> Option<VolumeTable>
 
 /// Block `at`, from 0, of the volume of this name in a logical list of a set with so many extents.
 ///
-/// Where the list shows a map of volumes: `None` where that has no volume of this name, or the volume `at` blocks or fewer.
+/// Where the list shows a map of volumes: `None` where that has no volume of this name, or the volume `at` blocks or
+/// fewer.
 pub fn block_shown(sectors: &[Sector], extents: u32, name: &[u8], at: u32) -> Option<Sector>
     ensures { (volumes : VolumeMap) → Shows extents sectors.now volumes → result ≡ block_at name.now at volumes }
 {
@@ -64,7 +65,8 @@ pub fn blocks_in_volume(sectors: &[Sector], extents: u32, name: &[u8]) -> Option
 
 // The extent at a place of the volume of a record. None where it has no extent there.
 fn extent_at(owners: &[Option<Owned>], number: usize, place: u32) -> Option<usize>
-    ensures at { MatchOption result ((extent : ℕ) → IsAt owners.now extent number place → ⊥) (λ extent. IsAt owners.now extent number place) }
+    ensures at { MatchOption result ((extent : ℕ) → IsAt owners.now extent number place → ⊥)
+        (λ extent. IsAt owners.now extent number place) }
     ensures within { IfSome result (λ extent. extent < length owners.now) }
 {
     for (extent, owner) in owners.iter().enumerate() {

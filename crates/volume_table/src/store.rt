@@ -32,9 +32,10 @@ mod writing;
 
 /// The volumes of a set that was made or assembled.
 ///
-/// It keeps the table of volumes in memory, as the set's first logical sectors spell it, and the map of its extents. Both are
-/// of fixed size. A call that is refused with `TwoLost` or `Worn` ends the store: it answers the same to every later call, and makes
-/// no device call any more. The set is then assembled again, in a new run. The fields are open to those who say what a call does.
+/// It keeps the table of volumes in memory, as the set's first logical sectors spell it, and the map of its extents.
+/// Both are of fixed size. A call that is refused with `TwoLost` or `Worn` ends the store: it answers the same to every
+/// later call, and makes no device call any more. The set is then assembled again, in a new run. The fields are open to
+/// those who say what a call does.
 #[derive(Drop)]
 pub struct Store<B: Bank> {
     /// The set, on whose logical sectors the volumes lie.

@@ -38,7 +38,8 @@ none_differ : ¬ (Missing ≡ InSync)
 none_differ e = cc
 
 -- two slots can't be missing
-two_missing : (table : Table) (first second : ℕ) → first < slots_of table → second < slots_of table → state_at table.states first ≡ Missing → state_at table.states second ≡ Missing → first ≡ second
+two_missing : (table : Table) (first second : ℕ) → first < slots_of table → second < slots_of table → state_at table.states first ≡ Missing
+    → state_at table.states second ≡ Missing → first ≡ second
 two_missing table first second below below' is is' =
     table.allowed.one_out first second below below' (λ in_sync. none_differ (sym is ∙ in_sync)) (λ in_sync. none_differ (sym is' ∙ in_sync))
 
@@ -57,7 +58,8 @@ same_set : (old mid : ArrayView) → GoesOn old mid → slots_of mid.table ≡ s
 same_set old mid goes = ap (λ (g : Geometry). g.members + 2) goes.not_older.same_geometry
 
 -- one slot may be missing after both, no more
-table_both : (honest : Type 0) (old mid new : ArrayView) (ended ended' : Type 0) → GoesOn old mid → GoesOn mid new → StaysButForFailures honest old mid ended → StaysButForFailures honest mid new ended'
+table_both : (honest : Type 0) (old mid new : ArrayView) (ended ended' : Type 0) → GoesOn old mid → GoesOn mid new → StaysButForFailures honest old mid ended
+    → StaysButForFailures honest mid new ended'
     → (new.table ≡ old.table) ⊎ HasLostOne old new
 table_both honest old mid new ended ended' goes goes' first second = elim first.table [
   | inl same ↦ elim second.table [
@@ -90,25 +92,29 @@ table_both honest old mid new ended ended' goes goes' first second = elim first.
 ]
 
 -- a device that failed in both stretches failed in one
-failed_in_one : (slot : ℕ) (old mid new : ArrayView) → DeviceFailed slot old.panel new.panel → DeviceFailed slot old.panel mid.panel ⊎ DeviceFailed slot mid.panel new.panel
+failed_in_one : (slot : ℕ) (old mid new : ArrayView) → DeviceFailed slot old.panel new.panel → DeviceFailed slot old.panel mid.panel
+    ⊎ DeviceFailed slot mid.panel new.panel
 failed_in_one slot old mid new failed = by_state (mid.panel.down slot) refl
   where
     by_state : (b : Bool) → mid.panel.down slot ≡ b → DeviceFailed slot old.panel mid.panel ⊎ DeviceFailed slot mid.panel new.panel
     by_state true down = inl record { was_up = failed.was_up; is_down = down }
     by_state false up = inr record { was_up = up; is_down = failed.is_down }
 
-pub stays_both : (honest : Type 0) (old mid new : ArrayView) (ended : Type 0) → GoesOn old mid → GoesOn mid new → StaysButForFailures honest old mid ⊥ → StaysButForFailures honest mid new ended
+pub stays_both : (honest : Type 0) (old mid new : ArrayView) (ended : Type 0) → GoesOn old mid → GoesOn mid new → StaysButForFailures honest old mid ⊥
+    → StaysButForFailures honest mid new ended
     → StaysButForFailures honest old new ended
 stays_both honest old mid new ended goes goes' first second = record {
   table = table_both honest old mid new ⊥ ended goes goes' first second;
   failure = λ is goes_open slot of_set failed. elim (failed_in_one slot old mid new failed) [
-    | inl before ↦ missing_stays honest mid new ended second slot (subst (λ (n : ℕ). slot < n) (sym (same_set old mid goes)) of_set) (first.failure is (λ e. e) slot of_set before)
+    | inl before ↦ missing_stays honest mid new ended second slot (subst (λ (n : ℕ). slot < n) (sym (same_set old mid goes)) of_set)
+        (first.failure is (λ e. e) slot of_set before)
     | inr later ↦ second.failure is goes_open slot (subst (λ (n : ℕ). slot < n) (sym (same_set old mid goes)) of_set) later
   ];
 }
 
 -- the table's generation went up by one at most
-pub one_more : (honest : Type 0) (old mid : ArrayView) (ended : Type 0) → StaysButForFailures honest old mid ended → mid.table.generation ≤ old.table.generation + 1
+pub one_more : (honest : Type 0) (old mid : ArrayView) (ended : Type 0) → StaysButForFailures honest old mid ended
+    → mid.table.generation ≤ old.table.generation + 1
 one_more honest old mid ended stays = elim stays.table [
   | inl same ↦ omega (arith, ap (λ (t : Table). t.generation) same)
   | inr lost ↦ omega (arith, lost.marked.generation)
@@ -136,7 +142,8 @@ ended_by old new refusal end = elim (two_or_worn old new refusal end) [
 ]
 
 -- the second row of steps ended why both did: the first marked no slot, if the table could have no further generation
-pub end_after : (honest : Type 0) (old mid new : ArrayView) → StaysButForFailures honest old mid ⊥ → (refusal : Refusal) → IsStepEnd mid new refusal → IsStepEnd old new refusal
+pub end_after : (honest : Type 0) (old mid new : ArrayView) → StaysButForFailures honest old mid ⊥ → (refusal : Refusal) → IsStepEnd mid new refusal
+    → IsStepEnd old new refusal
 end_after honest old mid new stays refusal (inl two) = inl two
 end_after honest old mid new stays refusal (inr (inl calls)) = inr (inl calls)
 end_after honest old mid new stays refusal (inr (inr (is, worn, same, there))) = elim stays.table [
@@ -151,7 +158,8 @@ end_after honest old mid new stays refusal (inr (inr (is, worn, same, there))) =
 ]
 
 -- why the second row of steps ended is why both ended: over both the generation went up by one at most
-pub end_of_both : (honest : Type 0) (old mid new : ArrayView) (ended : Type 0) → StaysButForFailures honest old new ended → (refusal : Refusal) → IsEndOf mid new ⊥ refusal
+pub end_of_both : (honest : Type 0) (old mid new : ArrayView) (ended : Type 0) → StaysButForFailures honest old new ended → (refusal : Refusal)
+    → IsEndOf mid new ⊥ refusal
     → (refusal ≡ TwoLost) ⊎ (refusal ≡ Worn) → IsEndOf old new ⊥ refusal
 end_of_both honest old mid new ended stays refusal end (inl is) = subst (IsEndOf old new ⊥) (sym is) (subst (IsEndOf mid new ⊥) is end)
 end_of_both honest old mid new ended stays refusal end (inr is) = subst (IsEndOf old new ⊥) (sym is) (by_why (subst (IsEndOf mid new ⊥) is end))
@@ -164,7 +172,8 @@ end_of_both honest old mid new ended stays refusal end (inr is) = subst (IsEndOf
 -- rows of steps
 
 -- steps that did not end the call are answered
-pub answered_steps : (honest : Type 0) {From : Type 0} (holds : From → History → Type 0) (before after : From → Table → History → Type 0) (old new : ArrayView) (answer : Answer)
+pub answered_steps : (honest : Type 0) {From : Type 0} (holds : From → History → Type 0) (before after : From → Table → History → Type 0) (old new : ArrayView)
+    (answer : Answer)
     → StepsOf honest holds before after old new answer → ¬ HasEnded answer → answer ≡ Ok tt
 answered_steps honest holds before after old new answer steps goes = by_answer answer refl
   where
@@ -174,10 +183,12 @@ answered_steps honest holds before after old new answer steps goes = by_answer a
 
 -- what was down stays so over both stretches
 pub down_on : {old mid new : History} → Throughout (StaysDown old) old mid → Throughout (StaysDown mid) mid new → Throughout (StaysDown old) old new
-down_on {mid = mid} {new = new} first second = throughout_on mid first new (throughout_more (λ h stays device down. stays device (throughout_last mid first device down)) new second)
+down_on {mid = mid} {new = new} first second = throughout_on mid first new
+    (throughout_more (λ h stays device down. stays device (throughout_last mid first device down)) new second)
 
 -- the table and its superblocks over both: they stayed, or a slot was marked in one of them
-pub carried_on : (old mid new : ArrayView) → GoesOn old mid → GoesOn mid new → IsCarriedOn old mid ⊎ IsPublishedAnew old mid → IsCarriedOn mid new ⊎ IsPublishedAnew mid new
+pub carried_on : (old mid new : ArrayView) → GoesOn old mid → GoesOn mid new → IsCarriedOn old mid ⊎ IsPublishedAnew old mid → IsCarriedOn mid new
+    ⊎ IsPublishedAnew mid new
     → IsCarriedOn old new ⊎ IsPublishedAnew old new
 carried_on old mid new goes goes' (inl first) (inl second) = inl record {
   table = second.table ∙ first.table;
@@ -206,11 +217,13 @@ carried_on old mid new goes goes' first (inr second) = inr record {
 }
 
 -- two rows of steps are one; what is honest at the start is so between them
-pub steps_both : (honest still : Type 0) → (honest → still) → {From : Type 0} (holds : From → History → Type 0) (before between after : From → Table → History → Type 0) (old mid new : ArrayView) (answer : Answer)
+pub steps_both : (honest still : Type 0) → (honest → still)
+    → {From : Type 0} (holds : From → History → Type 0) (before between after : From → Table → History → Type 0) (old mid new : ArrayView) (answer : Answer)
     → StepsOf honest holds before between old mid (Ok tt) → StepsOf still holds between after mid new answer → StepsOf honest holds before after old new answer
 steps_both honest still more holds before between after old mid new answer first second = record {
   goes_on = goes_on_both old mid new first.goes_on second.goes_on;
-  stays = stays_both honest old mid new (HasEnded answer) first.goes_on second.goes_on first.stays record { table = second.stays.table; failure = λ is. second.stays.failure (more is) };
+  stays = stays_both honest old mid new (HasEnded answer) first.goes_on second.goes_on first.stays
+      record { table = second.stays.table; failure = λ is. second.stays.failure (more is) };
   number = second.number ∙ first.number;
   moments = λ is from at. throughout_on mid.history (first.moments is from at) new.history (second.moments (more is) from (first.reached is refl from at));
   reached = λ is ok from at. second.reached (more is) ok from (first.reached is refl from at);
@@ -220,7 +233,8 @@ steps_both honest still more holds before between after old mid new answer first
 }
 
 -- where they were refused, what they would have reached is free
-pub steps_refused : (honest : Type 0) {From : Type 0} (holds : From → History → Type 0) (before after beyond : From → Table → History → Type 0) (old new : ArrayView) (refusal : Refusal)
+pub steps_refused : (honest : Type 0) {From : Type 0} (holds : From → History → Type 0) (before after beyond : From → Table → History → Type 0)
+    (old new : ArrayView) (refusal : Refusal)
     → StepsOf honest holds before after old new (Err refusal) → StepsOf honest holds before beyond old new (Err refusal)
 steps_refused honest holds before after beyond old new refusal steps = record {
   goes_on = steps.goes_on;
@@ -234,7 +248,8 @@ steps_refused honest holds before after beyond old new refusal steps = record {
 }
 
 -- they lead from whatever is more, to whatever is less
-pub steps_more : (honest : Type 0) {From : Type 0} (holds : From → History → Type 0) (before before' after after' : From → Table → History → Type 0) (old new : ArrayView) (answer : Answer)
+pub steps_more : (honest : Type 0) {From : Type 0} (holds : From → History → Type 0) (before before' after after' : From → Table → History → Type 0)
+    (old new : ArrayView) (answer : Answer)
     → ((from : From) → before' from old.table old.history → before from old.table old.history)
     → (honest → answer ≡ Ok tt → (from : From) → before' from old.table old.history → after from new.table new.history → after' from new.table new.history)
     → StepsOf honest holds before after old new answer → StepsOf honest holds before' after' old new answer

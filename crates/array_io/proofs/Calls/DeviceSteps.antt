@@ -50,7 +50,8 @@ states_differ e = cc
 pub its_slots_later : (table : Table) (old new : Panel) → IsLater old new → HasItsSlots table old → HasItsSlots table new
 its_slots_later table old new later has = record {
   of_bank = subst (λ (n : ℕ). slots_of table ≤ n) (sym later.devices) has.of_bank;
-  fit = λ slot of_set there up. subst (λ (n : ℕ). least_sectors table.geometry slot ≤ n) (sym (later.sectors slot)) (has.fit slot of_set there (was_up slot (old.down slot) refl up));
+  fit = λ slot of_set there up. subst (λ (n : ℕ). least_sectors table.geometry slot ≤ n) (sym (later.sectors slot))
+      (has.fit slot of_set there (was_up slot (old.down slot) refl up));
 }
   where
     was_up : (slot : ℕ) (b : Bool) → old.down slot ≡ b → new.down slot ≡ false → old.down slot ≡ false
@@ -58,7 +59,8 @@ its_slots_later table old new later has = record {
     was_up slot false is up = is
 
 -- what an array keeps over calls that leave its table
-pub goes_on_later : (old new : Panel) (before now : History) (table : Table) (number : ℕ) → IsLater old new → GoesOn (view_of old before table number) (view_of new now table number)
+pub goes_on_later : (old new : Panel) (before now : History) (table : Table) (number : ℕ) → IsLater old new
+    → GoesOn (view_of old before table number) (view_of new now table number)
 goes_on_later old new before now table number later = record {
   later = later;
   not_older = not_older_same table;
@@ -67,7 +69,8 @@ goes_on_later old new before now table number later = record {
 }
 
 -- a slot that failed while one device was called is that device's
-pub failed_is_it : (device : ℕ) (old_panel new_panel : Panel) (old new : History) → IsTrueTo old_panel old → IsTrueTo new_panel new → StaysOff (λ d. d ≡ device) old new → (slot : ℕ)
+pub failed_is_it : (device : ℕ) (old_panel new_panel : Panel) (old new : History) → IsTrueTo old_panel old → IsTrueTo new_panel new
+    → StaysOff (λ d. d ≡ device) old new → (slot : ℕ)
     → DeviceFailed slot old_panel new_panel → slot ≡ device
 failed_is_it device old_panel new_panel old new was now off slot failed = elim (cases_eq slot device) [
   | inl same ↦ same
@@ -75,7 +78,8 @@ failed_is_it device old_panel new_panel old new was now off slot failed = elim (
 ]
 
 -- over calls of one device that is up at their end no device failed
-pub same_down : (device : ℕ) (old new : History) → StaysOff (λ d. d ≡ device) old new → is_down new device ≡ false → (other : ℕ) → is_down new other ≡ is_down old other
+pub same_down : (device : ℕ) (old new : History) → StaysOff (λ d. d ≡ device) old new → is_down new device ≡ false → (other : ℕ)
+    → is_down new other ≡ is_down old other
 same_down device old new off up other = elim (cases_eq other device) [
   | inr apart ↦ off.others_down other apart
   | inl same ↦ subst (λ (d : ℕ). is_down new d ≡ is_down old d) (sym same) (up ∙ sym (was_up (is_down old device) refl))
@@ -86,12 +90,14 @@ same_down device old new off up other = elim (cases_eq other device) [
     was_up false is = is
 
 -- one slot is lost at most at the first moment, if it is so at the last
-pub single_failure_before : (slots : ℕ) (lost : Option Lost) (old new : History) → Throughout (StaysDown old) old new → IsSingleFailure slots lost new → IsSingleFailure slots lost old
+pub single_failure_before : (slots : ℕ) (lost : Option Lost) (old new : History) → Throughout (StaysDown old) old new → IsSingleFailure slots lost new
+    → IsSingleFailure slots lost old
 single_failure_before slots lost old new runs loss =
     let was = was_lost slots lost old new loss.0 (throughout_last new runs) loss.1 in
     (was.before, was.was)
 
-module _ (spellings : Spellings) (honest : Type 0) {From : Type 0} (devices_of : From → ℕ) (base_of : From → Table) (lost_of : From → Option Lost) (list_of : From → List (List Bytes))
+module _ (spellings : Spellings) (honest : Type 0) {From : Type 0} (devices_of : From → ℕ) (base_of : From → Table) (lost_of : From → Option Lost)
+    (list_of : From → List (List Bytes))
     (before after : From → Table → History → Type 0) (device number : ℕ) (table : Table) (old_panel mid_panel : Panel) (old mid : History)
     (true_old : honest → IsTrueTo old_panel old) (true_mid : honest → IsTrueTo mid_panel mid) where
   abbrev Holding : From → History → Type 0
@@ -137,7 +143,8 @@ module _ (spellings : Spellings) (honest : Type 0) {From : Type 0} (devices_of :
 
   -- the device failed
   module _ (new_panel : Panel) (new_table : Table) (new : History) (answer : Answer) (its_slots : HasItsSlots table old_panel) (counted : CountsOn table device)
-      (calls : CallsOne honest device old_panel mid_panel old mid (Err (stop.Down device))) (marks : MarksOn honest device mid_panel new_panel table new_table mid new answer)
+      (calls : CallsOne honest device old_panel mid_panel old mid (Err (stop.Down device)))
+      (marks : MarksOn honest device mid_panel new_panel table new_table mid new answer)
       (true_new : honest → IsTrueTo new_panel new) where
     abbrev Then : ArrayView
     Then = view_of new_panel new new_table number
@@ -165,7 +172,8 @@ module _ (spellings : Spellings) (honest : Type 0) {From : Type 0} (devices_of :
         two : refusal ≡ TwoLost → IsStepEnd Was Then refusal
         two same = inl (same, missing.cause (inr is_down_then) TwoLost (is ∙ ap (λ (r : Refusal). Err r) same))
 
-        by_result : (result : Result (Unit {0}) Stop) → answer ≡ answer_of result → ((s : Stop) → result ≡ Err s → IsCauseOf new_panel s) → IsStepEnd Was Then refusal
+        by_result : (result : Result (Unit {0}) Stop) → answer ≡ answer_of result → ((s : Stop) → result ≡ Err s → IsCauseOf new_panel s)
+            → IsStepEnd Was Then refusal
         by_result (Ok done) same cause = absurd (cc)
         by_result (Err (stop.Down other)) same cause = two (cc)
         by_result (Err stop.Worn) same cause = inr (inl (cc, cause stop.Worn refl))
@@ -199,14 +207,16 @@ module _ (spellings : Spellings) (honest : Type 0) {From : Type 0} (devices_of :
         by_marks (inl left) = by_why left.why
         by_marks (inr marked) = made_down (made honest table new_table device mid_panel new_panel mid new answer marked counted.of_set is ok) slot
 
-    failed_then : honest → ¬ HasEnded answer → (slot : ℕ) → slot < slots_of table → DeviceFailed slot old_panel new_panel → state_at new_table.states slot ≡ Missing
+    failed_then : honest → ¬ HasEnded answer → (slot : ℕ) → slot < slots_of table → DeviceFailed slot old_panel new_panel
+        → state_at new_table.states slot ≡ Missing
     failed_then is open_still slot of_set failed = by_answer answer refl
       where
         by_answer : (a : Answer) → answer ≡ a → state_at new_table.states slot ≡ Missing
         by_answer (Err refusal) ended = absurd (open_still (subst HasEnded (sym ended) (ended_by Was Then refusal (marked_end refusal ended))))
         by_answer (Ok done) ok = elim (cases_eq slot device) [
           | inl same ↦ ap (state_at new_table.states) same ∙ gone_then ok
-          | inr apart ↦ absurd (flags_differ (sym failed.is_down ∙ (true_new is).down slot ∙ down_then is ok slot ∙ (calls.off is).others_down slot apart ∙ sym ((true_old is).down slot) ∙ failed.was_up))
+          | inr apart ↦ absurd (flags_differ (sym failed.is_down ∙ (true_new is).down slot ∙ down_then is ok slot ∙ (calls.off is).others_down slot apart
+              ∙ sym ((true_old is).down slot) ∙ failed.was_up))
         ]
 
     -- what was down stays down
@@ -234,7 +244,8 @@ module _ (spellings : Spellings) (honest : Type 0) {From : Type 0} (devices_of :
         by_marks (inr marked) =
             let other = lowest_but device in
             let of_set : other < slots_of table = lowest_of_set device table.geometry.members in
-            let gets = gets_others honest table new_table device mid_panel new_panel mid new answer marked counted.of_set is other of_set (lowest_apart device) in
+            let gets = gets_others honest table new_table device mid_panel new_panel mid new answer marked counted.of_set is other of_set
+            (lowest_apart device) in
             let up = up_then honest table new_table device mid_panel new_panel mid new answer marked counted.of_set is ok other gets in
             let got = gets_is new_table other gets in
             record {
@@ -244,7 +255,8 @@ module _ (spellings : Spellings) (honest : Type 0) {From : Type 0} (devices_of :
               room = subst (λ (g : Geometry). g.members + 2 ≤ old_panel.devices) (sym marked.marked.same_geometry) its_slots.of_bank;
               stands = marked.publishes.spelled other got.0 (λ gone. states_differ (sym gone ∙ got.1));
               up = up;
-              is_there = marked.publishes.safe is (result_ok honest table new_table device mid_panel new_panel mid new answer marked counted.of_set is ok) other gets
+              is_there = marked.publishes.safe is (result_ok honest table new_table device mid_panel new_panel mid new answer marked counted.of_set is ok) other
+                  gets
                   (sector_of (seen new other) (place_of new_table)) (up_seen new other (place_of new_table) up);
             }
 
@@ -252,7 +264,8 @@ module _ (spellings : Spellings) (honest : Type 0) {From : Type 0} (devices_of :
     pub step_marked : (honest → (from : From) → before from table old → IsSingleFailure (slots_of (base_of from)) (lost_of from) old
         → Throughout (Holding from) old mid × HasFailedOnce (devices_of from) (base_of from) table (lost_of from) (list_of from) device mid)
         → (honest → (from : From) → before from table old → Throughout (StaysDown old) old new
-        → (IsSingleFailure (slots_of (base_of from)) (lost_of from) old → HasFailedOnce (devices_of from) (base_of from) table (lost_of from) (list_of from) device mid
+        → (IsSingleFailure (slots_of (base_of from)) (lost_of from) old
+        → HasFailedOnce (devices_of from) (base_of from) table (lost_of from) (list_of from) device mid
         × MarkedOn (devices_of from) (base_of from) table new_table (lost_of from) (list_of from) device mid new) → after from new_table new)
         → StepsOf honest Holding before after Was Then answer
     step_marked failed then_on = record {
@@ -287,5 +300,6 @@ module _ (spellings : Spellings) (honest : Type 0) {From : Type 0} (devices_of :
         by_marks : honest → (from : From) → before from table old → IsSingleFailure (slots_of (base_of from)) (lost_of from) old
             → HoldsThroughout (base_of from) (devices_of from) (lost_of from) (list_of from) mid new
             × (answer ≡ Ok tt → MarkedOn (devices_of from) (base_of from) table new_table (lost_of from) (list_of from) device mid new)
-        by_marks is from at loss = failed_marked spellings honest (devices_of from) (base_of from) table new_table (lost_of from) (list_of from) device mid_panel new_panel mid new answer
+        by_marks is from at loss = failed_marked spellings honest (devices_of from) (base_of from) table new_table (lost_of from) (list_of from) device
+            mid_panel new_panel mid new answer
             (failed is from at loss).1 is marks

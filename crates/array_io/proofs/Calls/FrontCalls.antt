@@ -24,12 +24,14 @@ front_failed old h device true before = before
 front_failed old h device false before = before
 
 -- or that fails with a write
-front_lost : (old h : History) (device at : ℕ) (value : Bytes) (is_down_now : Bool) → KeepsFront old h → KeepsFront old (After (cond is_down_now Quiet (Lost device at value)) h)
+front_lost : (old h : History) (device at : ℕ) (value : Bytes) (is_down_now : Bool) → KeepsFront old h
+    → KeepsFront old (After (cond is_down_now Quiet (Lost device at value)) h)
 front_lost old h device at value true before = before
 front_lost old h device at value false before = before
 
 -- one call, answered or not
-front_after : (old : History) (call : Call) → PutsOnly Beyond call → (answered : Bool) (h : History) → KeepsFront old h → KeepsFront old (after_call call answered h)
+front_after : (old : History) (call : Call) → PutsOnly Beyond call → (answered : Bool) (h : History) → KeepsFront old h
+    → KeepsFront old (after_call call answered h)
 front_after old (Read device at) beyond true h before = before
 front_after old (Read device at) beyond false h before = front_failed old h device (is_down h device) before
 front_after old (Write device at value) beyond true h before = λ other place below.

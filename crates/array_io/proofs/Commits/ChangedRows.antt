@@ -19,7 +19,8 @@ IsChangedBy geometry sectors count row member = IsGivenBy geometry sectors count
 
 -- a mask with one bit more
 bit_more : (mask new target : ℕ) (P Q : ℕ → Type 0) → has_bit new target ≡ true → ((member : ℕ) → member ≢ target → has_bit new member ≡ has_bit mask member)
-    → Q target → ((member : ℕ) → P member → Q member) → ((member : ℕ) → Q member → (member ≡ target) ⊎ P member) → ((member : ℕ) → (has_bit mask member ≡ true) ↔ P member)
+    → Q target → ((member : ℕ) → P member → Q member) → ((member : ℕ) → Q member → (member ≡ target) ⊎ P member)
+    → ((member : ℕ) → (has_bit mask member ≡ true) ↔ P member)
     → (member : ℕ) → (has_bit new member ≡ true) ↔ Q member
 bit_more mask new target P Q has others here on split before member = (
   λ is. elim (cases_eq member target) [
@@ -96,7 +97,8 @@ module _ (geometry : Geometry) (sectors : Given) (row : ℕ) where
   )
 
   -- in the end those of all that change
-  pub given_all : (mask count : ℕ) → length sectors ≤ count → count ≤ length sectors → ((member : ℕ) → (has_bit mask member ≡ true) ↔ IsChangedBy geometry sectors count row member)
+  pub given_all : (mask count : ℕ) → length sectors ≤ count → count ≤ length sectors
+      → ((member : ℕ) → (has_bit mask member ≡ true) ↔ IsChangedBy geometry sectors count row member)
       → (member : ℕ) → (has_bit mask member ≡ true) ↔ IsChanged geometry sectors row member
   given_all mask count least most before = let same : count ≡ length sectors = omega arith in
       subst (λ (n : ℕ). (member : ℕ) → (has_bit mask member ≡ true) ↔ IsChangedBy geometry sectors n row member) same before

@@ -1,5 +1,6 @@
 -- A commit, from its rows to its end, by what its parts promise.
-use Rattle.std.proofs.Common.{◌≡◌, ◌⊎◌, inl, inr, ℕ, ◌+◌, ◌<◌, ◌≤◌, true, false, List, [], ◌∷◌, Contains, length, Option, refl, sym, ◌∙◌, ap, subst, subst₂, arith}
+use Rattle.std.proofs.Common.{◌≡◌, ◌⊎◌, inl, inr, ℕ, ◌+◌, ◌<◌, ◌≤◌, true, false, List, [], ◌∷◌, Contains, length, Option, refl, sym, ◌∙◌, ap, subst, subst₂}
+use Rattle.std.proofs.Common.{arith}
 use Rattle.std.specs.Prelude.{Ok, Err, slice_index_or}
 use Rattle.std.proofs.lemmas.Bool.{cond_below}
 use Rattle.std.proofs.lemmas.Option.{none-some}
@@ -61,7 +62,8 @@ use Rattle.array_io.specs.Steps.Bringing.{CountsOn}
 use Rattle.array_io.specs.Steps.EntryAtRest.{HasEntryAtRest}
 
 -- an image that is as it has to be for these lists is so for more
-in_more : (devices : ℕ) (table : Table) (X X' : List (List Bytes)) (image : Slots) → ((V : List Bytes) → Contains X V → Contains X' V) → HoldsIn devices table X image → HoldsIn devices table X' image
+in_more : (devices : ℕ) (table : Table) (X X' : List (List Bytes)) (image : Slots) → ((V : List Bytes) → Contains X V → Contains X' V)
+    → HoldsIn devices table X image → HoldsIn devices table X' image
 in_more devices table X X' image more is = record {
   chosen = is.chosen;
   one_out = is.one_out;
@@ -73,7 +75,8 @@ in_more devices table X X' image more is = record {
 }
 
 -- cases that hold for these lists hold for more
-pub holds_more : (base : Table) (devices : ℕ) (lost : Option Lost) (X X' : List (List Bytes)) (h : History) → ((V : List Bytes) → Contains X V → Contains X' V) → HoldsNow base devices lost X h
+pub holds_more : (base : Table) (devices : ℕ) (lost : Option Lost) (X X' : List (List Bytes)) (h : History) → ((V : List Bytes) → Contains X V → Contains X' V)
+    → HoldsNow base devices lost X h
     → HoldsNow base devices lost X' h
 holds_more base devices lost X X' h more holds after image at may =
     let is = holds after image at may in
@@ -87,7 +90,8 @@ holds_more base devices lost X X' h more holds after image at may =
     }
 
 -- why a call ended, whatever its counter
-ends_with : (old new : ArrayView) (counter : Type 0) (refusal : Refusal) → (refusal ≡ TwoLost) ⊎ (refusal ≡ Worn) → IsEndOf old new ⊥ refusal → IsEndOf old new counter refusal
+ends_with : (old new : ArrayView) (counter : Type 0) (refusal : Refusal) → (refusal ≡ TwoLost) ⊎ (refusal ≡ Worn) → IsEndOf old new ⊥ refusal
+    → IsEndOf old new counter refusal
 ends_with old new counter refusal (inl is) end = subst (IsEndOf old new counter) (sym is) (subst (IsEndOf old new ⊥) is end)
 ends_with old new counter refusal (inr is) end = subst (IsEndOf old new counter) (sym is) (by_why (subst (IsEndOf old new ⊥) is end))
   where
@@ -96,7 +100,8 @@ ends_with old new counter refusal (inr is) end = subst (IsEndOf old new counter)
     by_why (inr none) = absurd none
 
 -- what stays doesn't depend on the last entry's number
-stays_numbered : (honest ended : Type 0) (old : ArrayView) (panel : Panel) (h : History) (table : Table) (number number' : ℕ) → StaysButForFailures honest old (view_of panel h table number) ended
+stays_numbered : (honest ended : Type 0) (old : ArrayView) (panel : Panel) (h : History) (table : Table) (number number' : ℕ)
+    → StaysButForFailures honest old (view_of panel h table number) ended
     → StaysButForFailures honest old (view_of panel h table number') ended
 stays_numbered honest ended old panel h table number number' stays = record {
   table = elim stays.table [
@@ -124,7 +129,8 @@ flags_differ : ¬ (true ≡ false)
 flags_differ e = cc
 
 -- Where the last entry has the greatest number, nothing is done.
-pub commit_worn : Spellings → (honest : Type 0) (sectors : Given) (number : ℕ) (table : Table) (panel : Panel) (h : History) → (honest → IsTrueTo panel h) → GREATEST_COUNT ≤ number
+pub commit_worn : Spellings → (honest : Type 0) (sectors : Given) (number : ℕ) (table : Table) (panel : Panel) (h : History) → (honest → IsTrueTo panel h)
+    → GREATEST_COUNT ≤ number
     → Commits honest sectors (view_of panel h table number) (view_of panel h table number) (refused Worn)
 commit_worn spellings honest sectors number table panel h true_old worn = record {
   goes_on = goes_on_later panel panel h h table number (later_same panel);
@@ -137,7 +143,8 @@ commit_worn spellings honest sectors number table panel h true_old worn = record
   cause = λ refusal is. by_refusal refusal is;
 }
   where
-    by_refusal : (refusal : Refusal) → refused Worn ≡ Err refusal → IsEndOf (view_of panel h table number) (view_of panel h table number) (GREATEST_COUNT ≤ number) refusal
+    by_refusal : (refusal : Refusal) → refused Worn ≡ Err refusal
+        → IsEndOf (view_of panel h table number) (view_of panel h table number) (GREATEST_COUNT ≤ number) refusal
     by_refusal Worn is = inr worn
     by_refusal refusal is = absurd (cc)
 
@@ -157,10 +164,12 @@ module _ (spellings : Spellings) (honest : Type 0) (number : ℕ) (sectors : Giv
   Either lost V now = HoldsNow table panel.devices lost (V ∷ written V sectors ∷ []) now
 
   -- its moments while its rows are formed
-  first_moments : {answer : Answer} → StepsOf honest (KeepsList panel.devices) (Between panel.devices number) (Between panel.devices number) Was Mid answer → honest
+  first_moments : {answer : Answer} → StepsOf honest (KeepsList panel.devices) (Between panel.devices number) (Between panel.devices number) Was Mid answer
+      → honest
       → (lost : Option Lost) (V : List Bytes) → RestsOn Was lost V → Throughout (Either lost V) h h1
   first_moments forms fair lost V rests =
-      throughout_more (λ now. holds_more table panel.devices lost (V ∷ []) (V ∷ written V sectors ∷ []) now (λ other among. Contains-append_left (V ∷ []) (written V sectors ∷ []) other among)) h1
+      throughout_more (λ now. holds_more table panel.devices lost (V ∷ []) (V ∷ written V sectors ∷ []) now
+      (λ other among. Contains-append_left (V ∷ []) (written V sectors ∷ []) other among)) h1
       (forms.moments fair record { base = table; lost = lost; logical = V } (from_rest fair lost V rests))
 
   -- Where its rows could not be formed, nothing was written.
@@ -173,14 +182,17 @@ module _ (spellings : Spellings) (honest : Type 0) (number : ℕ) (sectors : Giv
         number = λ ok. absurd (cc);
         moments = λ fair lost V rests. first_moments forms fair lost V rests;
         rests = λ fair ok. absurd (cc);
-        cause = λ other is. ends_with Was Mid (GREATEST_COUNT ≤ number) other (two_or_worn Was Mid other (forms.cause other is)) (step_is_end Was Mid other (forms.cause other is));
+        cause = λ other is. ends_with Was Mid (GREATEST_COUNT ≤ number) other (two_or_worn Was Mid other (forms.cause other is))
+            (step_is_end Was Mid other (forms.cause other is));
       }
 
   -- its rows were formed
 
-  module _ (still : Type 0) (more : honest → still) (may : MayCommit table sectors) (seal : Seal) (entry : Entry) (steps : KeepsOn honest table table1 panel panel1 h h1 (Ok tt))
+  module _ (still : Type 0) (more : honest → still) (may : MayCommit table sectors) (seal : Seal) (entry : Entry)
+      (steps : KeepsOn honest table table1 panel panel1 h h1 (Ok tt))
       (formed : (number : ℕ) (from : KeepsFrom) → honest → Between panel.devices number from table h → FormsListed table.geometry sectors from.logical entry)
-      (its_id : seal.id ≡ table1.id) (its_number : seal.number ≡ number + 1) (its_rows : seal.rows.items ≡ numbers_of entry) (its_form : seal.form ≡ form_of entry) where
+      (its_id : seal.id ≡ table1.id) (its_number : seal.number ≡ number + 1) (its_rows : seal.rows.items ≡ numbers_of entry)
+      (its_form : seal.form ≡ form_of entry) where
     abbrev members : ℕ
     members = table1.geometry.members
 
@@ -244,17 +256,23 @@ module _ (spellings : Spellings) (honest : Type 0) (number : ℕ) (sectors : Giv
       next : IsFormedNext number table1 h1 sectors seal values body
       next = record {
         formed = subst (λ (rows : List ℕ). IsFormed table1.geometry base sectors rows values) (sym its_rows) is_formed;
-        long = length_of_seal members seal entry few record { rows = sym its_rows; held = λ i member within below. ap (λ (f : Form). holds members f i member) (sym its_form) };
+        long = length_of_seal members seal entry few record {
+          rows = sym its_rows;
+          held =
+              λ i member within below. ap (λ (f : Form). holds members f i member) (sym its_form);
+        };
         body_is = λ i member within below held. ap (λ (f : Form). slice_index_or body (rank members f i member) []) its_form
             ∙ body_is members base entry i member few (in_entry i within) below (ap (λ (f : Form). holds members f i member) (sym its_form) ∙ held);
-        kept = λ i member within below lacking. kept members base entry i member refl (in_entry i within) below (ap (λ (f : Form). holds members f i member) (sym its_form) ∙ lacking)
+        kept = λ i member within below lacking. kept members base entry i member refl (in_entry i within) below
+            (ap (λ (f : Form). holds members f i member) (sym its_form) ∙ lacking)
             ∙ ap (λ (rows : List ℕ). value base (row_at rows i) member) (sym its_rows);
         next = its_number;
         belongs = record {
           of_set = its_id;
           own_place = refl;
           below = subst (λ (rows : List ℕ). (i : ℕ) → i < length rows → row_at rows i < row_count table1) (sym its_rows) forms.rows.of_set;
-          held = subst₂ (λ (f : Form) (rows : List ℕ). RowsHold table1.geometry f rows) (sym its_form) (sym its_rows) (rows_hold table1.geometry sectors entry forms.held);
+          held = subst₂ (λ (f : Form) (rows : List ℕ). RowsHold table1.geometry f rows) (sym its_form) (sym its_rows)
+              (rows_hold table1.geometry sectors entry forms.held);
         };
       }
         where
@@ -270,7 +288,8 @@ module _ (spellings : Spellings) (honest : Type 0) (number : ℕ) (sectors : Giv
 
     -- Steps in which the entry was put so far, that were refused.
     refused_so : (table2 : Table) (panel2 : Panel) (h2 : History) (refusal : Refusal) (after : List Bytes → PutsFrom → Table → History → Type 0)
-        → ((V : List Bytes) → Brings still (IsComing (Formed (written V sectors)) seal body (λ k. Awaited)) (after V) Mid (view_of panel2 h2 table2 number) (refused refusal))
+        → ((V : List Bytes) → Brings still (IsComing (Formed (written V sectors)) seal body (λ k. Awaited)) (after V) Mid (view_of panel2 h2 table2 number)
+        (refused refusal))
         → Commits honest sectors Was (view_of panel2 h2 table2 number) (refused refusal)
     refused_so table2 panel2 h2 refusal after putting =
         let one = putting [] in
@@ -280,7 +299,8 @@ module _ (spellings : Spellings) (honest : Type 0) (number : ℕ) (sectors : Giv
           stays = stays_both honest Was Mid New (HasEnded (refused refusal)) forming.goes_on one.goes_on forming.stays
               record { table = one.stays.table; failure = λ fair. one.stays.failure (more fair) };
           number = λ ok. absurd (cc);
-          moments = λ fair lost V rests. both_moments fair lost V rests h2 ((putting V).moments (more fair) (Putting lost V) (λ loss. coming fair lost V rests));
+          moments = λ fair lost V rests. both_moments fair lost V rests h2
+              ((putting V).moments (more fair) (Putting lost V) (λ loss. coming fair lost V rests));
           rests = λ fair ok. absurd (cc);
           cause = λ other is.
               let end = end_after honest Was Mid New forming.stays other (one.cause other is) in
@@ -292,77 +312,91 @@ module _ (spellings : Spellings) (honest : Type 0) (number : ℕ) (sectors : Giv
       -- Where it could not be put on the journals, the list is the one before or the one after.
       pub commit_unsealed : (refusal : Refusal) → answer ≡ Err refusal → Commits honest sectors Was (view_of panel2 h2 table2 number) (refused refusal)
       commit_unsealed refusal is = refused_so table2 panel2 h2 refusal (λ V. IsComing (Formed (written V sectors)) seal body (both_sealed members))
-          (λ V. subst (λ (a : Answer). Brings still (IsComing (Formed (written V sectors)) seal body (λ k. Awaited)) (IsComing (Formed (written V sectors)) seal body (both_sealed members))
+          (λ V. subst (λ (a : Answer). Brings still (IsComing (Formed (written V sectors)) seal body (λ k. Awaited))
+          (IsComing (Formed (written V sectors)) seal body (both_sealed members))
           Mid (view_of panel2 h2 table2 number) a) is (journals (Formed (written V sectors))))
 
       -- it was
-      module _ (ok : answer ≡ Ok tt) (still2 : Type 0) (more2 : still → still2) (table3 : Table) (panel3 : Panel) (h3 : History) (true_new : honest → IsTrueTo panel3 h3) (last : Answer)
-          (puts : StepsMembers still2 seal (body_of table2.geometry.members entry) (view_of panel2 h2 table2 number) (view_of panel3 h3 table3 number) last) where
-        abbrev New : ℕ → ArrayView
-        New n = view_of panel3 h3 table3 n
+      module _ (ok : answer ≡ Ok tt) (still2 : Type 0) (more2 : still → still2) (table3 : Table) (panel3 : Panel) (h3 : History)
+          (true_new : honest → IsTrueTo panel3 h3) (last : Answer)
+          (puts : StepsMembers still2 seal (body_of table2.geometry.members entry) (view_of panel2 h2 table2 number) (view_of panel3 h3 table3 number) last)
+        where
+          abbrev New : ℕ → ArrayView
+          New n = view_of panel3 h3 table3 n
 
-        sealing : (V : List Bytes) → Brings still (IsComing (Formed (written V sectors)) seal body (λ k. Awaited)) (IsComing (Formed (written V sectors)) seal body (both_sealed members))
-            Mid (view_of panel2 h2 table2 number) (Ok tt)
-        sealing V = subst (λ (a : Answer). Brings still (IsComing (Formed (written V sectors)) seal body (λ k. Awaited)) (IsComing (Formed (written V sectors)) seal body (both_sealed members))
-            Mid (view_of panel2 h2 table2 number) a) ok (journals (Formed (written V sectors)))
+          sealing : (V : List Bytes) → Brings still (IsComing (Formed (written V sectors)) seal body (λ k. Awaited))
+              (IsComing (Formed (written V sectors)) seal body (both_sealed members))
+              Mid (view_of panel2 h2 table2 number) (Ok tt)
+          sealing V = subst (λ (a : Answer). Brings still (IsComing (Formed (written V sectors)) seal body (λ k. Awaited))
+              (IsComing (Formed (written V sectors)) seal body (both_sealed members))
+              Mid (view_of panel2 h2 table2 number) a) ok (journals (Formed (written V sectors)))
 
-        same_members : table2.geometry.members ≡ members
-        same_members = ap (λ (g : Geometry). g.members) (sealing []).goes_on.not_older.same_geometry
+          same_members : table2.geometry.members ≡ members
+          same_members = ap (λ (g : Geometry). g.members) (sealing []).goes_on.not_older.same_geometry
 
-        members_put : StepsMembers still2 seal body (view_of panel2 h2 table2 number) (New number) last
-        members_put = subst (λ (n : ℕ). StepsMembers still2 seal (body_of n entry) (view_of panel2 h2 table2 number) (New number) last) same_members puts
+          members_put : StepsMembers still2 seal body (view_of panel2 h2 table2 number) (New number) last
+          members_put = subst (λ (n : ℕ). StepsMembers still2 seal (body_of n entry) (view_of panel2 h2 table2 number) (New number) last) same_members puts
 
-        -- each journal has it
-        all_sealed : (journal : ℕ) → table2.geometry.members ≤ journal → CountsOn table2 journal → both_sealed members journal ≡ HasSeal
-        all_sealed journal beyond counted = both_are_sealed members journal (omega (arith, same_members, beyond)) (omega (arith, same_members, counted.of_set))
+          -- each journal has it
+          all_sealed : (journal : ℕ) → table2.geometry.members ≤ journal → CountsOn table2 journal → both_sealed members journal ≡ HasSeal
+          all_sealed journal beyond counted = both_are_sealed members journal (omega (arith, same_members, beyond))
+              (omega (arith, same_members, counted.of_set))
 
-        putting : (V : List Bytes) → Brings still (IsComing (Formed (written V sectors)) seal body (λ k. Awaited)) (IsPut seal.number) Mid (New number) last
-        putting V = brings_both still still2 more2 (IsComing (Formed (written V sectors)) seal body (λ k. Awaited)) (IsComing (Formed (written V sectors)) seal body (both_sealed members)) (IsPut seal.number)
-            Mid (view_of panel2 h2 table2 number) (New number) last (sealing V)
-            (steps_more still2 HoldsAll (IfSingleFailure (IsPutBefore 0 seal body)) (IfSingleFailure (IsComing (Formed (written V sectors)) seal body (both_sealed members)))
-            (IfSingleFailure (IsPut seal.number)) (IfSingleFailure (IsPut seal.number)) (view_of panel2 h2 table2 number) (New number) last
-            (λ from is loss. sealed_now (Formed (written V sectors)) seal body (both_sealed members) from table2 h2 (is loss) all_sealed) (λ fair done from is put. put) members_put)
+          putting : (V : List Bytes) → Brings still (IsComing (Formed (written V sectors)) seal body (λ k. Awaited)) (IsPut seal.number) Mid (New number) last
+          putting V = brings_both still still2 more2 (IsComing (Formed (written V sectors)) seal body (λ k. Awaited))
+              (IsComing (Formed (written V sectors)) seal body (both_sealed members)) (IsPut seal.number)
+              Mid (view_of panel2 h2 table2 number) (New number) last (sealing V)
+              (steps_more still2 HoldsAll (IfSingleFailure (IsPutBefore 0 seal body))
+              (IfSingleFailure (IsComing (Formed (written V sectors)) seal body (both_sealed members)))
+              (IfSingleFailure (IsPut seal.number)) (IfSingleFailure (IsPut seal.number)) (view_of panel2 h2 table2 number) (New number) last
+              (λ from is loss. sealed_now (Formed (written V sectors)) seal body (both_sealed members) from table2 h2 (is loss) all_sealed)
+              (λ fair done from is put. put) members_put)
 
-        -- Where its rows could not be put on the members, the list is the one before or the one after.
-        pub commit_unput : (refusal : Refusal) → last ≡ Err refusal → Commits honest sectors Was (New number) (refused refusal)
-        commit_unput refusal is = refused_so table3 panel3 h3 refusal (λ V. IsPut seal.number)
-            (λ V. subst (λ (a : Answer). Brings still (IsComing (Formed (written V sectors)) seal body (λ k. Awaited)) (IsPut seal.number) Mid (New number) a) is (putting V))
+          -- Where its rows could not be put on the members, the list is the one before or the one after.
+          pub commit_unput : (refusal : Refusal) → last ≡ Err refusal → Commits honest sectors Was (New number) (refused refusal)
+          commit_unput refusal is = refused_so table3 panel3 h3 refusal (λ V. IsPut seal.number)
+              (λ V. subst (λ (a : Answer). Brings still (IsComing (Formed (written V sectors)) seal body (λ k. Awaited)) (IsPut seal.number) Mid (New number) a)
+              is (putting V))
 
-        goes : GoesOn Was (New number)
-        goes = goes_on_both Was Mid (New number) forming.goes_on (putting []).goes_on
+          goes : GoesOn Was (New number)
+          goes = goes_on_both Was Mid (New number) forming.goes_on (putting []).goes_on
 
-        stays : StaysButForFailures honest Was (New number) (HasEnded last)
-        stays = stays_both honest Was Mid (New number) (HasEnded last) forming.goes_on (putting []).goes_on forming.stays
-            record { table = (putting []).stays.table; failure = λ fair. (putting []).stays.failure (more fair) }
+          stays : StaysButForFailures honest Was (New number) (HasEnded last)
+          stays = stays_both honest Was Mid (New number) (HasEnded last) forming.goes_on (putting []).goes_on forming.stays
+              record { table = (putting []).stays.table; failure = λ fair. (putting []).stays.failure (more fair) }
 
-        module _ (done : last ≡ Ok tt) (fair : honest) (lost : Option Lost) (V : List Bytes) (rests : RestsOn Was lost V) where
-          not_ended : ¬ HasEnded last
-          not_ended ended = subst HasEnded done ended
+          module _ (done : last ≡ Ok tt) (fair : honest) (lost : Option Lost) (V : List Bytes) (rests : RestsOn Was lost V) where
+            not_ended : ¬ HasEnded last
+            not_ended ended = subst HasEnded done ended
 
-          loss_then : IsSingleFailure (slots_of table) lost h3
-          loss_then = single_failure_after spellings honest fair Was (New number) (HasEnded last) goes stays not_ended (true_old fair) (true_new fair) lost V rests
+            loss_then : IsSingleFailure (slots_of table) lost h3
+            loss_then = single_failure_after spellings honest fair Was (New number) (HasEnded last) goes stays not_ended (true_old fair) (true_new fair) lost V
+                rests
 
-          -- once it is safe on the journals, every case holds for the list after it, and so it does when its rows stand
-          put_for_list : IsPut seal.number (for_list (Putting lost V) (written V sectors)) table3 h3
-          put_for_list = members_put.reached (more2 (more fair)) done (for_list (Putting lost V) (written V sectors))
-              (λ loss. sealed_then spellings seal body (both_sealed members) (Putting lost V) table2 h2 (written V sectors)
-              ((sealing V).reached (more fair) refl (Putting lost V) (λ was. coming fair lost V rests) loss) all_sealed) loss_then
+            -- once it is safe on the journals, every case holds for the list after it, and so it does when its rows stand
+            put_for_list : IsPut seal.number (for_list (Putting lost V) (written V sectors)) table3 h3
+            put_for_list = members_put.reached (more2 (more fair)) done (for_list (Putting lost V) (written V sectors))
+                (λ loss. sealed_then spellings seal body (both_sealed members) (Putting lost V) table2 h2 (written V sectors)
+                ((sealing V).reached (more fair) refl (Putting lost V) (λ was. coming fair lost V rests) loss) all_sealed) loss_then
 
-          at_end : RestsAfter lost (New (number + 1)) (written V sectors)
-          at_end = writable_rests spellings panel3 panel.devices (number + 1) table table3 lost (written V sectors) h3 (goes.later.devices) (record {
-            from = put_for_list.writes;
-            entry = subst (λ (n : ℕ). HasEntryAtRest panel.devices table3 n (readable h3)) its_number put_for_list.entry;
-            single_failure = loss_then;
-            lost_out = lost_out_after spellings honest fair Was (New number) (HasEnded last) goes stays not_ended (true_old fair) (true_new fair) lost V rests;
-          }) (sectors_of panel3 h3 (true_new fair))
+            at_end : RestsAfter lost (New (number + 1)) (written V sectors)
+            at_end = writable_rests spellings panel3 panel.devices (number + 1) table table3 lost (written V sectors) h3 (goes.later.devices) (record {
+              from = put_for_list.writes;
+              entry = subst (λ (n : ℕ). HasEntryAtRest panel.devices table3 n (readable h3)) its_number put_for_list.entry;
+              single_failure = loss_then;
+              lost_out = lost_out_after spellings honest fair Was (New number) (HasEnded last) goes stays not_ended (true_old fair) (true_new fair) lost V
+                  rests;
+            }) (sectors_of panel3 h3 (true_new fair))
 
-        -- Where they were, the array is settled on the list after it.
-        pub commit_done : last ≡ Ok tt → Commits honest sectors Was (New (number + 1)) (Ok tt)
-        commit_done done = record {
-          goes_on = record { later = goes.later; not_older = goes.not_older; number = omega arith; its_slots = goes.its_slots };
-          stays = stays_numbered honest (HasEnded accepted) Was panel3 h3 table3 number (number + 1) (subst (λ (a : Answer). StaysButForFailures honest Was (New number) (HasEnded a)) done stays);
-          number = λ answered. refl;
-          moments = λ fair lost V rests. both_moments fair lost V rests h3 ((putting V).moments (more fair) (Putting lost V) (λ loss. coming fair lost V rests));
-          rests = λ fair answered lost V rests. at_end done fair lost V rests;
-          cause = λ refusal is. absurd (cc);
-        }
+          -- Where they were, the array is settled on the list after it.
+          pub commit_done : last ≡ Ok tt → Commits honest sectors Was (New (number + 1)) (Ok tt)
+          commit_done done = record {
+            goes_on = record { later = goes.later; not_older = goes.not_older; number = omega arith; its_slots = goes.its_slots };
+            stays = stays_numbered honest (HasEnded accepted) Was panel3 h3 table3 number (number + 1)
+                (subst (λ (a : Answer). StaysButForFailures honest Was (New number) (HasEnded a)) done stays);
+            number = λ answered. refl;
+            moments = λ fair lost V rests. both_moments fair lost V rests h3
+                ((putting V).moments (more fair) (Putting lost V) (λ loss. coming fair lost V rests));
+            rests = λ fair answered lost V rests. at_end done fair lost V rests;
+            cause = λ refusal is. absurd (cc);
+          }

@@ -43,7 +43,8 @@ abbrev pub commits_from : (devices : ℕ) (base : Table) → Option Lost → Lis
 commits_from devices base lost V sectors = record { devices = devices; base = base; lost = lost; lists = V ∷ written V sectors ∷ [] }
 
 -- Its entry is formed from what reads give, has the next number, and is one of the set.
-pub record IsFormedNext (number : ℕ) (table : Table) (h : History) (sectors : List (ℕ × Bytes)) (seal : Seal) (values : List (List Bytes)) (body : List Bytes) : Type 0 where
+pub record IsFormedNext (number : ℕ) (table : Table) (h : History) (sectors : List (ℕ × Bytes)) (seal : Seal) (values : List (List Bytes))
+    (body : List Bytes) : Type 0 where
   pub formed : IsFormed table.geometry (rows_by table (readable h)) sectors seal.rows.items values
   pub long : IsBodyLong table.geometry.members seal body
   pub body_is : (i member : ℕ) → i < length seal.rows.items → member < table.geometry.members → holds table.geometry.members seal.form i member ≡ true
@@ -53,7 +54,8 @@ pub record IsFormedNext (number : ℕ) (table : Table) (h : History) (sectors : 
   pub next : seal.number ≡ number + 1
   pub belongs : Belongs table.id table.geometry (seal.number % HALVES) seal
 
-module _ (spellings : Spellings) (panel : Panel) (devices number : ℕ) (base table : Table) (lost : Option Lost) (V : List Bytes) (h : History) (same_devices : panel.devices ≡ devices)
+module _ (spellings : Spellings) (panel : Panel) (devices number : ℕ) (base table : Table) (lost : Option Lost) (V : List Bytes) (h : History)
+    (same_devices : panel.devices ≡ devices)
     (is : IsWritable devices number base table lost V h) (leaves : LeavesSectors h) where
   rests : RestsAfter lost (view_of panel h table number) V
   rests = writable_rests spellings panel devices number base table lost V h same_devices is leaves
@@ -73,7 +75,8 @@ module _ (spellings : Spellings) (panel : Panel) (devices number : ℕ) (base ta
     there = ((trusts_tells (state_at table.states member) row table.position).0 trusted).there;
   }
 
-  module _ (sectors : List (ℕ × Bytes)) (seal : Seal) (values : List (List Bytes)) (body : List Bytes) (formed : IsFormedNext number table h sectors seal values body) where
+  module _ (sectors : List (ℕ × Bytes)) (seal : Seal) (values : List (List Bytes)) (body : List Bytes)
+      (formed : IsFormedNext number table h sectors seal values body) where
     -- the list is that of what reads give
     same_list : logical_list table.geometry (rows_by table (readable h)) ≡ V
     same_list = rests.rests.listed
@@ -98,7 +101,8 @@ module _ (spellings : Spellings) (panel : Panel) (devices number : ℕ) (base ta
       bare = λ row member. refl;
       sound = rests.rests.sound;
       trust = λ row member below within trusted. trusted;
-      own = λ row member below within trusted none. sym (ap (λ (c : Content). sector_of (disk_of c) (FIRST_ROW + row)) (stands_there member (counts row member within trusted)));
+      own = λ row member below within trusted none. sym
+          (ap (λ (c : Content). sector_of (disk_of c) (FIRST_ROW + row)) (stands_there member (counts row member within trusted)));
       whole_sectors = λ row member below within trusted.
           let counted = counts row member within trusted in
           let least = cond_below member table.geometry.members (FIRST_ROW + row_count table) JOURNAL_SECTORS within in
@@ -118,7 +122,8 @@ module _ (spellings : Spellings) (panel : Panel) (devices number : ℕ) (base ta
 
     pub commit_begins : IsComing (Formed (written V sectors)) seal body (λ k. Awaited) from table h
     commit_begins = record {
-      writes = writes_more spellings devices base table lost (V ∷ []) (V ∷ written V sectors ∷ []) h (λ other among. Contains-append_left (V ∷ []) (written V sectors ∷ []) other among) is.from;
+      writes = writes_more spellings devices base table lost (V ∷ []) (V ∷ written V sectors ∷ []) h
+          (λ other among. Contains-append_left (V ∷ []) (written V sectors ∷ []) other among) is.from;
       long = formed.long;
       on_journals = next_on;
       may_stand = is_formed;

@@ -44,9 +44,11 @@ is_writing table puts old h (left, off) = record {
 }
 
 kept_writing : (table : Table) (puts : Contents) (old : History) (call : Call) → IsAllowed table puts call → IsKeptBy (IsWritingOff table puts old) call
-kept_writing table puts old (Read device at) allowed = kept_both (LeavesWithin (OldOrPut table puts old)) (λ h. StaysOff (CountsOn table) old h) (Read device at)
+kept_writing table puts old (Read device at) allowed =
+    kept_both (LeavesWithin (OldOrPut table puts old)) (λ h. StaysOff (CountsOn table) old h) (Read device at)
     (kept_within (OldOrPut table puts old) (Read device at) tt) (kept_off (CountsOn table) old (Read device at) allowed)
-kept_writing table puts old (Write device at value) allowed = kept_both (LeavesWithin (OldOrPut table puts old)) (λ h. StaysOff (CountsOn table) old h) (Write device at value)
+kept_writing table puts old (Write device at value) allowed =
+    kept_both (LeavesWithin (OldOrPut table puts old)) (λ h. StaysOff (CountsOn table) old h) (Write device at value)
     (kept_within (OldOrPut table puts old) (Write device at value) (inr allowed)) (kept_off (CountsOn table) old (Write device at value) allowed.0)
 kept_writing table puts old (Flush device) allowed = kept_both (LeavesWithin (OldOrPut table puts old)) (λ h. StaysOff (CountsOn table) old h) (Flush device)
     (kept_within (OldOrPut table puts old) (Flush device) tt) (kept_off (CountsOn table) old (Flush device) allowed)
@@ -56,7 +58,8 @@ all_kept table puts old [] allowed = tt
 all_kept table puts old (call ∷ calls) (one, others) = (kept_writing table puts old call one, all_kept table puts old calls others)
 
 -- at each moment of such calls the set is written
-pub calls_write : (table : Table) (puts : Contents) (calls : List Call) {answered : Bool} {old new : History} → AllAllowed table puts calls → Made calls answered old new
+pub calls_write : (table : Table) (puts : Contents) (calls : List Call) {answered : Bool} {old new : History} → AllAllowed table puts calls
+    → Made calls answered old new
     → Throughout (IsWriting table puts old) old new
 calls_write table puts calls {old = old} {new = new} allowed made = throughout_more (λ h is. is_writing table puts old h is) new
     (throughout_kept (IsWritingOff table puts old) (all_kept table puts old calls allowed)

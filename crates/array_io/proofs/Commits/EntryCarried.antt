@@ -1,5 +1,6 @@
 -- The last entry of a set goes on saying what the members hold while nothing is written after the superblocks: over reads, and when a slot is marked missing.
-use Rattle.std.proofs.Common.{◌≡◌, ◌≢◌, inl, inr, ℕ, ◌+◌, ◌<◌, ◌≤◌, ◌==◌, Bool, true, false, IsTrue, List, Option, Some, None, refl, sym, ◌∙◌, ap, subst, subst₂, arith}
+use Rattle.std.proofs.Common.{◌≡◌, ◌≢◌, inl, inr, ℕ, ◌+◌, ◌<◌, ◌≤◌, ◌==◌, Bool, true, false, IsTrue, List, Option, Some, None, refl, sym, ◌∙◌, ap, subst}
+use Rattle.std.proofs.Common.{subst₂, arith}
 use Rattle.std.proofs.lemmas.Bool.{or_right}
 use Rattle.sector_model.specs.declared.event.Event.TheVariants.{Quiet, Wrote, Lost as LostWrite, Flushed, DeviceFailed}
 use Rattle.sector_model.specs.History.{After, Began, Bytes, History, Slots, disk_of, is_down, sector_of, seen}
@@ -56,7 +57,8 @@ counts_on_the_same table = record { same_id = refl; same_geometry = refl; counts
 pub record ReadsTheSame (table : Table) (old new : History) : Type 0 where
   pub beyond : (slot at : ℕ) → CountsOn table slot → SUPERBLOCK_PLACES ≤ at → sector_of (seen new slot) at ≡ sector_of (seen old slot) at
 
-module _ (spellings : Spellings) (devices : ℕ) (old_table new_table : Table) (number : ℕ) (old new : History) (entry : HasEntryAtRest devices old_table number (readable old))
+module _ (spellings : Spellings) (devices : ℕ) (old_table new_table : Table) (number : ℕ) (old new : History)
+    (entry : HasEntryAtRest devices old_table number (readable old))
     (was_there : IsAllThere devices old_table old) (goes : CountsOnNoMore old_table new_table) (is_there : IsAllThere devices new_table new)
     (reads : ReadsTheSame new_table old new) where
   -- after the superblocks of a slot that counts stands what stood there
@@ -91,7 +93,8 @@ module _ (spellings : Spellings) (devices : ℕ) (old_table new_table : Table) (
       }
 
   -- its last seal is the same
-  sealed_now : (journal : ℕ) → IsLiveJournal devices new_table (readable new) journal → IsLastSealed new_table.id new_table.geometry (readable new journal) entry.last
+  sealed_now : (journal : ℕ) → IsLiveJournal devices new_table (readable new) journal
+      → IsLastSealed new_table.id new_table.geometry (readable new journal) entry.last
   sealed_now journal live =
       subst₂ (λ (id : List ℕ) (g : Geometry). IsLastSealed id g (readable new journal) entry.last) (sym goes.same_id) (sym goes.same_geometry)
       (sealed_beyond old_table.id old_table.geometry (readable old journal) (readable new journal) (agree journal (journal_counts journal live)) entry.last
@@ -101,7 +104,8 @@ module _ (spellings : Spellings) (devices : ℕ) (old_table new_table : Table) (
   one_last = record { last = entry.last; sealed = sealed_now; there = is_there }
 
   -- a member that the table trusts in a row is one that it counts on
-  member_counts : (row member : ℕ) → member < new_table.geometry.members → IsTrue (trusts (state_at new_table.states member) row new_table.position) → CountsOn new_table member
+  member_counts : (row member : ℕ) → member < new_table.geometry.members → IsTrue (trusts (state_at new_table.states member) row new_table.position)
+      → CountsOn new_table member
   member_counts row member within trusted = record {
     of_set = omega (arith, within);
     there = ((trusts_tells (state_at new_table.states member) row new_table.position).0 trusted).there;
@@ -110,7 +114,8 @@ module _ (spellings : Spellings) (devices : ℕ) (old_table new_table : Table) (
   -- the bodies have the own sectors of members that are trusted
   owns_now : HaveOwnSectors devices new_table (readable new) entry.last
   owns_now journal seal live is row member sector below within trusted stands =
-      entry.bodies journal seal (was_journal journal live) is row member sector (subst (λ (n : ℕ). row < n) rows_are below) (subst (λ (n : ℕ). member < n) members_are within) stood
+      entry.bodies journal seal (was_journal journal live) is row member sector (subst (λ (n : ℕ). row < n) rows_are below)
+      (subst (λ (n : ℕ). member < n) members_are within) stood
       ∙ value-own (rows_by old_table (readable old)) row member refl (goes.trusts_it row member within trusted)
       ∙ (agree member (member_counts row member within trusted)).same (FIRST_ROW + row) (omega arith)
     where
@@ -120,7 +125,8 @@ module _ (spellings : Spellings) (devices : ℕ) (old_table new_table : Table) (
           ∙ subst (λ (n : ℕ). sector_in n (readable new journal) seal row member ≡ Some sector) members_are stands
 
   -- so in a case that holds the entry says what the members hold
-  carried_in_case : (X : List (List Bytes)) → HoldsIn devices new_table X (readable new) → HasWholeSectors (readable new) → HasEntryAtRest devices new_table number (readable new)
+  carried_in_case : (X : List (List Bytes)) → HoldsIn devices new_table X (readable new) → HasWholeSectors (readable new)
+      → HasEntryAtRest devices new_table number (readable new)
   unfolding one_last
   carried_in_case X holds whole = entry_at_rest_in_case spellings devices new_table X (readable new) holds one_last number whole entry.numbered owns_now
 
@@ -130,7 +136,8 @@ pub entry_carried : Spellings → (devices : ℕ) (base old_table new_table : Ta
     → WritesFrom devices base new_table lost X new → IsSingleFailure (slots_of base) lost new → ReadsTheSame new_table old new → HasWholeSectors (readable new)
     → HasEntryAtRest devices new_table number (readable new)
 entry_carried spellings devices base old_table new_table lost X number old new entry there goes from single_failure reads whole =
-    let by = by_table base devices new_table X (record { image = readable new; lost = single_failure.0 }) from.same_id (from.holds single_failure.0 (readable new) single_failure.1 (readable_left new))
+    let by = by_table base devices new_table X (record { image = readable new; lost = single_failure.0 }) from.same_id
+    (from.holds single_failure.0 (readable new) single_failure.1 (readable_left new))
     ((from.chosen single_failure.0 single_failure.1).whole (readable new) (readable_left new)) in
     carried_in_case spellings devices old_table new_table number old new entry there goes from.there reads X by.whole whole
 
@@ -220,9 +227,11 @@ reads_only table puts old (After Quiet h) (inr rest) stay =
     let last = throughout_last h so_far in
     then_also Quiet h so_far record { holds = last.holds; start = last.start; stays_down = last.stays_down; others_stay = last.others_stay }
 reads_only table puts old (After (Wrote device at value) h) is stay = subst (Throughout (IsWriting table puts old) old) is (here (writing_none table puts old))
-reads_only table puts old (After (LostWrite device at value) h) is stay = subst (Throughout (IsWriting table puts old) old) is (here (writing_none table puts old))
+reads_only table puts old (After (LostWrite device at value) h) is stay =
+    subst (Throughout (IsWriting table puts old) old) is (here (writing_none table puts old))
 reads_only table puts old (After (Flushed device) h) is stay = subst (Throughout (IsWriting table puts old) old) is (here (writing_none table puts old))
-reads_only table puts old (After (DeviceFailed device) h) (inl is) stay = subst (Throughout (IsWriting table puts old) old) is (here (writing_none table puts old))
+reads_only table puts old (After (DeviceFailed device) h) (inl is) stay =
+    subst (Throughout (IsWriting table puts old) old) is (here (writing_none table puts old))
 reads_only table puts old (After (DeviceFailed device) h) (inr rest) stay =
     let so_far = reads_only table puts old h rest (stay_before table old h device record { only = rest } stay) in
     let last = throughout_last h so_far in
@@ -234,5 +243,6 @@ reads_only table puts old (After (DeviceFailed device) h) (inr rest) stay =
     }
 
 -- At each moment of reads the set is written, with nothing or whatever may be put.
-pub reads_write : (table : Table) (puts : Contents) (old new : History) → HasRead old new → OthersStay table old new → Throughout (IsWriting table puts old) old new
+pub reads_write : (table : Table) (puts : Contents) (old new : History) → HasRead old new → OthersStay table old new
+    → Throughout (IsWriting table puts old) old new
 reads_write table puts old new read stay = reads_only table puts old new read.only stay

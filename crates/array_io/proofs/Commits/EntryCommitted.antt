@@ -1,5 +1,6 @@
 -- What an image says while the seal of a commit's entry comes onto a journal: what it said, or the list with the sectors written.
-use Rattle.std.proofs.Common.{◌≡◌, ◌≢◌, ◌⊎◌, inl, inr, ℕ, ◌+◌, ◌<◌, ◌≤◌, Bool, true, false, List, [], length, Option, Some, None, refl, sym, ◌∙◌, ap, subst, arith}
+use Rattle.std.proofs.Common.{◌≡◌, ◌≢◌, ◌⊎◌, inl, inr, ℕ, ◌+◌, ◌<◌, ◌≤◌, Bool, true, false, List, [], length, Option, Some, None, refl, sym, ◌∙◌, ap, subst}
+use Rattle.std.proofs.Common.{arith}
 use Rattle.std.specs.Prelude.{Contains, option_and_then, if◌then◌else◌, slice_index_or, unwrap_or}
 use Rattle.std.proofs.lemmas.Bool.{cases_eq}
 use Rattle.std.proofs.lemmas.Option.{none-some}
@@ -37,10 +38,13 @@ use Rattle.array_io.proofs.Commits.FormedRows.{TakesEntry, formed_sector, takes_
 use Rattle.array_io.proofs.Laws.Fresh.{in_sync_not_rebuilding}
 use Rattle.array_io.proofs.Images.SayingTheSame.{HaveLiveAlike, same_greatest, says_the_same, steps_the_same}
 
--- A commit's entry: its rows are formed from sound rows in which no entry counts and each member is trusted that the table trusts now; the members that it trusts
--- still have the sectors of those rows but where it holds one; its body has what it holds of the formed rows, whose other sectors are as they were; and each other
+-- A commit's entry: its rows are formed from sound rows in which no entry counts and each member is trusted that the table trusts now; the members that it
+-- trusts
+-- still have the sectors of those rows but where it holds one; its body has what it holds of the formed rows, whose other sectors are as they were; and each
+-- other
 -- journal has the entry before, or this one.
-pub record IsCommitted (table : Table) (base : Rows) (reads : Slots) (target : ℕ) (sectors : List (ℕ × Bytes)) (seal : Seal) (values : List (List Bytes)) (body : List Bytes) : Type 0 where
+pub record IsCommitted (table : Table) (base : Rows) (reads : Slots) (target : ℕ) (sectors : List (ℕ × Bytes)) (seal : Seal) (values : List (List Bytes))
+    (body : List Bytes) : Type 0 where
   pub formed : IsFormed table.geometry base sectors seal.rows.items values
   pub long : IsBodyLong table.geometry.members seal body
   pub body_is : (i member : ℕ) → i < length seal.rows.items → member < table.geometry.members → holds table.geometry.members seal.form i member ≡ true
@@ -50,11 +54,13 @@ pub record IsCommitted (table : Table) (base : Rows) (reads : Slots) (target : �
   pub width : base.members ≡ table.geometry.members
   pub bare : (row member : ℕ) → base.entry row member ≡ None
   pub sound : AreSound base (row_count table)
-  pub trust : (row member : ℕ) → row < row_count table → member < table.geometry.members → TableTrusts (state_at table.states member) row table.position → base.trusted row member ≡ true
+  pub trust : (row member : ℕ) → row < row_count table → member < table.geometry.members → TableTrusts (state_at table.states member) row table.position
+      → base.trusted row member ≡ true
   pub own : (row member : ℕ) → row < row_count table → member < table.geometry.members → place_by_seal table.geometry.members seal row member ≡ None
       → TableTrusts (state_at table.states member) row table.position
       → sector_of (disk_of (reads member)) (FIRST_ROW + row) ≡ base.own row member
-  pub whole_sectors : (row member : ℕ) → row < row_count table → member < table.geometry.members → base.trusted row member ≡ true → length (base.own row member) ≡ 512
+  pub whole_sectors : (row member : ℕ) → row < row_count table → member < table.geometry.members → base.trusted row member ≡ true
+      → length (base.own row member) ≡ 512
   pub others : (journal : ℕ) → table.geometry.members ≤ journal → CountsOn table journal → journal ≢ target
       → IsNextOn table.id table.geometry (disk_of (reads journal)) seal ⊎ HasThisEntry table.id table.geometry (disk_of (reads journal)) seal body
 
@@ -64,7 +70,8 @@ list_after table base sectors = written (logical_list table.geometry base) secto
 
 module _ (devices : ℕ) (table : Table) (puts : Contents) (reads : Slots) (X : List (List Bytes)) (whole before image : Slots)
     (from : IsWrittenFrom devices table puts reads X whole before image) (alive : HaveLiveAlike devices table image before)
-    (base : Rows) (target : ℕ) (sectors : List (ℕ × Bytes)) (seal : Seal) (values : List (List Bytes)) (body : List Bytes) (beyond : table.geometry.members ≤ target) (of_set : target < slots_of table)
+    (base : Rows) (target : ℕ) (sectors : List (ℕ × Bytes)) (seal : Seal) (values : List (List Bytes)) (body : List Bytes)
+    (beyond : table.geometry.members ≤ target) (of_set : target < slots_of table)
     (committed : IsCommitted table base reads target sectors seal values body) (sealed : StandsSealed devices table target seal body before image) where
   of_target : IsGreatest table.id table.geometry (image target) seal
   of_target = greatest_there table.id table.geometry (image target) seal sealed.has.last
@@ -76,11 +83,14 @@ module _ (devices : ℕ) (table : Table) (puts : Contents) (reads : Slots) (X : 
   was_journal journal live = record { beyond_members = live.beyond_members; of_set = live.of_set; live = alive.live journal live.live }
 
   -- what another live journal has
-  other_is : (journal at : ℕ) → IsLiveJournal devices table image journal → journal ≢ target → sector_of (disk_of (image journal)) at ≡ sector_of (disk_of (reads journal)) at
+  other_is : (journal at : ℕ) → IsLiveJournal devices table image journal → journal ≢ target
+      → sector_of (disk_of (image journal)) at ≡ sector_of (disk_of (reads journal)) at
   other_is journal at live apart = sealed.others journal at apart
-      ∙ ap (λ (c : Content). sector_of (disk_of c) at) (journal_read devices table puts reads X whole before image from alive journal (was_journal journal live))
+      ∙ ap (λ (c : Content). sector_of (disk_of c) at)
+      (journal_read devices table puts reads X whole before image from alive journal (was_journal journal live))
 
-  other_sealed : (journal : ℕ) (last : Seal) → IsLiveJournal devices table image journal → journal ≢ target → IsGreatest table.id table.geometry (image journal) last
+  other_sealed : (journal : ℕ) (last : Seal) → IsLiveJournal devices table image journal → journal ≢ target
+      → IsGreatest table.id table.geometry (image journal) last
       → IsGreatest table.id table.geometry (Some (disk_of (reads journal))) last
   other_sealed journal last live apart is = same_greatest table.id table.geometry (Some (disk_of (reads journal))) (image journal)
       (λ place below. sym (other_is journal (FIRST_SEAL + place) live apart)) last is
@@ -98,12 +108,14 @@ module _ (devices : ℕ) (table : Table) (puts : Contents) (reads : Slots) (X : 
     pub has_body : (k : ℕ) → k < length body → sector_of (disk_of (image journal)) (body_start seal.number + k) ≡ slice_index_or body k []
 
   has_or_before : (journal : ℕ) → IsLiveJournal devices table image journal
-      → HasIt journal ⊎ ((journal ≢ target) × ((last : Option Seal) → IsLastSealed table.id table.geometry (image journal) last → seal.number ≡ number_of last + 1))
+      → HasIt journal ⊎ ((journal ≢ target) × ((last : Option Seal) → IsLastSealed table.id table.geometry (image journal) last
+      → seal.number ≡ number_of last + 1))
   has_or_before journal live = elim (cases_eq journal target) [
     | inl is ↦ inl (subst HasIt (sym is) record { last = of_target; has_body = sealed.has.has_body })
     | inr apart ↦ elim (committed.others journal live.beyond_members (journal_counts devices table image journal live) apart) [
       | inr has ↦ inl (record {
-        last = same_greatest table.id table.geometry (image journal) (Some (disk_of (reads journal))) (λ place below. other_is journal (FIRST_SEAL + place) live apart) seal has.last;
+        last = same_greatest table.id table.geometry (image journal) (Some (disk_of (reads journal)))
+            (λ place below. other_is journal (FIRST_SEAL + place) live apart) seal has.last;
         has_body = λ k within. other_is journal (body_start seal.number + k) live apart ∙ has.has_body k within;
       })
       | inl is_next ↦ inr (apart, λ last is. number_before is_next apart last is)
@@ -120,7 +132,8 @@ module _ (devices : ℕ) (table : Table) (puts : Contents) (reads : Slots) (X : 
           of_last (Some last) same =
               let there : IsGreatest table.id table.geometry (Some (disk_of (reads journal))) last =
               subst (IsLastSealed table.id table.geometry (Some (disk_of (reads journal)))) same is_next.is_last in
-              let its = same_greatest table.id table.geometry (image journal) (Some (disk_of (reads journal))) (λ place below. other_is journal (FIRST_SEAL + place) live apart) last there in
+              let its = same_greatest table.id table.geometry (image journal) (Some (disk_of (reads journal)))
+              (λ place below. other_is journal (FIRST_SEAL + place) live apart) last there in
               absurd (none its.place last its.counted)
 
   -- the last entry is this one
@@ -138,7 +151,8 @@ module _ (devices : ℕ) (table : Table) (puts : Contents) (reads : Slots) (X : 
       formed_at : (i : ℕ) (b : Bool) → place_in seal.rows.items row ≡ Some i → holds table.geometry.members seal.form i member ≡ b
           → formed_sector table.geometry.members seal values row member ≡ (if b then Some (slice_index_or (slice_index_or values i []) member []) else None)
       formed_at i b there is =
-          ap (option_and_then (λ n. if holds table.geometry.members seal.form n member then Some (slice_index_or (slice_index_or values n []) member []) else None)) there
+          ap (option_and_then (λ n. if holds table.geometry.members seal.form n member then Some (slice_index_or (slice_index_or values n []) member []) else
+          None)) there
           ∙ ap (λ (h : Bool). if h then Some (slice_index_or (slice_index_or values i []) member []) else None) is
 
       by_held : (i : ℕ) (b : Bool) → place_in seal.rows.items row ≡ Some i → holds table.geometry.members seal.form i member ≡ b
@@ -146,7 +160,8 @@ module _ (devices : ℕ) (table : Table) (puts : Contents) (reads : Slots) (X : 
       by_held i true there is =
           let within = (row_of_place seal.rows.items row i there).0 in
           sector_held table.geometry.members (image journal) seal row i member there is
-          ∙ ap Some (has.has_body (rank table.geometry.members seal.form i member) (in_the_body table.geometry.members seal body i member committed.long within below is)
+          ∙ ap Some (has.has_body (rank table.geometry.members seal.form i member)
+          (in_the_body table.geometry.members seal body i member committed.long within below is)
           ∙ committed.body_is i member within below is)
           ∙ sym (formed_at i true there is)
       by_held i false there is = sector_lacking table.geometry.members (image journal) seal row i member there is ∙ sym (formed_at i false there is)
@@ -154,10 +169,12 @@ module _ (devices : ℕ) (table : Table) (puts : Contents) (reads : Slots) (X : 
       by_place : (place : Option ℕ) → place_in seal.rows.items row ≡ place
           → sector_in table.geometry.members (image journal) seal row member ≡ formed_sector table.geometry.members seal values row member
       by_place None none = sector_of_no_row table.geometry.members (image journal) seal row member none
-          ∙ sym (ap (option_and_then (λ n. if holds table.geometry.members seal.form n member then Some (slice_index_or (slice_index_or values n []) member []) else None)) none)
+          ∙ sym (ap (option_and_then (λ n. if holds table.geometry.members seal.form n member then Some
+          (slice_index_or (slice_index_or values n []) member []) else None)) none)
       by_place (Some i) there = by_held i (holds table.geometry.members seal.form i member) there refl
 
-  entry_is : (last : Option Entry) → IsLastEntry table.id table.geometry (IsLiveJournal devices table image) image last → (row member : ℕ) → member < table.geometry.members
+  entry_is : (last : Option Entry) → IsLastEntry table.id table.geometry (IsLiveJournal devices table image) image last → (row member : ℕ)
+      → member < table.geometry.members
       → sector_of_last table.geometry.members image last row member ≡ formed_sector table.geometry.members seal values row member
   entry_is None none row member below = absurd (none target of_target.place seal target_live of_target.counted)
   entry_is (Some entry) is row member below =
@@ -173,7 +190,8 @@ module _ (devices : ℕ) (table : Table) (puts : Contents) (reads : Slots) (X : 
       by_held : (i : ℕ) (b : Bool) → place_in seal.rows.items row ≡ Some i → holds table.geometry.members seal.form i member ≡ b
           → place_by_seal table.geometry.members seal row member ≡ None
       by_held i true there is = absurd (none-some (slice_index_or (slice_index_or values i []) member []) (sym none
-          ∙ ap (option_and_then (λ n. if holds table.geometry.members seal.form n member then Some (slice_index_or (slice_index_or values n []) member []) else None)) there
+          ∙ ap (option_and_then (λ n. if holds table.geometry.members seal.form n member then Some (slice_index_or (slice_index_or values n []) member []) else
+          None)) there
           ∙ ap (λ (h : Bool). if h then Some (slice_index_or (slice_index_or values i []) member []) else None) is))
       by_held i false there is = place_lacking table.geometry.members seal row i member there is
 
@@ -196,11 +214,13 @@ module _ (devices : ℕ) (table : Table) (puts : Contents) (reads : Slots) (X : 
         let counted : CountsOn table member = record { of_set = omega (arith, within); there = trusted.live.not_missing } in
         are.own_sector row member within
         ∙ sealed.others member (FIRST_ROW + row) (λ same. absurd (omega (arith, same, within, beyond)))
-        ∙ ap (λ (c : Content). sector_of (disk_of c) (FIRST_ROW + row)) (is_read devices table puts reads X whole before image from alive member counted (alive.live member trusted.live))
+        ∙ ap (λ (c : Content). sector_of (disk_of c) (FIRST_ROW + row))
+        (is_read devices table puts reads X whole before image from alive member counted (alive.live member trusted.live))
         ∙ committed.own row member below within lacks (table_trusts rows are row member within counts);
     whole = committed.whole_sectors;
     one_out = λ row first second below within within' out out'.
-        from.holds.one_out first second (omega (arith, within)) (omega (arith, within')) (not_full rows are row first within out) (not_full rows are row second within' out');
+        from.holds.one_out first second (omega (arith, within)) (omega (arith, within')) (not_full rows are row first within out)
+        (not_full rows are row second within' out');
   }
     where
       table_trusts : (rows : Rows) → AreRowsOf devices table image rows → (row member : ℕ) → member < table.geometry.members → rows.trusted row member ≡ true
@@ -219,7 +239,8 @@ module _ (devices : ℕ) (table : Table) (puts : Contents) (reads : Slots) (X : 
           differ : ¬ (false ≡ true)
           differ e = cc
 
-  pub rows_committed : (X' : List (List Bytes)) → Contains X' (list_after table base sectors) → HasRows devices table X' (IsLiveJournal devices table image) image
+  pub rows_committed : (X' : List (List Bytes)) → Contains X' (list_after table base sectors)
+      → HasRows devices table X' (IsLiveJournal devices table image) image
   rows_committed X' among = record {
     sound = λ rows are. (takes_formed table.geometry base rows sectors seal values committed.formed (takes rows are) committed.sound).0;
     listed = λ rows are. subst (Contains X')
@@ -235,11 +256,14 @@ module _ (devices : ℕ) (table : Table) (puts : Contents) (reads : Slots) (X : 
             refl,
             λ row member below. in_rows first has row member below ∙ sym (in_rows second has' row member below),
           )))
-      | inr number ↦ subst (λ (o : Option Seal). AreInStep table.geometry.members (image first) (image second) o b) (sym (is_seal first a has last)) (past_first b (number.1 b last'))
+      | inr number ↦ subst (λ (o : Option Seal). AreInStep table.geometry.members (image first) (image second) o b) (sym (is_seal first a has last))
+          (past_first b (number.1 b last'))
     ]
     | inr number ↦ elim (has_or_before second live') [
-      | inl has' ↦ subst (λ (o : Option Seal). AreInStep table.geometry.members (image first) (image second) a o) (sym (is_seal second b has' last')) (past_second a (number.1 a last))
-      | inr number' ↦ same_journal (two_journals table.geometry.members first target second live.beyond_members live.of_set beyond of_set live'.beyond_members live'.of_set (λ is. number'.0 (sym is)))
+      | inl has' ↦ subst (λ (o : Option Seal). AreInStep table.geometry.members (image first) (image second) a o) (sym (is_seal second b has' last'))
+          (past_second a (number.1 a last))
+      | inr number' ↦ same_journal (two_journals table.geometry.members first target second live.beyond_members live.of_set beyond of_set live'.beyond_members
+          live'.of_set (λ is. number'.0 (sym is)))
           number.0
     ]
   ]
@@ -274,18 +298,21 @@ module _ (devices : ℕ) (table : Table) (puts : Contents) (reads : Slots) (X : 
 
 module _ (law : ACrashLeavesEither) (devices : ℕ) (table : Table) (puts : Contents) (reads : Slots) (X : List (List Bytes)) (whole before image : Slots)
     (from : IsWrittenFrom devices table puts reads X whole before image) (alive : HaveLiveAlike devices table image before)
-    (base : Rows) (target : ℕ) (sectors : List (ℕ × Bytes)) (seal : Seal) (values : List (List Bytes)) (body : List Bytes) (next : IsSealedNext table puts reads target seal body)
+    (base : Rows) (target : ℕ) (sectors : List (ℕ × Bytes)) (seal : Seal) (values : List (List Bytes)) (body : List Bytes)
+    (next : IsSealedNext table puts reads target seal body)
     (committed : IsCommitted table base reads target sectors seal values body) where
   -- so every image says what it said, or the list with the sectors written
   pub committed_keeps : (X' : List (List Bytes)) → ((V : List Bytes) → Contains X V → Contains X' V) → Contains X' (list_after table base sectors)
       → HasRows devices table X' (IsLiveJournal devices table image) image × AreJournalsInStep devices table image
   committed_keeps X' more among = elim (sealed_or_same law devices table puts reads X whole before image from alive target seal body next) [
     | inl same ↦ (
-      says_the_same devices table image before same X' record { sound = from.holds.sound; listed = λ rows are. more (logical_list table.geometry rows) (from.holds.listed rows are) },
+      says_the_same devices table image before same X'
+          record { sound = from.holds.sound; listed = λ rows are. more (logical_list table.geometry rows) (from.holds.listed rows are) },
       steps_the_same devices table image before same from.holds.in_step,
     )
     | inr sealed ↦ (
-      rows_committed devices table puts reads X whole before image from alive base target sectors seal values body next.beyond next.of_set committed sealed X' among,
+      rows_committed devices table puts reads X whole before image from alive base target sectors seal values body next.beyond next.of_set committed sealed X'
+          among,
       steps_committed devices table puts reads X whole before image from alive base target sectors seal values body next.beyond next.of_set committed sealed,
     )
   ]

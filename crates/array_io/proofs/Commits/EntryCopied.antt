@@ -37,7 +37,8 @@ pub record IsCopiedFrom (table : Table) (reads : Slots) (source target : ℕ) (s
   pub same_body : (k : ℕ) → k < length body → sector_of (disk_of (reads source)) (body_start seal.number + k) ≡ slice_index_or body k []
 
 -- of two journals each is the one or the other
-pub two_journals : (members journal first second : ℕ) → members ≤ journal → journal < members + 2 → members ≤ first → first < members + 2 → members ≤ second → second < members + 2
+pub two_journals : (members journal first second : ℕ) → members ≤ journal → journal < members + 2 → members ≤ first → first < members + 2 → members ≤ second
+    → second < members + 2
     → first ≢ second → (journal ≡ first) ⊎ (journal ≡ second)
 two_journals members journal first second least most least' most' least'' most'' apart = elim (cases_eq journal first) [
   | inl is ↦ inl is
@@ -48,9 +49,11 @@ two_journals members journal first second least most least' most' least'' most''
 ]
 
 -- a sector that a seal's entry holds is one of its body
-pub in_the_body : (members : ℕ) (seal : Seal) (body : List Bytes) (i member : ℕ) → IsBodyLong members seal body → i < length seal.rows.items → member < members → holds members seal.form i member ≡ true
+pub in_the_body : (members : ℕ) (seal : Seal) (body : List Bytes) (i member : ℕ) → IsBodyLong members seal body → i < length seal.rows.items → member < members
+    → holds members seal.form i member ≡ true
     → rank members seal.form i member < length body
-in_the_body members seal body i member long within below held = omega (arith, long, rank_before members seal.form i member (length seal.rows.items) held below within)
+in_the_body members seal body i member long within below held =
+    omega (arith, long, rank_before members seal.form i member (length seal.rows.items) held below within)
 
 -- where a journal has the sectors of its body
 record HasPart (seal : Seal) (body : List Bytes) (place : ℕ) : Type 0 where
@@ -58,7 +61,8 @@ record HasPart (seal : Seal) (body : List Bytes) (place : ℕ) : Type 0 where
   within : part < length body
   is : place ≡ body_start seal.number + part
 
-part_of_body : (members : ℕ) (seal : Seal) (body : List Bytes) (row member place : ℕ) → IsBodyLong members seal body → member < members → place_by_seal members seal row member ≡ Some place
+part_of_body : (members : ℕ) (seal : Seal) (body : List Bytes) (row member place : ℕ) → IsBodyLong members seal body → member < members
+    → place_by_seal members seal row member ≡ Some place
     → HasPart seal body place
 part_of_body members seal body row member place long below found =
     let at = is_placed members seal row member place found in
@@ -74,7 +78,8 @@ record HasTheSource (devices : ℕ) (table : Table) (reads : Slots) (X : List (L
 
 module _ (law : ACrashLeavesEither) (devices : ℕ) (table : Table) (puts : Contents) (reads : Slots) (X : List (List Bytes)) (whole before image : Slots)
     (from : IsWrittenFrom devices table puts reads X whole before image) (alive : HaveLiveAlike devices table image before)
-    (source target : ℕ) (seal : Seal) (body : List Bytes) (next : IsSealedNext table puts reads target seal body) (copied : IsCopiedFrom table reads source target seal body) where
+    (source target : ℕ) (seal : Seal) (body : List Bytes) (next : IsSealedNext table puts reads target seal body)
+    (copied : IsCopiedFrom table reads source target seal body) where
   -- such an image: the one before, or the whole one where the source is out
   has_source : (other : Slots) × HasTheSource devices table reads X source target before other
   has_source = elim (live_or_out devices table puts reads X whole before image from alive source copied.counted) [
@@ -108,7 +113,8 @@ module _ (law : ACrashLeavesEither) (devices : ℕ) (table : Table) (puts : Cont
     -- what the source has in the image, where it is live there
     source_is : (at : ℕ) → IsLive devices table source (image source) → sector_of (disk_of (image source)) at ≡ sector_of (disk_of (reads source)) at
     source_is at live = sealed.others source at copied.apart
-        ∙ ap (λ (c : Content). sector_of (disk_of c) at) (is_read devices table puts reads X whole before image from alive source copied.counted (alive.live source live))
+        ∙ ap (λ (c : Content). sector_of (disk_of c) at)
+        (is_read devices table puts reads X whole before image from alive source copied.counted (alive.live source live))
 
     -- each live journal has the seal as its last
     has_seal : (journal : ℕ) → IsLiveJournal devices table image journal → IsGreatest table.id table.geometry (image journal) seal
@@ -179,7 +185,8 @@ module _ (law : ACrashLeavesEither) (devices : ℕ) (table : Table) (puts : Cont
         on_source journal last is same = greatest_is_one table.id table.geometry (reads source) last seal table.id_long
             (subst (λ (c : Content). IsGreatest table.id table.geometry c last) (ap other same ∙ has.source_read) is) copied.says
 
-        on_target : (journal : ℕ) (last : Seal) → IsLiveJournal devices table other journal → IsGreatest table.id table.geometry (other journal) last → journal ≡ target
+        on_target : (journal : ℕ) (last : Seal) → IsLiveJournal devices table other journal → IsGreatest table.id table.geometry (other journal) last
+            → journal ≡ target
             → IsGreatest table.id table.geometry (reads target) last
         on_target journal last live is same = subst (λ (c : Content). IsGreatest table.id table.geometry c last)
             (ap other same ∙ has.target_read (subst (λ (j : ℕ). IsLive devices table j (other j)) same live.live)) is
@@ -229,7 +236,8 @@ module _ (law : ACrashLeavesEither) (devices : ℕ) (table : Table) (puts : Cont
           λ row member below. its_sectors first live row member below ∙ sym (its_sectors second live' row member below),
         )))
       where
-        is_seal : (journal : ℕ) (o : Option Seal) → IsLiveJournal devices table image journal → IsLastSealed table.id table.geometry (image journal) o → o ≡ Some seal
+        is_seal : (journal : ℕ) (o : Option Seal) → IsLiveJournal devices table image journal → IsLastSealed table.id table.geometry (image journal) o
+            → o ≡ Some seal
         is_seal journal o on is = last_is_one table.id table.geometry (image journal) o (Some seal) table.id_long is (has_seal journal on)
 
   -- so every image keeps its rows

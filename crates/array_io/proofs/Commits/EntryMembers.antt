@@ -22,7 +22,8 @@ use Rattle.array_io.proofs.Images.Spellings.{Spellings}
 use Rattle.array_io.proofs.Writes.Writing.{writing_throughout}
 use Rattle.array_io.proofs.Writes.WritingImages.{written_alive}
 
-module _ (spellings : Spellings) (devices : ℕ) (base table : Table) (lost : Option Lost) (X : List (List Bytes)) (member : ℕ) (seal : Seal) (body : List Bytes) (puts : Contents)
+module _ (spellings : Spellings) (devices : ℕ) (base table : Table) (lost : Option Lost) (X : List (List Bytes)) (member : ℕ) (seal : Seal) (body : List Bytes)
+    (puts : Contents)
     (old new : History) (from : WritesFrom devices base table lost X old)
     (only : (device at : ℕ) (value : Bytes) → puts device at value → IsRowSector table.geometry.members seal device at)
     (says : (journal : ℕ) → table.geometry.members ≤ journal → CountsOn table journal → HasIt table old journal seal body) where
@@ -37,7 +38,8 @@ module _ (spellings : Spellings) (devices : ℕ) (base table : Table) (lost : Op
   -- Where the member's device failed meanwhile, only that did.
   pub member_failed : Throughout (IsWriting table puts old) old new → StaysOff (λ d. d ≡ member) old new → CountsOn table member → is_down new member ≡ true
       → HasFailedOnce devices base table lost X member new
-  member_failed moments off counted failed = (failed_in_step spellings devices base table lost X X puts member old new from rows_kept moments off counted failed).0
+  member_failed moments off counted failed = (failed_in_step spellings devices base table lost X X puts member old new from rows_kept moments off counted
+      failed).0
 
   -- The rows come onto the member: every case keeps holding, and once it is flushed the set may be written on.
   pub member_step : Throughout (IsWriting table puts old) old new → StaysOff (λ d. d ≡ member) old new

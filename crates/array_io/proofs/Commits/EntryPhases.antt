@@ -70,7 +70,8 @@ module _ (devices : ℕ) (table : Table) (puts : Contents) (reads : Slots) (X : 
     ]
   ]
 
-  journal_at : (slot : ℕ) → table.geometry.members ≤ slot → slot < slots_of table → IsLive devices table slot (before slot) → IsLiveJournal devices table before slot
+  journal_at : (slot : ℕ) → table.geometry.members ≤ slot → slot < slots_of table → IsLive devices table slot (before slot)
+      → IsLiveJournal devices table before slot
   journal_at slot beyond of_set live = record { beyond_members = beyond; of_set = of_set; live = live }
 
   -- one of the two journals was live
@@ -87,8 +88,10 @@ module _ (devices : ℕ) (table : Table) (puts : Contents) (reads : Slots) (X : 
   ]
 
   -- Sectors of a half of one journal were written, in which its last entry has no body.
-  pub half_says : (journal number : ℕ) → table.geometry.members ≤ journal → ((device at : ℕ) (value : Bytes) → puts device at value → (device ≡ journal) × IsInHalf number at)
-      → ((seal : Seal) → IsGreatest table.id table.geometry (reads journal) seal → seal.number % HALVES ≢ number % HALVES) → SayTheSame devices table image before
+  pub half_says : (journal number : ℕ) → table.geometry.members ≤ journal
+      → ((device at : ℕ) (value : Bytes) → puts device at value → (device ≡ journal) × IsInHalf number at)
+      → ((seal : Seal) → IsGreatest table.id table.geometry (reads journal) seal → seal.number % HALVES ≢ number % HALVES)
+      → SayTheSame devices table image before
   half_says journal number beyond only apart = record {
     alive = alive;
     seals = λ j place below live. elim ((from.put j).each (FIRST_SEAL + place)) [
@@ -112,7 +115,8 @@ module _ (devices : ℕ) (table : Table) (puts : Contents) (reads : Slots) (X : 
 
   -- Sectors of members were written that the last entry of each live journal holds.
   pub rows_say : (seal : Seal) → ((device at : ℕ) (value : Bytes) → puts device at value → IsRowSector table.geometry.members seal device at)
-      → ((journal : ℕ) → table.geometry.members ≤ journal → CountsOn table journal → IsGreatest table.id table.geometry (reads journal) seal) → SayTheSame devices table image before
+      → ((journal : ℕ) → table.geometry.members ≤ journal → CountsOn table journal → IsGreatest table.id table.geometry (reads journal) seal)
+      → SayTheSame devices table image before
   rows_say seal only says = record {
     alive = alive;
     seals = λ j place below live. elim ((from.put j).each (FIRST_SEAL + place)) [
@@ -142,19 +146,24 @@ module _ (devices : ℕ) (table : Table) (puts : Contents) (reads : Slots) (X : 
       -- the last entry has each of these sectors
       not_in_entry : (last : Option Entry) → IsLastEntry table.id table.geometry (IsLiveJournal devices table before) before last → (row member : ℕ)
           → sector_of_last table.geometry.members before last row member ≡ None
-          → ¬ ((i : ℕ) × (i < length seal.rows.items) × (holds table.geometry.members seal.form i member ≡ true) × (FIRST_ROW + row ≡ FIRST_ROW + row_at seal.rows.items i))
+          → ¬ ((i : ℕ) × (i < length seal.rows.items) × (holds table.geometry.members seal.form i member ≡ true)
+          × (FIRST_ROW + row ≡ FIRST_ROW + row_at seal.rows.items i))
       not_in_entry None none row member is_none found =
           let its = its_seal some_journal.0 some_journal.1 in
           absurd (none some_journal.0 its.place seal some_journal.1 its.counted)
       not_in_entry (Some entry) latest row member is_none (i, within, held, is) =
-          let one : entry.seal ≡ seal = greatest_is_one table.id table.geometry (before entry.journal) entry.seal seal table.id_long latest.sealed (its_seal entry.journal latest.on_live) in
+          let one : entry.seal ≡ seal = greatest_is_one table.id table.geometry (before entry.journal) entry.seal seal table.id_long latest.sealed
+          (its_seal entry.journal latest.on_live) in
           let place : place_in entry.seal.rows.items row ≡ Some i =
-          ap (λ (s : Seal). place_in s.rows.items row) one ∙ ap (λ (r : ℕ). place_in seal.rows.items r) (same_row row (row_at seal.rows.items i) is) ∙ place_of_row seal.rows.items i seal.allowed.rising within in
-          let its_held : holds table.geometry.members entry.seal.form i member ≡ true = ap (λ (s : Seal). holds table.geometry.members s.form i member) one ∙ held in
+          ap (λ (s : Seal). place_in s.rows.items row) one ∙ ap (λ (r : ℕ). place_in seal.rows.items r) (same_row row (row_at seal.rows.items i) is)
+          ∙ place_of_row seal.rows.items i seal.allowed.rising within in
+          let its_held : holds table.geometry.members entry.seal.form i member ≡ true = ap (λ (s : Seal). holds table.geometry.members s.form i member) one
+          ∙ held in
           absurd (none-some _ (sym is_none ∙ sector_held table.geometry.members (before entry.journal) entry.seal row i member place its_held))
 
   -- so every image keeps its rows
-  pub half_keeps : (journal number : ℕ) → table.geometry.members ≤ journal → ((device at : ℕ) (value : Bytes) → puts device at value → (device ≡ journal) × IsInHalf number at)
+  pub half_keeps : (journal number : ℕ) → table.geometry.members ≤ journal
+      → ((device at : ℕ) (value : Bytes) → puts device at value → (device ≡ journal) × IsInHalf number at)
       → ((seal : Seal) → IsGreatest table.id table.geometry (reads journal) seal → seal.number % HALVES ≢ number % HALVES)
       → HasRows devices table X (IsLiveJournal devices table image) image × AreJournalsInStep devices table image
   half_keeps journal number beyond only apart =

@@ -35,7 +35,8 @@ pub record StandsSealed (devices : ℕ) (table : Table) (target : ℕ) (seal : S
   pub others : (slot at : ℕ) → slot ≢ target → sector_of (disk_of (image slot)) at ≡ sector_of (disk_of (before slot)) at
 
 -- what is last on the sectors of a slot is last on what the slot has
-pub greatest_there : (id : List ℕ) (geometry : Geometry) (content : Content) (seal : Seal) → IsGreatest id geometry (Some (disk_of content)) seal → IsGreatest id geometry content seal
+pub greatest_there : (id : List ℕ) (geometry : Geometry) (content : Content) (seal : Seal) → IsGreatest id geometry (Some (disk_of content)) seal
+    → IsGreatest id geometry content seal
 greatest_there id geometry (Some disk) seal is = is
 greatest_there id geometry None seal is = record {
   place = is.place;
@@ -76,7 +77,8 @@ module _ (law : ACrashLeavesEither) (devices : ℕ) (table : Table) (puts : Cont
     has = (law table.id table.geometry (disk_of (reads target)) (disk_of (image target)) seal body Sealed next.next (λ at. record {
       elsewhere = λ outside apart. other_places at apart ∙ ap (λ (c : Content). sector_of (disk_of c) at) read;
       in_half = λ later k within is. ap (sector_of (disk_of (image target))) is
-          ∙ other_places (body_start seal.number + k) (in_body k) ∙ ap (λ (c : Content). sector_of (disk_of c) (body_start seal.number + k)) read ∙ next.its_body k within;
+          ∙ other_places (body_start seal.number + k) (in_body k) ∙ ap (λ (c : Content). sector_of (disk_of c) (body_start seal.number + k)) read
+          ∙ next.its_body k within;
       in_place = λ is. ap (sector_of (disk_of (image target))) is ∙ stands;
     })).this refl;
     others = other_slots;
@@ -99,10 +101,11 @@ module _ (law : ACrashLeavesEither) (devices : ℕ) (table : Table) (puts : Cont
       | inr put ↦ inr (stands_sealed live (next.only target (seal_place seal.number) (sector_of (disk_of (image target)) (seal_place seal.number)) put.1).2)
       | inl same ↦ inl (same_journals_say (λ slot at alive_there. elim (cases_eq slot target) [
         | inr apart ↦ other_slots slot at apart
-        | inl is ↦ subst (λ (k : ℕ). sector_of (disk_of (image k)) at ≡ sector_of (disk_of (before k)) at) (sym is) (elim (cases_eq at (seal_place seal.number)) [
-          | inl there ↦ subst (λ (a : ℕ). sector_of (disk_of (image target)) a ≡ sector_of (disk_of (before target)) a) (sym there) same
-          | inr apart ↦ other_places at apart
-        ])
+        | inl is ↦ subst (λ (k : ℕ). sector_of (disk_of (image k)) at ≡ sector_of (disk_of (before k)) at) (sym is)
+            (elim (cases_eq at (seal_place seal.number)) [
+              | inl there ↦ subst (λ (a : ℕ). sector_of (disk_of (image target)) a ≡ sector_of (disk_of (before target)) a) (sym there) same
+              | inr apart ↦ other_places at apart
+            ])
       ]))
     ]
   ]

@@ -17,7 +17,8 @@ use Rattle.stripe_journal.specs.declared.seal.Seal.{Seal}
 use Rattle.stripe_journal.specs.Body.{seal_place}
 use Rattle.stripe_journal.specs.Entries.{body_start}
 use Rattle.stripe_journal.specs.LastEntry.{IsGreatest}
-use Rattle.stripe_journal.specs.OneEntry.{ACrashLeavesEither, HasEntryBefore, HasThisEntry, IsInHalf, IsNextOn, IsOn, MayStandOn, Sealed, Sealing, Staged, StaysOff, Writing}
+use Rattle.stripe_journal.specs.OneEntry.{ACrashLeavesEither, HasEntryBefore, HasThisEntry, IsInHalf, IsNextOn, IsOn, MayStandOn, Sealed, Sealing, Staged}
+use Rattle.stripe_journal.specs.OneEntry.{StaysOff, Writing}
 use Rattle.stripe_journal.specs.Spelling.{seal_sector}
 use Rattle.stripe_journal.proofs.OneEntry.{other_half}
 use Rattle.stripe_journal.proofs.OneEntryCalls.{IsPutOn, body_put, made_down, seal_put, writing_before}
@@ -53,16 +54,20 @@ pub record IsStepOf (devices : ℕ) (base table : Table) (lost : Option Lost) (X
   pub down : (other : ℕ) → is_down new other ≡ is_down old other
 
 -- a slot that the table counts on is up, and what reads give of it is what is seen
-pub counted_is_up : Spellings → (devices : ℕ) (base table : Table) (lost : Option Lost) (X : List (List Bytes)) (h : History) → WritesFrom devices base table lost X h
+pub counted_is_up : Spellings → (devices : ℕ) (base table : Table) (lost : Option Lost) (X : List (List Bytes)) (h : History)
+    → WritesFrom devices base table lost X h
     → (slot : ℕ) → CountsOn table slot → is_down h slot ≡ false
 counted_is_up spellings devices base table lost X h from slot counted = live_is_up spellings devices table h slot (from.there slot counted.of_set counted.there)
 
-pub read_is_seen : Spellings → (devices : ℕ) (base table : Table) (lost : Option Lost) (X : List (List Bytes)) (h : History) → WritesFrom devices base table lost X h
+pub read_is_seen : Spellings → (devices : ℕ) (base table : Table) (lost : Option Lost) (X : List (List Bytes)) (h : History)
+    → WritesFrom devices base table lost X h
     → (slot : ℕ) → CountsOn table slot → readable h slot ≡ Some (seen h slot)
-read_is_seen spellings devices base table lost X h from slot counted = readable_up h slot (counted_is_up spellings devices base table lost X h from slot counted)
+read_is_seen spellings devices base table lost X h from slot counted =
+    readable_up h slot (counted_is_up spellings devices base table lost X h from slot counted)
 
 -- a journal has room for its bodies
-journal_long : (table : Table) (journal : ℕ) (disk : List Bytes) (devices : ℕ) → table.geometry.members ≤ journal → IsLive devices table journal (Some disk) → JOURNAL_SECTORS ≤ length disk
+journal_long : (table : Table) (journal : ℕ) (disk : List Bytes) (devices : ℕ) → table.geometry.members ≤ journal → IsLive devices table journal (Some disk)
+    → JOURNAL_SECTORS ≤ length disk
 journal_long table journal disk devices beyond live = by_test (nat_lt journal table.geometry.members) refl
   where
     by_test : (b : Bool) → nat_lt journal table.geometry.members ≡ b → JOURNAL_SECTORS ≤ length disk
@@ -70,14 +75,17 @@ journal_long table journal disk devices beyond live = by_test (nat_lt journal ta
       where
         below_not : ¬ (nat_lt journal table.geometry.members ≡ true)
         below_not below = grind (arith, nat_tests, below, beyond)
-    by_test false is = subst (λ (b : Bool). (if b then FIRST_ROW + rows_of table.geometry.chunk table.geometry.stripes else JOURNAL_SECTORS) ≤ length disk) is live.long_enough
+    by_test false is = subst (λ (b : Bool). (if b then FIRST_ROW + rows_of table.geometry.chunk table.geometry.stripes else JOURNAL_SECTORS) ≤ length disk) is
+        live.long_enough
 
-module _ (law : ACrashLeavesEither) (spellings : Spellings) (devices : ℕ) (base table : Table) (lost : Option Lost) (X : List (List Bytes)) (journal : ℕ) (seal : Seal) (body : List Bytes)
+module _ (law : ACrashLeavesEither) (spellings : Spellings) (devices : ℕ) (base table : Table) (lost : Option Lost) (X : List (List Bytes)) (journal : ℕ)
+    (seal : Seal) (body : List Bytes)
     (beyond : table.geometry.members ≤ journal) (counted : CountsOn table journal) (few : length body ≤ BODY_SECTORS) (answered : Bool) (old new : History)
     (from : WritesFrom devices base table lost X old) where
   room : is_down old journal ≡ false → JOURNAL_SECTORS ≤ length (seen old journal)
   room up = journal_long table journal (seen old journal) devices beyond
-      (subst (IsLive devices table journal) (read_is_seen spellings devices base table lost X old from journal counted) (from.there journal counted.of_set counted.there))
+      (subst (IsLive devices table journal) (read_is_seen spellings devices base table lost X old from journal counted)
+      (from.there journal counted.of_set counted.there))
 
   was_up : is_down old journal ≡ false
   was_up = counted_is_up spellings devices base table lost X old from journal counted
@@ -107,7 +115,8 @@ module _ (law : ACrashLeavesEither) (spellings : Spellings) (devices : ℕ) (bas
       (λ last is. other_half table.id table.geometry (seen old journal) seal last next
       (subst (λ (c : Content). IsGreatest table.id table.geometry c last) (read_is_seen spellings devices base table lost X old from journal counted) is))
 
-  body_writes : Made (writes_from journal (body_start seal.number) body ++ Flush journal ∷ []) answered old new → Throughout (IsWriting table PutsBody old) old new
+  body_writes : Made (writes_from journal (body_start seal.number) body ++ Flush journal ∷ []) answered old new
+      → Throughout (IsWriting table PutsBody old) old new
   body_writes made = calls_write table PutsBody (writes_from journal (body_start seal.number) body ++ Flush journal ∷ [])
       (body_allowed (body_start seal.number) body (omega arith) (omega (arith, few))) made
 
@@ -116,11 +125,13 @@ module _ (law : ACrashLeavesEither) (spellings : Spellings) (devices : ℕ) (bas
       → is_down new journal ≡ true → HasFailedOnce devices base table lost X journal new
   body_failed next made failed =
       let put = body_put journal (seen old journal) seal body old new few room (writing_before journal seal body old single) made in
-      (failed_in_step spellings devices base table lost X X PutsBody journal old new from (body_keeps next) (body_writes made) (throughout_last new put.0).1 counted failed).0
+      (failed_in_step spellings devices base table lost X X PutsBody journal old new from (body_keeps next) (body_writes made) (throughout_last new put.0).1
+      counted failed).0
 
   -- The body comes onto the journal: every case keeps holding, and at its end the body stands.
   pub body_step : MayPut table old journal seal → Made (writes_from journal (body_start seal.number) body ++ Flush journal ∷ []) answered old new
-      → HoldsThroughout base devices lost X old new × (answered ≡ true → IsStepOf devices base table lost X journal old new × HasBody table new journal seal body)
+      → HoldsThroughout base devices lost X old new × (answered ≡ true → IsStepOf devices base table lost X journal old new
+      × HasBody table new journal seal body)
   body_step next made = (
     writing_throughout spellings devices base table lost X X PutsBody old new from (body_keeps next) moments,
     λ all. (step all, stands all),
@@ -129,7 +140,8 @@ module _ (law : ACrashLeavesEither) (spellings : Spellings) (devices : ℕ) (bas
       moments : Throughout (IsWriting table PutsBody old) old new
       moments = body_writes made
 
-      put : Throughout (λ h. IsOn journal (seen old journal) seal body Writing h × StaysOff (λ d. d ≡ journal) old h) old new × (answered ≡ true → IsPutOn journal (seen old journal) seal body Staged new)
+      put : Throughout (λ h. IsOn journal (seen old journal) seal body Writing h × StaysOff (λ d. d ≡ journal) old h) old new
+          × (answered ≡ true → IsPutOn journal (seen old journal) seal body Staged new)
       put = body_put journal (seen old journal) seal body old new few room (writing_before journal seal body old single) made
 
       down : answered ≡ true → (d : ℕ) → is_down new d ≡ is_down old d
@@ -154,7 +166,14 @@ module _ (law : ACrashLeavesEither) (spellings : Spellings) (devices : ℕ) (bas
           let kept : HasEntryBefore table.id table.geometry (seen old journal) (seen new journal) seal =
           (law table.id table.geometry (seen old journal) (seen new journal) seal body Staged next (on_it all)).before (inr refl) in
           record {
-            next = record { id_long = next.id_long; belongs = next.belongs; last = next.last; is_last = kept.last next.last next.is_last; number = next.number };
+            next = record {
+              id_long = next.id_long;
+              belongs = next.belongs;
+              last = next.last;
+              is_last = kept.last next.last next.is_last;
+              number =
+                  next.number;
+            };
             stands = λ k within. (on_it all (body_start seal.number + k)).in_half (λ is. absurd (differ is)) k within refl;
           }
         where
@@ -166,7 +185,8 @@ module _ (law : ACrashLeavesEither) (spellings : Spellings) (devices : ℕ) (bas
   abbrev PutsSeal : Contents
   PutsSeal device at value = (device ≡ journal) × (at ≡ seal_place seal.number) × (value ≡ seal_sector seal)
 
-  seal_writes : Made (Write journal (seal_place seal.number) (seal_sector seal) ∷ Flush journal ∷ []) answered old new → Throughout (IsWriting table PutsSeal old) old new
+  seal_writes : Made (Write journal (seal_place seal.number) (seal_sector seal) ∷ Flush journal ∷ []) answered old new
+      → Throughout (IsWriting table PutsSeal old) old new
   seal_writes made = calls_write table PutsSeal (Write journal (seal_place seal.number) (seal_sector seal) ∷ Flush journal ∷ [])
       ((counted, omega arith, (refl, refl, refl)), (counted, tt)) made
 
@@ -185,12 +205,14 @@ module _ (law : ACrashLeavesEither) (spellings : Spellings) (devices : ℕ) (bas
       → HasFailedOnce devices base table lost X' journal new
   seal_failed X' has keeps made failed =
       let put = seal_put journal (seen old journal) seal body old new room (staged_on has) made in
-      (failed_in_step spellings devices base table lost X X' PutsSeal journal old new from keeps (seal_writes made) (throughout_last new put.0).1 counted failed).0
+      (failed_in_step spellings devices base table lost X X' PutsSeal journal old new from keeps (seal_writes made) (throughout_last new put.0).1 counted
+      failed).0
 
   -- The seal comes onto a journal on which the body stands, where that keeps the rows of each image: then the entry is its last.
   pub seal_step : (X' : List (List Bytes)) → HasBody table old journal seal body → KeepsRows devices table PutsSeal (readable old) X X'
       → Made (Write journal (seal_place seal.number) (seal_sector seal) ∷ Flush journal ∷ []) answered old new
-      → HoldsThroughout base devices lost X' old new × (answered ≡ true → IsStepOf devices base table lost X' journal old new × HasIt table new journal seal body)
+      → HoldsThroughout base devices lost X' old new × (answered ≡ true → IsStepOf devices base table lost X' journal old new
+      × HasIt table new journal seal body)
   seal_step X' has keeps made = (
     writing_throughout spellings devices base table lost X X' PutsSeal old new from keeps moments,
     λ all. (step all, (law table.id table.geometry (seen old journal) (seen new journal) seal body Sealed has.next (on_it all)).this refl),
@@ -199,7 +221,8 @@ module _ (law : ACrashLeavesEither) (spellings : Spellings) (devices : ℕ) (bas
       moments : Throughout (IsWriting table PutsSeal old) old new
       moments = seal_writes made
 
-      put : Throughout (λ h. IsOn journal (seen old journal) seal body Sealing h × StaysOff (λ d. d ≡ journal) old h) old new × (answered ≡ true → IsPutOn journal (seen old journal) seal body Sealed new)
+      put : Throughout (λ h. IsOn journal (seen old journal) seal body Sealing h × StaysOff (λ d. d ≡ journal) old h) old new
+          × (answered ≡ true → IsPutOn journal (seen old journal) seal body Sealed new)
       put = seal_put journal (seen old journal) seal body old new room (staged_on has) made
 
       down : answered ≡ true → (d : ℕ) → is_down new d ≡ is_down old d

@@ -10,4 +10,5 @@ use Rattle.array_io.specs.Steps.FormingRows.{row_with}
 
 -- of each row of an entry the sectors of so many members: what the entry holds, and elsewhere what these rows say
 abbrev pub values_of : (members : ℕ) → (base : Rows) → Entry → List (List Bytes)
-values_of members base entry = map (λ i. row_with members entry i (row_values base (row_at (numbers_of entry) i))) (range_with_len 0 (length (numbers_of entry)))
+values_of members base entry = map (λ i. row_with members entry i (row_values base (row_at (numbers_of entry) i)))
+    (range_with_len 0 (length (numbers_of entry)))

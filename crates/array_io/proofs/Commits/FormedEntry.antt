@@ -18,7 +18,8 @@ use Rattle.stripe_journal.proofs.Entries.{body_at}
 use Rattle.degraded.specs.RowValue.{AreSound, Rows, logical_list, row_values, value}
 use Rattle.array_io.specs.Believed.ArrayCalls.{written}
 use Rattle.array_io.specs.Steps.Forming.{IsAmong, IsFormed, row_of_logical}
-use Rattle.array_io.specs.Steps.FormingRows.{Given, logical_at, bytes_at, row_with, sector_with, HasLogical, IsChanged, AreApart, AreOfSet, AreRowsOf, HoldsChanged, HoldsGiven, FormsListed}
+use Rattle.array_io.specs.Steps.FormingRows.{Given, logical_at, bytes_at, row_with, sector_with, HasLogical, IsChanged, AreApart, AreOfSet, AreRowsOf}
+use Rattle.array_io.specs.Steps.FormingRows.{HoldsChanged, HoldsGiven, FormsListed}
 use Rattle.array_io.proofs.Commits.BufferRows.{held_with, lacking_with, length-row_with, member_with}
 use Rattle.array_io.proofs.Commits.ChangedRows.{two_bits}
 use Rattle.array_io.proofs.Commits.EntryValues.{values_of}
@@ -28,17 +29,21 @@ use Rattle.array_io.proofs.Reading.ListedRows.{row_listed, value_in_row}
 
 -- there are as many lists as rows
 pub length-values : (members : ℕ) (base : Rows) (entry : Entry) → length (values_of members base entry) ≡ length (numbers_of entry)
-length-values members base entry = length-map-range_with_len (λ (i : ℕ). row_with members entry i (row_values base (row_at (numbers_of entry) i))) 0 (length (numbers_of entry))
+length-values members base entry = length-map-range_with_len (λ (i : ℕ). row_with members entry i (row_values base (row_at (numbers_of entry) i))) 0
+    (length (numbers_of entry))
 
 -- each is the row's
 pub values_at : (members : ℕ) (base : Rows) (entry : Entry) (i : ℕ) → i < length (numbers_of entry)
     → slice_index_or (values_of members base entry) i [] ≡ row_with members entry i (row_values base (row_at (numbers_of entry) i))
 values_at members base entry i below =
-    get_or-map-range_with_len (λ (k : ℕ). row_with members entry k (row_values base (row_at (numbers_of entry) k))) 0 (length (numbers_of entry)) i i [] below (omega arith)
+    get_or-map-range_with_len (λ (k : ℕ). row_with members entry k (row_values base (row_at (numbers_of entry) k))) 0 (length (numbers_of entry)) i i [] below
+    (omega arith)
 
 -- so it has as many sectors as there are members
-pub width_of_values : (members : ℕ) (base : Rows) (entry : Entry) (i : ℕ) → i < length (numbers_of entry) → length (slice_index_or (values_of members base entry) i []) ≡ members
-width_of_values members base entry i below = ap length (values_at members base entry i below) ∙ length-row_with members entry i (row_values base (row_at (numbers_of entry) i))
+pub width_of_values : (members : ℕ) (base : Rows) (entry : Entry) (i : ℕ) → i < length (numbers_of entry)
+    → length (slice_index_or (values_of members base entry) i []) ≡ members
+width_of_values members base entry i below = ap length (values_at members base entry i below)
+    ∙ length-row_with members entry i (row_values base (row_at (numbers_of entry) i))
 
 -- and each of them is the entry's, or that of the rows
 pub value_at : (members : ℕ) (base : Rows) (entry : Entry) (i member : ℕ) → i < length (numbers_of entry) → member < members
@@ -50,14 +55,16 @@ value_at members base entry i member below within =
 -- the entry's stand in its body one after another
 pub body_is : (members : ℕ) (base : Rows) (entry : Entry) (i member : ℕ) → members ≤ MOST_MEMBERS → i < length (numbers_of entry) → member < members
     → holds members (form_of entry) i member ≡ true
-    → slice_index_or (body_of members entry) (rank members (form_of entry) i member) [] ≡ slice_index_or (slice_index_or (values_of members base entry) i []) member []
+    → slice_index_or (body_of members entry) (rank members (form_of entry) i member) [] ≡ slice_index_or (slice_index_or (values_of members base entry) i [])
+    member []
 body_is members base entry i member few below within held =
     body_at members entry i member few below within held
     ∙ sym (value_at members base entry i member below within ∙ held_with entry i (row_values base (row_at (numbers_of entry) i)) member held)
 
 -- and the others are as they were
 pub kept : (members : ℕ) (base : Rows) (entry : Entry) (i member : ℕ) → base.members ≡ members → i < length (numbers_of entry) → member < members
-    → holds members (form_of entry) i member ≡ false → slice_index_or (slice_index_or (values_of members base entry) i []) member [] ≡ value base (row_at (numbers_of entry) i) member
+    → holds members (form_of entry) i member ≡ false → slice_index_or (slice_index_or (values_of members base entry) i []) member [] ≡ value base
+    (row_at (numbers_of entry) i) member
 kept members base entry i member width below within lacking =
     value_at members base entry i member below within
     ∙ lacking_with entry i (row_values base (row_at (numbers_of entry) i)) member lacking
@@ -90,15 +97,19 @@ given_or_not (sector ∷ sectors) logical = elim (cases_eq sector.0 logical) [
   ]
 ]
 
-module _ (geometry : Geometry) (base : Rows) (sectors : Given) (entry : Entry) (width : base.members ≡ geometry.members) (held : HoldsChanged geometry sectors entry)
+module _ (geometry : Geometry) (base : Rows) (sectors : Given) (entry : Entry) (width : base.members ≡ geometry.members)
+    (held : HoldsChanged geometry sectors entry)
     (given : HoldsGiven geometry sectors entry) (apart : AreApart sectors) (of_set : AreOfSet geometry sectors) where
   -- a sector that is given is written
   data_given : (i member logical : ℕ) → i < length (numbers_of entry) → IsPlace geometry.members geometry.chunk logical member (row_at (numbers_of entry) i)
-      → HasLogical sectors logical → sector_with entry i (row_values base (row_at (numbers_of entry) i)) member ≡ slice_index_or (written (logical_list geometry base) sectors) logical []
+      → HasLogical sectors logical → sector_with entry i (row_values base (row_at (numbers_of entry) i)) member ≡ slice_index_or
+      (written (logical_list geometry base) sectors) logical []
   data_given i member logical within placed has =
-      held_with entry i (row_values base (row_at (numbers_of entry) i)) member ((held i member within).1 (inl (record { which = has.which; within = has.within; lies = lies })))
+      held_with entry i (row_values base (row_at (numbers_of entry) i)) member
+      ((held i member within).1 (inl (record { which = has.which; within = has.within; lies = lies })))
       ∙ given has.which i member has.within within lies
-      ∙ sym (written_given (logical_list geometry base) sectors has.which apart has.within (omega (arith, of_set has.which has.within, length-logical_list geometry base)))
+      ∙ sym (written_given (logical_list geometry base) sectors has.which apart has.within
+      (omega (arith, of_set has.which has.within, length-logical_list geometry base)))
       ∙ ap (λ (l : ℕ). slice_index_or (written (logical_list geometry base) sectors) l []) has.is
     where
       lies : IsPlace geometry.members geometry.chunk (logical_at sectors has.which) member (row_at (numbers_of entry) i)
@@ -128,7 +139,8 @@ module _ (geometry : Geometry) (base : Rows) (sectors : Given) (entry : Entry) (
   -- so the data sectors of the rows are those of the list with the sectors written
   data_is : (i member logical : ℕ) → i < length (numbers_of entry) → logical < data_sectors_of geometry.members geometry.chunk geometry.stripes
       → IsPlace geometry.members geometry.chunk logical member (row_at (numbers_of entry) i)
-      → slice_index_or (slice_index_or (values_of geometry.members base entry) i []) member [] ≡ slice_index_or (written (logical_list geometry base) sectors) logical []
+      → slice_index_or (slice_index_or (values_of geometry.members base entry) i []) member [] ≡ slice_index_or (written (logical_list geometry base) sectors)
+      logical []
   data_is i member logical within below placed =
       value_at geometry.members base entry i member within (place_member_below geometry.limits placed)
       ∙ elim (given_or_not sectors logical) [
@@ -144,7 +156,8 @@ among_rows geometry sectors rows are k within =
     record { place = has.place; within = has.within; is = has.is }
 
 -- The rows formed in an entry from the list of these sound rows of whole values mean it with the sectors written.
-pub forms_list : (geometry : Geometry) (base : Rows) (sectors : Given) (entry : Entry) → FormsListed geometry sectors (logical_list geometry base) entry → AreApart sectors → AreOfSet geometry sectors
+pub forms_list : (geometry : Geometry) (base : Rows) (sectors : Given) (entry : Entry) → FormsListed geometry sectors (logical_list geometry base) entry
+    → AreApart sectors → AreOfSet geometry sectors
     → base.members ≡ geometry.members → AreSound base (rows_of geometry.chunk geometry.stripes) → HaveWholeValues geometry base
     → IsFormed geometry base sectors (numbers_of entry) (values_of geometry.members base entry)
 forms_list geometry base sectors entry forms apart of_set width sound whole = record {
@@ -168,5 +181,6 @@ two_held geometry sectors entry rows held i within =
     let row = row_at (numbers_of entry) i in
     let touched = rows.only i within in
     let parity = parity_is_there row geometry.limits in
-    two_bits (row_mask entry i) touched.member (parity_member_of geometry.members geometry.chunk row) (place_beside_parity geometry.limits touched.given.lies parity)
+    two_bits (row_mask entry i) touched.member (parity_member_of geometry.members geometry.chunk row)
+    (place_beside_parity geometry.limits touched.given.lies parity)
     ((held i touched.member within).1 (inl touched.given)) ((held i (parity_member_of geometry.members geometry.chunk row) within).1 (inr parity))

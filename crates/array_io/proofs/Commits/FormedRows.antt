@@ -27,7 +27,8 @@ length-written V [] = refl
 length-written V (sector ∷ sectors) = length-set (written V sectors) sector.0 sector.1 ∙ length-written V sectors
 
 -- and each sector that is not written
-pub written_elsewhere : (V : List Bytes) (sectors : List (ℕ × Bytes)) (logical : ℕ) → ((k : ℕ) → k < length sectors → (slice_index_or sectors k (0, [])).0 ≢ logical)
+pub written_elsewhere : (V : List Bytes) (sectors : List (ℕ × Bytes)) (logical : ℕ)
+    → ((k : ℕ) → k < length sectors → (slice_index_or sectors k (0, [])).0 ≢ logical)
     → slice_index_or (written V sectors) logical [] ≡ slice_index_or V logical []
 written_elsewhere V [] logical apart = refl
 written_elsewhere V (sector ∷ sectors) logical apart =
@@ -35,7 +36,8 @@ written_elsewhere V (sector ∷ sectors) logical apart =
     ∙ written_elsewhere V sectors logical (λ k within. apart (suc k) (omega arith))
 
 -- how long a logical list is
-pub length-logical_list : (geometry : Geometry) (rows : Rows) → length (logical_list geometry rows) ≡ data_sectors_of geometry.members geometry.chunk geometry.stripes
+pub length-logical_list : (geometry : Geometry) (rows : Rows)
+    → length (logical_list geometry rows) ≡ data_sectors_of geometry.members geometry.chunk geometry.stripes
 unfolding logical_list
 length-logical_list geometry rows =
     length-map-range_with_len (λ (logical : ℕ). logical_value geometry rows logical) 0 (data_sectors_of geometry.members geometry.chunk geometry.stripes)
@@ -45,12 +47,15 @@ pub sector_of_logical_list : (geometry : Geometry) (rows : Rows) (logical : ℕ)
     → slice_index_or (logical_list geometry rows) logical [] ≡ logical_value geometry rows logical
 unfolding logical_list
 sector_of_logical_list geometry rows logical below =
-    get_or-map-range_with_len (λ (l : ℕ). logical_value geometry rows l) 0 (data_sectors_of geometry.members geometry.chunk geometry.stripes) logical logical [] below (omega arith)
+    get_or-map-range_with_len (λ (l : ℕ). logical_value geometry rows l) 0 (data_sectors_of geometry.members geometry.chunk geometry.stripes) logical logical []
+    below (omega arith)
 
 -- an own sector that counts is known directly
-direct_own : (rows : Rows) (row member : ℕ) → rows.entry row member ≡ None → rows.trusted row member ≡ true → direct rows row member ≡ Some (rows.own row member)
+direct_own : (rows : Rows) (row member : ℕ) → rows.entry row member ≡ None → rows.trusted row member ≡ true
+    → direct rows row member ≡ Some (rows.own row member)
 direct_own rows row member none counts =
-    ap (λ (entry : Option Bytes). direct_of entry (rows.trusted row member) (rows.own row member)) none ∙ ap (λ (t : Bool). direct_of None t (rows.own row member)) counts
+    ap (λ (entry : Option Bytes). direct_of entry (rows.trusted row member) (rows.own row member)) none
+    ∙ ap (λ (t : Bool). direct_of None t (rows.own row member)) counts
 
 -- In a row two ways to it have no entry; what the first counts of the members' own sectors the second has too, and counts; the
 -- first does without one member's at most; and those that the second counts are whole.
@@ -121,10 +126,13 @@ pub record TakesEntry (geometry : Geometry) (base after : Rows) (seal : Seal) (v
       → after.entry row member ≡ formed_sector geometry.members seal values row member
   pub kept : (i member : ℕ) → i < length seal.rows.items → member < geometry.members → holds geometry.members seal.form i member ≡ false
       → slice_index_or (slice_index_or values i []) member [] ≡ value base (row_at seal.rows.items i) member
-  pub trust : (row member : ℕ) → row < rows_of geometry.chunk geometry.stripes → member < geometry.members → after.trusted row member ≡ true → base.trusted row member ≡ true
-  pub own : (row member : ℕ) → row < rows_of geometry.chunk geometry.stripes → member < geometry.members → after.entry row member ≡ None → after.trusted row member ≡ true
+  pub trust : (row member : ℕ) → row < rows_of geometry.chunk geometry.stripes → member < geometry.members → after.trusted row member ≡ true
+      → base.trusted row member ≡ true
+  pub own : (row member : ℕ) → row < rows_of geometry.chunk geometry.stripes → member < geometry.members → after.entry row member ≡ None
+      → after.trusted row member ≡ true
       → after.own row member ≡ base.own row member
-  pub whole : (row member : ℕ) → row < rows_of geometry.chunk geometry.stripes → member < geometry.members → base.trusted row member ≡ true → length (base.own row member) ≡ 512
+  pub whole : (row member : ℕ) → row < rows_of geometry.chunk geometry.stripes → member < geometry.members → base.trusted row member ≡ true
+      → length (base.own row member) ≡ 512
   pub one_out : (row first second : ℕ) → row < rows_of geometry.chunk geometry.stripes → first < geometry.members → second < geometry.members
       → after.trusted row first ≡ false → after.trusted row second ≡ false → first ≡ second
 
@@ -138,9 +146,11 @@ module _ (geometry : Geometry) (base after : Rows) (sectors : List (ℕ × Bytes
   inside = (row_of_place seal.rows.items row i found).0
 
   -- the entry has a sector that it holds, and no other
-  entry_held : (member : ℕ) → member < geometry.members → (b : Bool) → holds geometry.members seal.form i member ≡ b → after.entry row member ≡ (if b then Some (new member) else None)
+  entry_held : (member : ℕ) → member < geometry.members → (b : Bool) → holds geometry.members seal.form i member ≡ b
+      → after.entry row member ≡ (if b then Some (new member) else None)
   entry_held member within b is = takes.entry row member below within
-      ∙ ap (λ (place : Option ℕ). option_and_then (λ n. if holds geometry.members seal.form n member then Some (slice_index_or (slice_index_or values n []) member []) else None) place) found
+      ∙ ap (λ (place : Option ℕ). option_and_then (λ n. if holds geometry.members seal.form n member then Some
+      (slice_index_or (slice_index_or values n []) member []) else None) place) found
       ∙ ap (λ (h : Bool). if h then Some (new member) else None) is
 
   -- what it doesn't hold is as it was
@@ -149,7 +159,8 @@ module _ (geometry : Geometry) (base after : Rows) (sectors : List (ℕ × Bytes
       ∙ ap (λ (r : ℕ). value base r member) (row_of_place seal.rows.items row i found).1
 
   -- a member that it holds, or that is trusted, is known, with the new sector
-  is_known : (member : ℕ) → member < geometry.members → (holds geometry.members seal.form i member ≡ false → after.trusted row member ≡ true) → direct after row member ≡ Some (new member)
+  is_known : (member : ℕ) → member < geometry.members → (holds geometry.members seal.form i member ≡ false → after.trusted row member ≡ true)
+      → direct after row member ≡ Some (new member)
   is_known member within trusted = by_held (holds geometry.members seal.form i member) refl
     where
       by_held : (b : Bool) → holds geometry.members seal.form i member ≡ b → direct after row member ≡ Some (new member)
@@ -173,17 +184,21 @@ module _ (geometry : Geometry) (base after : Rows) (sectors : List (ℕ × Bytes
   sound_new : IsSoundRow (row_values new_rows row)
   unfolding new_rows
   sound_new = subst (λ (sectors_of_row : List Bytes). IsSoundRow sectors_of_row)
-      (fill_by_all (λ (member : ℕ). value new_rows row member) (slice_index_or values i []) geometry.members [] (formed.wide i inside) (λ member within. sym (new_value member)))
+      (fill_by_all (λ (member : ℕ). value new_rows row member) (slice_index_or values i []) geometry.members [] (formed.wide i inside)
+      (λ member within. sym (new_value member)))
       (formed.sound i inside)
 
   -- one that is neither is the XOR of the others
-  from_the_others : (member : ℕ) → member < geometry.members → holds geometry.members seal.form i member ≡ false → after.trusted row member ≡ false → value after row member ≡ new member
+  from_the_others : (member : ℕ) → member < geometry.members → holds geometry.members seal.form i member ≡ false → after.trusted row member ≡ false
+      → value after row member ≡ new member
   unfolding new_rows
   from_the_others member within lacking out =
       value-neither after row member (entry_held member within false lacking) out
       ∙ ap (λ (n : ℕ). xor_of_all (map (λ (other : ℕ). known after row other) (others n member))) takes.width_after
-      ∙ ap xor_of_all (map-others (λ (other : ℕ). known after row other) (λ (other : ℕ). known new_rows row other) member 0 geometry.members (λ other bound apart.
-      ap (λ (option : Option Bytes). unwrap_or option zero_sector) (is_known other (omega (arith, bound)) (λ none. counts_other other (omega (arith, bound)) apart))))
+      ∙ ap xor_of_all (map-others (λ (other : ℕ). known after row other) (λ (other : ℕ). known new_rows row other) member 0 geometry.members
+      (λ other bound apart.
+      ap (λ (option : Option Bytes). unwrap_or option zero_sector)
+      (is_known other (omega (arith, bound)) (λ none. counts_other other (omega (arith, bound)) apart))))
       ∙ sym (sound_value new_rows row member within sound_new (ap length (new_value member) ∙ long) (λ other bound apart. refl))
       ∙ new_value member
     where
@@ -213,7 +228,8 @@ module _ (geometry : Geometry) (base after : Rows) (sectors : List (ℕ × Bytes
 
   -- so the row is that one
   row_formed : slice_index_or values i [] ≡ row_values after row
-  row_formed = fill_by_all (λ (member : ℕ). value after row member) (slice_index_or values i []) after.members [] (formed.wide i inside ∙ sym takes.width_after) (λ member within.
+  row_formed = fill_by_all (λ (member : ℕ). value after row member) (slice_index_or values i []) after.members [] (formed.wide i inside ∙ sym takes.width_after)
+      (λ member within.
       sym (value_formed member (omega (arith, takes.width_after, within))))
 
 -- in another row it stays
@@ -236,14 +252,18 @@ value_beside geometry base after seal values takes sound row member below within
         ∙ ap (option_and_then (λ (n : ℕ). if holds geometry.members seal.form n m then Some (slice_index_or (slice_index_or values n []) m []) else None)) none
 
 -- the rows with the entry are sound
-sound_formed : (geometry : Geometry) (base after : Rows) (sectors : List (ℕ × Bytes)) (seal : Seal) (values : List (List Bytes)) → IsFormed geometry base sectors seal.rows.items values
-    → TakesEntry geometry base after seal values → AreSound base (rows_of geometry.chunk geometry.stripes) → AreSound after (rows_of geometry.chunk geometry.stripes)
+sound_formed : (geometry : Geometry) (base after : Rows) (sectors : List (ℕ × Bytes)) (seal : Seal) (values : List (List Bytes))
+    → IsFormed geometry base sectors seal.rows.items values
+    → TakesEntry geometry base after seal values → AreSound base (rows_of geometry.chunk geometry.stripes)
+    → AreSound after (rows_of geometry.chunk geometry.stripes)
 sound_formed geometry base after sectors seal values formed takes sound = λ row below. by_place row below (place_in seal.rows.items row) refl
   where
-    by_place : (row : ℕ) → row < rows_of geometry.chunk geometry.stripes → (place : Option ℕ) → place_in seal.rows.items row ≡ place → IsSoundRow (row_values after row)
+    by_place : (row : ℕ) → row < rows_of geometry.chunk geometry.stripes → (place : Option ℕ) → place_in seal.rows.items row ≡ place
+        → IsSoundRow (row_values after row)
     by_place row below (Some i) found =
         let within = (row_of_place seal.rows.items row i found).0 in
-        subst (λ (sectors_of_row : List Bytes). IsSoundRow sectors_of_row) (row_formed geometry base after sectors seal values formed takes row i below found) (formed.sound i within)
+        subst (λ (sectors_of_row : List Bytes). IsSoundRow sectors_of_row) (row_formed geometry base after sectors seal values formed takes row i below found)
+        (formed.sound i within)
     by_place row below None none =
         subst (λ (sectors_of_row : List Bytes). IsSoundRow sectors_of_row)
         (sym (row_values-same row after base (takes.width_after ∙ sym takes.width) (λ member within.
@@ -251,7 +271,8 @@ sound_formed geometry base after sectors seal values formed takes sound = λ row
         (sound row below)
 
 -- a logical sector's value with the entry is that of the list with the sectors written
-logical_formed : (geometry : Geometry) (base after : Rows) (sectors : List (ℕ × Bytes)) (seal : Seal) (values : List (List Bytes)) → IsFormed geometry base sectors seal.rows.items values
+logical_formed : (geometry : Geometry) (base after : Rows) (sectors : List (ℕ × Bytes)) (seal : Seal) (values : List (List Bytes))
+    → IsFormed geometry base sectors seal.rows.items values
     → TakesEntry geometry base after seal values → AreSound base (rows_of geometry.chunk geometry.stripes)
     → (logical : ℕ) → logical < data_sectors_of geometry.members geometry.chunk geometry.stripes
     → logical_value geometry after logical ≡ slice_index_or (written (logical_list geometry base) sectors) logical []
@@ -277,7 +298,8 @@ logical_formed geometry base after sectors seal values formed takes sound logica
         let among : IsAmong seal.rows.items (row_of_logical geometry (slice_index_or sectors k (0, [])).0) = formed.among k k_within in
         no_row_without_place seal.rows.items row among.place none among.within (among.is ∙ ap (row_of_logical geometry) is)
 
-    by_place : (place : Option ℕ) → place_in seal.rows.items row ≡ place → value after row member ≡ slice_index_or (written (logical_list geometry base) sectors) logical []
+    by_place : (place : Option ℕ) → place_in seal.rows.items row ≡ place
+        → value after row member ≡ slice_index_or (written (logical_list geometry base) sectors) logical []
     by_place (Some i) found =
         let at = row_of_place seal.rows.items row i found in
         value_formed geometry base after sectors seal values formed takes row i row_below found member within
@@ -288,7 +310,8 @@ logical_formed geometry base after sectors seal values formed takes sound logica
         ∙ sym (written_elsewhere (logical_list geometry base) sectors logical (untouched none))
 
 -- The rows with the entry are sound, and their logical list is that of the rows before, with the sectors written.
-pub takes_formed : (geometry : Geometry) (base after : Rows) (sectors : List (ℕ × Bytes)) (seal : Seal) (values : List (List Bytes)) → IsFormed geometry base sectors seal.rows.items values
+pub takes_formed : (geometry : Geometry) (base after : Rows) (sectors : List (ℕ × Bytes)) (seal : Seal) (values : List (List Bytes))
+    → IsFormed geometry base sectors seal.rows.items values
     → TakesEntry geometry base after seal values → AreSound base (rows_of geometry.chunk geometry.stripes)
     → AreSound after (rows_of geometry.chunk geometry.stripes) × (logical_list geometry after ≡ written (logical_list geometry base) sectors)
 takes_formed geometry base after sectors seal values formed takes sound = (

@@ -15,12 +15,15 @@ use Rattle.stripe_journal.specs.Forms.{count_held, has_bit, holds}
 use Rattle.stripe_journal.proofs.Entries.{sector_there, sector_elsewhere}
 
 -- what a read gives after others is what it would have given before them
-pub read_before : {old mid : History} (device at place : ℕ) (value : Bytes) → HasRead old mid → at ≡ place → value ≡ sector_of (seen mid device) at → value ≡ sector_of (seen old device) place
-read_before {old = old} device at place value read same is = is ∙ ap (λ (disk : List Bytes). sector_of disk at) (seen_read read device) ∙ ap (sector_of (seen old device)) same
+pub read_before : {old mid : History} (device at place : ℕ) (value : Bytes) → HasRead old mid → at ≡ place → value ≡ sector_of (seen mid device) at
+    → value ≡ sector_of (seen old device) place
+read_before {old = old} device at place value read same is = is ∙ ap (λ (disk : List Bytes). sector_of disk at) (seen_read read device)
+    ∙ ap (sector_of (seen old device)) same
 
 -- one more sector of a row
 pub loaded_more : (entry : Entry) (i at member : ℕ) (held : ℕ → Bool) (value : Bytes) (disk : List Bytes) → i < ENTRY_ROWS → member < MOST_MEMBERS
-    → value ≡ sector_of disk (at + count_held held member) → ((k : ℕ) → k < member → held k ≡ true → sector_at entry i k ≡ sector_of disk (at + count_held held k))
+    → value ≡ sector_of disk (at + count_held held member)
+    → ((k : ℕ) → k < member → held k ≡ true → sector_at entry i k ≡ sector_of disk (at + count_held held k))
     → (k : ℕ) → k < member + 1 → held k ≡ true → sector_at (with_sector entry i member value) i k ≡ sector_of disk (at + count_held held k)
 loaded_more entry i at member held value disk below within is before k most on = elim (cases_eq k member) [
   | inl same ↦
@@ -39,7 +42,8 @@ loaded_over entry i at member held disk lacking before k most on = elim (cases_e
 ]
 
 -- the rows up to one more hold what a seal says, where that one does, and the others stay
-pub held_more : (members i : ℕ) (form : Form) (old mid end : Entry) (mask : ℕ) → members ≤ MOST_MEMBERS → length (numbers_of old) ≡ i → form_of end ≡ form_of mid
+pub held_more : (members i : ℕ) (form : Form) (old mid end : Entry) (mask : ℕ) → members ≤ MOST_MEMBERS → length (numbers_of old) ≡ i
+    → form_of end ≡ form_of mid
     → ((member : ℕ) → member < MOST_MEMBERS → has_bit mask member ≡ holds members form i member) → row_mask mid (length (numbers_of old)) ≡ mask
     → ((k : ℕ) → k < length (numbers_of old) → row_mask mid k ≡ row_mask old k)
     → ((k member : ℕ) → k < i → member < members → holds members (form_of old) k member ≡ holds members form k member)
@@ -55,16 +59,19 @@ held_more members i form old mid end mask few count kept bits here others before
     ]
 
 -- a sector that two steps keep
-pub sector_kept : (start mid end : Entry) (i member : ℕ) (value : Bytes) → sector_at end i member ≡ sector_at mid i member → sector_at mid i member ≡ sector_at start i member
+pub sector_kept : (start mid end : Entry) (i member : ℕ) (value : Bytes) → sector_at end i member ≡ sector_at mid i member
+    → sector_at mid i member ≡ sector_at start i member
     → sector_at start i member ≡ value → sector_at end i member ≡ value
 sector_kept start mid end i member value later earlier is = later ∙ earlier ∙ is
 
 -- one more row number
-pub numbers_more : (rows numbers mid end : List ℕ) (i row : ℕ) → i < length rows → row ≡ get_or rows i 0 → numbers ≡ take i rows → mid ≡ numbers ++ row ∷ [] → end ≡ mid → end ≡ take (i + 1) rows
+pub numbers_more : (rows numbers mid end : List ℕ) (i row : ℕ) → i < length rows → row ≡ get_or rows i 0 → numbers ≡ take i rows → mid ≡ numbers ++ row ∷ []
+    → end ≡ mid → end ≡ take (i + 1) rows
 numbers_more rows numbers mid end i row within is before pushed same =
     let more : take (i + 1) rows ≡ take i rows ++ get_or rows i 0 ∷ [] = grind (arith, common_steps) in
     same ∙ pushed ∙ ap (λ (list : List ℕ). list ++ row ∷ []) before ∙ ap (λ (r : ℕ). take i rows ++ r ∷ []) is ∙ sym more
 
 -- an answered read leaves each device up or down as it was
-pub none_of_read : {old new : History} (dev other : ℕ) (done : Unit {0}) → new ≡ after_try (after_read dev) (Ok done) old → is_down new other ≡ is_down old other
+pub none_of_read : {old new : History} (dev other : ℕ) (done : Unit {0}) → new ≡ after_try (after_read dev) (Ok done) old
+    → is_down new other ≡ is_down old other
 none_of_read dev other done is = ap (λ (h : History). is_down h other) is

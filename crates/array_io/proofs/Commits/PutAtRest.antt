@@ -31,7 +31,8 @@ use Rattle.array_io.proofs.Images.Spellings.{Spellings}
 use Rattle.array_io.specs.Steps.Putting.{IsPut, IsPutBefore, PutsFrom}
 
 -- Once the rows stand on all members that count, those hold what the entry says.
-module _ (spellings : Spellings) (seal : Seal) (body : List Bytes) (from : PutsFrom) (table : Table) (h : History) (is : IsPutBefore table.geometry.members seal body from table h)
+module _ (spellings : Spellings) (seal : Seal) (body : List Bytes) (from : PutsFrom) (table : Table) (h : History)
+    (is : IsPutBefore table.geometry.members seal body from table h)
     (loss : IsSingleFailure (slots_of from.base) from.lost h) (whole : HasWholeSectors (readable h)) where
   on_journal : (journal : ℕ) → IsLiveJournal from.devices table (readable h) journal → CountsOn table journal
   on_journal journal live = record { of_set = live.of_set; there = live.live.not_missing }
@@ -55,12 +56,18 @@ module _ (spellings : Spellings) (seal : Seal) (body : List Bytes) (from : PutsF
   of_place journal live row member place within trusted found =
       let members = table.geometry.members in
       let on = on_journal journal live in
-      let counts : CountsOn table member = record { of_set = omega (arith, within); there = ((trusts_tells (state_at table.states member) row table.position).0 trusted).there } in
+      let counts : CountsOn table member = record {
+        of_set = omega (arith, within);
+        there =
+            ((trusts_tells (state_at table.states member) row table.position).0 trusted).there;
+      } in
       let at = is_placed members seal row member place found in
       ap (λ (c : Content). sector_of (disk_of c) place) (read journal on)
       ∙ ap (sector_of (seen h journal)) at.place_is
-      ∙ (is.on_journals journal live.beyond_members on).has_body (rank members seal.form at.i member) (in_the_body members seal body at.i member is.long at.within within at.held)
-      ∙ sym (is.on_members member at.i within within at.within at.held (subst (λ (r : ℕ). trusts (state_at table.states member) r table.position ≡ true) (sym at.row_is) trusted))
+      ∙ (is.on_journals journal live.beyond_members on).has_body (rank members seal.form at.i member)
+      (in_the_body members seal body at.i member is.long at.within within at.held)
+      ∙ sym (is.on_members member at.i within within at.within at.held
+      (subst (λ (r : ℕ). trusts (state_at table.states member) r table.position ≡ true) (sym at.row_is) trusted))
       ∙ ap (λ (r : ℕ). sector_of (seen h member) (FIRST_ROW + r)) at.row_is
       ∙ sym (ap (λ (c : Content). sector_of (disk_of c) (FIRST_ROW + row)) (read member counts))
 
@@ -70,7 +77,8 @@ module _ (spellings : Spellings) (seal : Seal) (body : List Bytes) (from : PutsF
       has_it : sector_in table.geometry.members (readable h journal) seal row member ≡ Some sector
       has_it = subst (λ (s : Seal). sector_in table.geometry.members (readable h journal) s row member ≡ Some sector) (sym (same_Some seal other one)) has
 
-      by_place : (place : Option ℕ) → place_by_seal table.geometry.members seal row member ≡ place → sector ≡ sector_of (disk_of (readable h member)) (FIRST_ROW + row)
+      by_place : (place : Option ℕ) → place_by_seal table.geometry.members seal row member ≡ place
+          → sector ≡ sector_of (disk_of (readable h member)) (FIRST_ROW + row)
       by_place None none = absurd (none-some sector (sym (ap (option_map (sector_of (disk_of (readable h journal)))) none) ∙ has_it))
       by_place (Some place) found =
           same_Some sector (sector_of (disk_of (readable h journal)) place) (sym has_it ∙ ap (option_map (sector_of (disk_of (readable h journal)))) found)

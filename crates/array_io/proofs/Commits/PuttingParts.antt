@@ -1,5 +1,6 @@
 -- The parts of an entry on one slot: a body and a seal on a journal, the rows on a member. What each comes to, also where the slot's device fails.
-use Rattle.std.proofs.Common.{◌≡◌, ◌≢◌, ◌⊎◌, inl, inr, ℕ, ◌+◌, ◌<◌, ◌≤◌, Bool, true, false, List, [], ◌∷◌, ◌++◌, length, Some, Ok, Result, refl, sym, ◌∙◌, ap, subst, arith}
+use Rattle.std.proofs.Common.{◌≡◌, ◌≢◌, ◌⊎◌, inl, inr, ℕ, ◌+◌, ◌<◌, ◌≤◌, Bool, true, false, List, [], ◌∷◌, ◌++◌, length, Some, Ok, Result, refl, sym, ◌∙◌, ap}
+use Rattle.std.proofs.Common.{subst, arith}
 use Rattle.std.specs.Prelude.{◌&&◌, Contains}
 use Rattle.sector_model.specs.declared.sector.Stop.{Stop}
 use Rattle.sector_model.specs.Bank.{Panel}
@@ -24,7 +25,8 @@ use Rattle.stripe_journal.proofs.Masks.{before_few}
 use Rattle.array_io.specs.Believed.Settled.{trusts}
 use Rattle.array_io.specs.Believed.Moments.{HoldsThroughout}
 use Rattle.array_io.specs.Steps.Bringing.{CountsOn}
-use Rattle.array_io.specs.Steps.Putting.{Awaited, Copied, Formed, HasBody, HasOrigin, HasSeal, HasSource, IsAt, IsComing, IsFormedOn, IsPutBefore, MayWrite, Origin, Progress, PutsFrom, in_body, reached}
+use Rattle.array_io.specs.Steps.Putting.{Awaited, Copied, Formed, HasBody, HasOrigin, HasSeal, HasSource, IsAt, IsComing, IsFormedOn, IsPutBefore, MayWrite}
+use Rattle.array_io.specs.Steps.Putting.{Origin, Progress, PutsFrom, in_body, reached}
 use Rattle.array_io.specs.Steps.PuttingRows.{HeldRows, IsRowOn, LeavesSeen, PutsMember, is_put}
 use Rattle.array_io.specs.Steps.Writing.{HasFailedOnce}
 use Rattle.array_io.specs.Believed.Holds.{IsLiveJournal}
@@ -42,13 +44,16 @@ use Rattle.array_io.proofs.Marks.FailedMarked.{MarkedOn}
 use Rattle.array_io.proofs.Images.Spellings.{Spellings}
 use Rattle.array_io.proofs.Writes.WritingImages.{written_alive}
 
--- What calls of one slot's device come to, from the state before them: all cases hold at each moment; answered, they lead to the state after them; and where the device failed only that
+-- What calls of one slot's device come to, from the state before them: all cases hold at each moment; answered, they lead to the state after them; and where
+-- the device failed only that
 -- one did, and once its slot is marked missing what is said of it is free.
-pub record IsPartOf (after : PutsFrom → Table → History → Type 0) (from : PutsFrom) (slot : ℕ) (table : Table) (old mid : History) (answered : Bool) : Type 0 where
-  pub moments : HoldsThroughout from.base from.devices from.lost from.lists old mid
-  pub done : answered ≡ true → after from table mid
-  pub failed : is_down mid slot ≡ true → HasFailedOnce from.devices from.base table from.lost from.lists slot mid
-  pub marked : (new_table : Table) (new : History) → MarkedOn from.devices from.base table new_table from.lost from.lists slot mid new → MayWrite from new_table new → after from new_table new
+pub record IsPartOf (after : PutsFrom → Table → History → Type 0) (from : PutsFrom) (slot : ℕ) (table : Table) (old mid : History) (answered : Bool) : Type 0
+  where
+    pub moments : HoldsThroughout from.base from.devices from.lost from.lists old mid
+    pub done : answered ≡ true → after from table mid
+    pub failed : is_down mid slot ≡ true → HasFailedOnce from.devices from.base table from.lost from.lists slot mid
+    pub marked : (new_table : Table) (new : History) → MarkedOn from.devices from.base table new_table from.lost from.lists slot mid new
+        → MayWrite from new_table new → after from new_table new
 
 -- two tests that are both so
 both_are : (first second : Bool) → (first && second) ≡ true → (first ≡ true) × (second ≡ true)
@@ -82,7 +87,8 @@ module _ (spellings : Spellings) (seal : Seal) (body : List Bytes) (from : PutsF
   others_are k on HasSeal at = inr (subst (λ (c : Content). HasThisEntry table.id table.geometry (disk_of c) seal body) (sym (read_there k on)) at)
 
   -- an entry that is formed is a commit's, whichever journal is looked at
-  pub committed : (target : ℕ) (list_then : List Bytes) (formed : IsFormedOn list_then seal body from table h) → IsCommitted table formed.rows (readable h) target formed.sectors seal formed.values body
+  pub committed : (target : ℕ) (list_then : List Bytes) (formed : IsFormedOn list_then seal body from table h)
+      → IsCommitted table formed.rows (readable h) target formed.sectors seal formed.values body
   committed target list_then formed = record {
     formed = formed.formed;
     long = is.long;
@@ -91,7 +97,8 @@ module _ (spellings : Spellings) (seal : Seal) (body : List Bytes) (from : PutsF
     width = formed.width;
     bare = formed.bare;
     sound = formed.sound;
-    trust = λ row member below within trusted. formed.trust row member below within ((trusts_tells (state_at table.states member) row table.position).1 trusted);
+    trust = λ row member below within trusted. formed.trust row member below within
+        ((trusts_tells (state_at table.states member) row table.position).1 trusted);
     own = λ row member below within none trusted.
         let tells = (trusts_tells (state_at table.states member) row table.position).1 trusted in
         let on : CountsOn table member = record { of_set = omega (arith, within); there = trusted.there } in
@@ -100,12 +107,14 @@ module _ (spellings : Spellings) (seal : Seal) (body : List Bytes) (from : PutsF
     others = λ k beyond_k on apart. others_are k on (journals k) (is.on_journals k beyond_k on);
   }
 
-module _ (spellings : Spellings) (seal : Seal) (body : List Bytes) (from : PutsFrom) (table : Table) (old mid : History) (answered : Bool) (slot : ℕ) (counted : CountsOn table slot)
+module _ (spellings : Spellings) (seal : Seal) (body : List Bytes) (from : PutsFrom) (table : Table) (old mid : History) (answered : Bool) (slot : ℕ)
+    (counted : CountsOn table slot)
     (off : StaysOff (λ d. d ≡ slot) old mid) where
   abbrev Step : Type 0
   Step = IsStepOf from.devices from.base table from.lost from.lists slot old mid
 
-  module _ (law : ACrashLeavesEither) (origin : Origin) (journals : ℕ → Progress) (beyond : table.geometry.members ≤ slot) (is : IsComing origin seal body journals from table old) where
+  module _ (law : ACrashLeavesEither) (origin : Origin) (journals : ℕ → Progress) (beyond : table.geometry.members ≤ slot)
+      (is : IsComing origin seal body journals from table old) where
     -- the body is one of a journal
     few : length body ≤ BODY_SECTORS
     few = omega (arith, is.long, before_few table.geometry.members seal.form (length seal.rows.items) table.geometry.limits.members_most seal.allowed.rows_most)
@@ -119,13 +128,17 @@ module _ (spellings : Spellings) (seal : Seal) (body : List Bytes) (from : PutsF
     -- one step further there, or marked
     module _ (progress : Progress) (no_source : journals slot ≢ HasSeal) where
       stepped : Step → IsAt progress table mid slot seal body → IsComing origin seal body (reached journals slot progress) from table mid
-      stepped step at = coming_still slot seal body from table table old mid (step_beside from slot table old mid step) step.from origin journals (reached journals slot progress) beyond is
-          (reached_beside journals slot progress) (inl no_source) (λ on. subst (λ (p : Progress). IsAt p table mid slot seal body) (sym (reached_here journals slot progress)) at)
+      stepped step at = coming_still slot seal body from table table old mid (step_beside from slot table old mid step) step.from origin journals
+          (reached journals slot progress) beyond is
+          (reached_beside journals slot progress) (inl no_source)
+          (λ on. subst (λ (p : Progress). IsAt p table mid slot seal body) (sym (reached_here journals slot progress)) at)
 
-      marked_on : (new_table : Table) (new : History) → MarkedOn from.devices from.base table new_table from.lost from.lists slot mid new → MayWrite from new_table new
+      marked_on : (new_table : Table) (new : History) → MarkedOn from.devices from.base table new_table from.lost from.lists slot mid new
+          → MayWrite from new_table new
           → IsComing origin seal body (reached journals slot progress) from new_table new
       marked_on new_table new marked writes = coming_still slot seal body from table new_table old new
-          (marked_beside spellings from slot table new_table old mid new counted off.others_seen marked writes) writes origin journals (reached journals slot progress) beyond is
+          (marked_beside spellings from slot table new_table old mid new counted off.others_seen marked writes) writes origin journals
+          (reached journals slot progress) beyond is
           (reached_beside journals slot progress) (inl no_source)
           (λ on. absurd (marked_out spellings from slot table new_table old mid new counted off.others_seen marked writes on))
 
@@ -135,11 +148,13 @@ module _ (spellings : Spellings) (seal : Seal) (body : List Bytes) (from : PutsF
     body_part awaited made =
         let next = stands Awaited awaited in
         let no_source : journals slot ≢ HasSeal = λ sealed. sealed_not_awaited (sym awaited ∙ sealed) in
-        let step = body_step law spellings from.devices from.base table from.lost from.lists slot seal body beyond counted few answered old mid is.writes next made in
+        let step = body_step law spellings from.devices from.base table from.lost from.lists slot seal body beyond counted few answered old mid is.writes next
+        made in
         record {
           moments = step.0;
           done = λ all. let done = step.1 all in stepped HasBody no_source done.0 (done.1.next, record { stands = done.1.stands });
-          failed = body_failed law spellings from.devices from.base table from.lost from.lists slot seal body beyond counted few answered old mid is.writes next made;
+          failed = body_failed law spellings from.devices from.base table from.lost from.lists slot seal body beyond counted few answered old mid is.writes next
+              made;
           marked = marked_on HasBody no_source;
         }
 
@@ -155,7 +170,8 @@ module _ (spellings : Spellings) (seal : Seal) (body : List Bytes) (from : PutsF
         beyond = beyond;
         of_set = counted.of_set;
         next = subst (λ (c : Content). IsNextOn table.id table.geometry (disk_of c) seal) (sym (read slot counted)) (stands HasBody staged).0;
-        its_body = λ k within. ap (λ (c : Content). sector_of (disk_of c) (body_start seal.number + k)) (read slot counted) ∙ (stands HasBody staged).1.stands k within;
+        its_body = λ k within. ap (λ (c : Content). sector_of (disk_of c) (body_start seal.number + k)) (read slot counted)
+            ∙ (stands HasBody staged).1.stands k within;
       }
 
       -- what the other journal has, where it has the entry
@@ -168,15 +184,18 @@ module _ (spellings : Spellings) (seal : Seal) (body : List Bytes) (from : PutsF
             counted = has.counted;
             says = subst (λ (c : Content). IsGreatest table.id table.geometry c seal) (sym (read has.source has.counted)) there.last;
             long = is.long;
-            same_body = λ k within. ap (λ (c : Content). sector_of (disk_of c) (body_start seal.number + k)) (read has.source has.counted) ∙ there.has_body k within;
+            same_body = λ k within. ap (λ (c : Content). sector_of (disk_of c) (body_start seal.number + k)) (read has.source has.counted)
+                ∙ there.has_body k within;
           }
 
       seal_keeps : KeepsRows from.devices table PutsSeal (readable old) from.lists from.lists
       seal_keeps whole before image written = by_origin origin is.may_stand
         where
-          by_origin : (o : Origin) → HasOrigin o seal body journals from table old → HasRows from.devices table from.lists (IsLiveJournal from.devices table image) image × AreJournalsInStep from.devices table image
+          by_origin : (o : Origin) → HasOrigin o seal body journals from table old
+              → HasRows from.devices table from.lists (IsLiveJournal from.devices table image) image × AreJournalsInStep from.devices table image
           by_origin (Formed list_then) formed = committed_keeps law from.devices table PutsSeal (readable old) from.lists whole before image written
-              (written_alive from.devices table PutsSeal before image written.put) formed.rows slot formed.sectors seal formed.values body sealed_next (committed spellings seal body from table old origin journals is slot list_then formed)
+              (written_alive from.devices table PutsSeal before image written.put) formed.rows slot formed.sectors seal formed.values body sealed_next
+              (committed spellings seal body from table old origin journals is slot list_then formed)
               from.lists (λ V among. among) (subst (Contains from.lists) (sym formed.gives) formed.among)
           by_origin Copied has = copied_keeps law from.devices table PutsSeal (readable old) from.lists whole before image written
               (written_alive from.devices table PutsSeal before image written.put) has.source slot seal body sealed_next (copied has)
@@ -186,12 +205,14 @@ module _ (spellings : Spellings) (seal : Seal) (body : List Bytes) (from : PutsF
       seal_part made =
           let no_source : journals slot ≢ HasSeal = λ sealed. sealed_not_body (sym staged ∙ sealed) in
           let bodied = stands HasBody staged in
-          let step = seal_step law spellings from.devices from.base table from.lost from.lists slot seal body beyond counted few answered old mid is.writes from.lists
+          let step = seal_step law spellings from.devices from.base table from.lost from.lists slot seal body beyond counted few answered old mid is.writes
+          from.lists
           record { next = bodied.0; stands = bodied.1.stands } seal_keeps made in
           record {
             moments = step.0;
             done = λ all. stepped HasSeal no_source (step.1 all).0 (step.1 all).1;
-            failed = seal_failed law spellings from.devices from.base table from.lost from.lists slot seal body beyond counted few answered old mid is.writes from.lists
+            failed = seal_failed law spellings from.devices from.base table from.lost from.lists slot seal body beyond counted few answered old mid is.writes
+                from.lists
                 record { next = bodied.0; stands = bodied.1.stands } seal_keeps made;
             marked = marked_on HasSeal no_source;
           }
@@ -200,7 +221,8 @@ module _ (spellings : Spellings) (seal : Seal) (body : List Bytes) (from : PutsF
 
   module _ (within : slot < table.geometry.members) (of : HeldRows) (rows_are : of.rows ≡ seal.rows.items)
       (held_are : (i : ℕ) → i < length seal.rows.items → of.held i slot ≡ holds table.geometry.members seal.form i slot)
-      (values_are : (i : ℕ) → i < length seal.rows.items → holds table.geometry.members seal.form i slot ≡ true → of.values i slot ≡ in_body table.geometry.members seal body i slot)
+      (values_are : (i : ℕ) → i < length seal.rows.items → holds table.geometry.members seal.form i slot ≡ true
+      → of.values i slot ≡ in_body table.geometry.members seal body i slot)
       (is : IsPutBefore slot seal body from table old) (honest : Type 0) (fair : honest) (old_panel mid_panel : Panel) (result : Result (Unit {0}) Stop)
       (puts : PutsMember honest table of slot old_panel mid_panel old mid result) where
     abbrev PutsRows : Contents
@@ -228,7 +250,8 @@ module _ (spellings : Spellings) (seal : Seal) (body : List Bytes) (from : PutsF
 
     step : HoldsThroughout from.base from.devices from.lost from.lists old mid × (result ≡ Ok tt → Step)
     step =
-        let both = member_step spellings from.devices from.base table from.lost from.lists slot seal body PutsRows old mid is.writes only is.on_journals (puts.moments fair) (puts.off fair) in
+        let both = member_step spellings from.devices from.base table from.lost from.lists slot seal body PutsRows old mid is.writes only is.on_journals
+        (puts.moments fair) (puts.off fair) in
         (both.0, λ ok. both.1 (puts.flushed fair ok leaves_seen) (puts.none_failed fair ok))
 
     pub rows_part : (answered ≡ true → result ≡ Ok tt) → IsPartOf (IsPutBefore (slot + 1) seal body) from slot table old mid answered
@@ -245,9 +268,11 @@ module _ (spellings : Spellings) (seal : Seal) (body : List Bytes) (from : PutsF
           let put : is_put table of slot i ≡ true = both_so (of.held i slot) _ (held_are i below ∙ held)
           (subst (λ (r : List ℕ). trusts (state_at table.states slot) (row_at r i) table.position ≡ true) (sym rows) trusted) in
           ap (λ (r : List ℕ). sector_of (seen mid slot) (FIRST_ROW + row_at r i)) (sym rows) ∙ puts.written fair ok i there put ∙ values_are i below held);
-      failed = member_failed spellings from.devices from.base table from.lost from.lists slot seal body PutsRows old mid is.writes only is.on_journals (puts.moments fair) (puts.off fair) counted;
+      failed = member_failed spellings from.devices from.base table from.lost from.lists slot seal body PutsRows old mid is.writes only is.on_journals
+          (puts.moments fair) (puts.off fair) counted;
       marked = λ new_table new marked writes.
-          put_still slot seal body from table new_table old new (marked_beside spellings from slot table new_table old mid new counted off.others_seen marked writes) writes slot (slot + 1) is within
+          put_still slot seal body from table new_table old new
+          (marked_beside spellings from slot table new_table old mid new counted off.others_seen marked writes) writes slot (slot + 1) is within
           (λ k apart below. omega (arith, apart, below))
           (λ on. absurd (marked_out spellings from slot table new_table old mid new counted off.others_seen marked writes on));
     }

@@ -1,5 +1,7 @@
--- How far an entry is on a set, and that it stays so elsewhere: over a step on one slot, when its device fails and the slot is marked missing, and where it is passed over.
-use Rattle.std.proofs.Common.{◌≡◌, ◌≢◌, ◌⊎◌, inl, inr, ℕ, ◌+◌, ◌<◌, ◌≤◌, ◌==◌, Bool, true, false, List, [], length, None, Some, refl, sym, ◌∙◌, ap, subst, subst₂, arith}
+-- How far an entry is on a set, and that it stays so elsewhere: over a step on one slot, when its device fails and the slot is marked missing, and where it is
+-- passed over.
+use Rattle.std.proofs.Common.{◌≡◌, ◌≢◌, ◌⊎◌, inl, inr, ℕ, ◌+◌, ◌<◌, ◌≤◌, ◌==◌, Bool, true, false, List, [], length, None, Some, refl, sym, ◌∙◌, ap, subst}
+use Rattle.std.proofs.Common.{subst₂, arith}
 use Rattle.std.specs.Prelude.{if◌then◌else◌, slice_index_or}
 use Rattle.std.proofs.lemmas.Bool.{cases_eq, eq-eqb, eqb-true, false≢true}
 use Rattle.sector_model.specs.History.{Bytes, History, seen, sector_of}
@@ -20,7 +22,8 @@ use Rattle.array_io.specs.Believed.Holds.{row_count}
 use Rattle.array_io.specs.Believed.Settled.{trusts}
 use Rattle.array_io.specs.Steps.Bringing.{CountsOn}
 use Rattle.array_io.specs.Steps.Forming.{IsFormed}
-use Rattle.array_io.specs.Steps.Putting.{Awaited, Copied, Formed, HasBody, HasOrigin, HasSeal, HasSource, IsAt, IsBodyLong, IsComing, IsFormedOn, IsPutBefore, MayWrite, Origin, Progress, PutsFrom, StandsBody, in_body, reached}
+use Rattle.array_io.specs.Steps.Putting.{Awaited, Copied, Formed, HasBody, HasOrigin, HasSeal, HasSource, IsAt, IsBodyLong, IsComing, IsFormedOn, IsPutBefore}
+use Rattle.array_io.specs.Steps.Putting.{MayWrite, Origin, Progress, PutsFrom, StandsBody, in_body, reached}
 use Rattle.array_io.proofs.Rest.AtRestRows.{trusts_tells}
 use Rattle.array_io.proofs.Laws.Beginning.{live_is_up}
 use Rattle.array_io.proofs.Commits.EntryCarried.{CountsOnNoMore, counts_on_the_same, marked_goes_on}
@@ -31,7 +34,8 @@ use Rattle.array_io.proofs.Images.SayingTheSame.{same_greatest, same_sealed}
 use Rattle.array_io.proofs.Images.Spellings.{Spellings}
 
 -- what is reached on one journal, and on the others
-pub on_reached : (journals : ℕ → Progress) (journal k : ℕ) (progress : Progress) (P : Progress → Type 0) → (k ≡ journal → P progress) → (k ≢ journal → P (journals k))
+pub on_reached : (journals : ℕ → Progress) (journal k : ℕ) (progress : Progress) (P : Progress → Type 0) → (k ≡ journal → P progress)
+    → (k ≢ journal → P (journals k))
     → P (reached journals journal progress k)
 on_reached journals journal k progress P here beside = by_test (k == journal) refl
   where
@@ -40,13 +44,16 @@ on_reached journals journal k progress P here beside = by_test (k == journal) re
     by_test false is = beside (λ same. absurd (false≢true (sym is ∙ eq-eqb k journal same)))
 
 pub reached_beside : (journals : ℕ → Progress) (journal : ℕ) (progress : Progress) (k : ℕ) → k ≢ journal → reached journals journal progress k ≡ journals k
-reached_beside journals journal progress k apart = on_reached journals journal k progress (λ (p : Progress). p ≡ journals k) (λ same. absurd (apart same)) (λ other. refl)
+reached_beside journals journal progress k apart = on_reached journals journal k progress (λ (p : Progress). p ≡ journals k) (λ same. absurd (apart same))
+    (λ other. refl)
 
 pub reached_here : (journals : ℕ → Progress) (journal : ℕ) (progress : Progress) → reached journals journal progress journal ≡ progress
-reached_here journals journal progress = on_reached journals journal journal progress (λ (p : Progress). p ≡ progress) (λ same. refl) (λ apart. absurd (apart refl))
+reached_here journals journal progress = on_reached journals journal journal progress (λ (p : Progress). p ≡ progress) (λ same. refl)
+    (λ apart. absurd (apart refl))
 
 -- How far the entry is on a journal stays, where that has the same sectors after the superblocks, by a table of the same set.
-module _ (old_table new_table : Table) (old new : History) (journal : ℕ) (seal : Seal) (body : List Bytes) (same_id : new_table.id ≡ old_table.id) (same_geometry : new_table.geometry ≡ old_table.geometry)
+module _ (old_table new_table : Table) (old new : History) (journal : ℕ) (seal : Seal) (body : List Bytes) (same_id : new_table.id ≡ old_table.id)
+    (same_geometry : new_table.geometry ≡ old_table.geometry)
     (same : (at : ℕ) → SUPERBLOCK_PLACES ≤ at → sector_of (seen new journal) at ≡ sector_of (seen old journal) at) where
   next_beyond : IsNextOn old_table.id old_table.geometry (seen old journal) seal → IsNextOn new_table.id new_table.geometry (seen new journal) seal
   next_beyond next = subst₂ (λ (id : List ℕ) (g : Geometry). IsNextOn id g (seen new journal) seal) (sym same_id) (sym same_geometry) here
@@ -56,19 +63,22 @@ module _ (old_table new_table : Table) (old new : History) (journal : ℕ) (seal
         id_long = next.id_long;
         belongs = next.belongs;
         last = next.last;
-        is_last = same_sealed old_table.id old_table.geometry (Some (seen new journal)) (Some (seen old journal)) (λ place below. same (FIRST_SEAL + place) (omega arith)) next.last next.is_last;
+        is_last = same_sealed old_table.id old_table.geometry (Some (seen new journal)) (Some (seen old journal))
+            (λ place below. same (FIRST_SEAL + place) (omega arith)) next.last next.is_last;
         number = next.number;
       }
 
   body_beyond : StandsBody old journal seal body → StandsBody new journal seal body
   body_beyond stood = record { stands = λ k within. same (body_start seal.number + k) (omega arith) ∙ stood.stands k within }
 
-  pub entry_beyond : HasThisEntry old_table.id old_table.geometry (seen old journal) seal body → HasThisEntry new_table.id new_table.geometry (seen new journal) seal body
+  pub entry_beyond : HasThisEntry old_table.id old_table.geometry (seen old journal) seal body
+      → HasThisEntry new_table.id new_table.geometry (seen new journal) seal body
   entry_beyond has = subst₂ (λ (id : List ℕ) (g : Geometry). HasThisEntry id g (seen new journal) seal body) (sym same_id) (sym same_geometry) here
     where
       here : HasThisEntry old_table.id old_table.geometry (seen new journal) seal body
       here = record {
-        last = same_greatest old_table.id old_table.geometry (Some (seen new journal)) (Some (seen old journal)) (λ place below. same (FIRST_SEAL + place) (omega arith)) seal has.last;
+        last = same_greatest old_table.id old_table.geometry (Some (seen new journal)) (Some (seen old journal))
+            (λ place below. same (FIRST_SEAL + place) (omega arith)) seal has.last;
         has_body = λ k within. same (body_start seal.number + k) (omega arith) ∙ has.has_body k within;
       }
 
@@ -84,7 +94,8 @@ pub record IsBeside (slot : ℕ) (old_table new_table : Table) (old new : Histor
   pub same : (other at : ℕ) → other ≢ slot → CountsOn new_table other → SUPERBLOCK_PLACES ≤ at → sector_of (seen new other) at ≡ sector_of (seen old other) at
 
 -- after a step on it
-pub step_beside : (from : PutsFrom) (slot : ℕ) (table : Table) (old new : History) → IsStepOf from.devices from.base table from.lost from.lists slot old new → IsBeside slot table table old new
+pub step_beside : (from : PutsFrom) (slot : ℕ) (table : Table) (old new : History) → IsStepOf from.devices from.base table from.lost from.lists slot old new
+    → IsBeside slot table table old new
 step_beside from slot table old new step = record {
   goes = counts_on_the_same table;
   counts = λ other apart counted. counted;
@@ -109,11 +120,13 @@ module _ (spellings : Spellings) (from : PutsFrom) (slot : ℕ) (table new_table
       of_set = subst (λ (g : Geometry). other < g.members + 2) (sym marked.marked.same_geometry) on.of_set;
       there = λ gone. on.there (sym (state_stays table new_table slot marked.marked other apart) ∙ gone);
     };
-    same = λ other at apart on beyond. marked.beyond other at (live_is_up spellings from.devices new_table new other (writes.there other on.of_set on.there)) beyond
+    same = λ other at apart on beyond. marked.beyond other at (live_is_up spellings from.devices new_table new other (writes.there other on.of_set on.there))
+        beyond
         ∙ ap (λ (disk : List Bytes). sector_of disk at) (others other apart);
   }
 
-module _ (slot : ℕ) (seal : Seal) (body : List Bytes) (from : PutsFrom) (table new_table : Table) (old new : History) (beside : IsBeside slot table new_table old new) (writes : MayWrite from new_table new) where
+module _ (slot : ℕ) (seal : Seal) (body : List Bytes) (from : PutsFrom) (table new_table : Table) (old new : History)
+    (beside : IsBeside slot table new_table old new) (writes : MayWrite from new_table new) where
   members_are : new_table.geometry.members ≡ table.geometry.members
   members_are = ap (λ (g : Geometry). g.members) beside.goes.same_geometry
 
@@ -127,14 +140,16 @@ module _ (slot : ℕ) (seal : Seal) (body : List Bytes) (from : PutsFrom) (table
   beyond_then journal = subst (λ (n : ℕ). n ≤ journal) members_are
 
   -- a member that the table trusts in a row is one on which it counts
-  trusted_counts : (row member : ℕ) → member < new_table.geometry.members → trusts (state_at new_table.states member) row new_table.position ≡ true → CountsOn new_table member
+  trusted_counts : (row member : ℕ) → member < new_table.geometry.members → trusts (state_at new_table.states member) row new_table.position ≡ true
+      → CountsOn new_table member
   trusted_counts row member within trusted = record {
     of_set = omega (arith, within);
     there = ((trusts_tells (state_at new_table.states member) row new_table.position).0 trusted).there;
   }
 
   -- the entry is formed still, where the slot is a journal
-  formed_still : (list_then : List Bytes) → table.geometry.members ≤ slot → IsFormedOn list_then seal body from table old → IsFormedOn list_then seal body from new_table new
+  formed_still : (list_then : List Bytes) → table.geometry.members ≤ slot → IsFormedOn list_then seal body from table old
+      → IsFormedOn list_then seal body from new_table new
   formed_still list_then is_journal is = record {
     rows = is.rows;
     sectors = is.sectors;
@@ -149,9 +164,11 @@ module _ (slot : ℕ) (seal : Seal) (body : List Bytes) (from : PutsFrom) (table
     width = is.width ∙ sym members_are;
     bare = is.bare;
     sound = subst (AreSound is.rows) (sym rows_are) is.sound;
-    trust = λ row member below within trusted. is.trust row member (was_below row below) (was_within member within) (beside.goes.trusts_it row member within trusted);
+    trust = λ row member below within trusted. is.trust row member (was_below row below) (was_within member within)
+        (beside.goes.trusts_it row member within trusted);
     own = λ row member below within trusted none.
-        beside.same member (FIRST_ROW + row) (λ same. absurd (omega (arith, same, is_journal, was_within member within))) (trusted_counts row member within trusted) (omega arith)
+        beside.same member (FIRST_ROW + row) (λ same. absurd (omega (arith, same, is_journal, was_within member within)))
+        (trusted_counts row member within trusted) (omega arith)
         ∙ is.own row member (was_below row below) (was_within member within) (beside.goes.trusts_it row member within trusted)
         (subst (λ (n : ℕ). place_by_seal n seal row member ≡ None) members_are none);
     whole_sectors = λ row member below within trusted. is.whole_sectors row member (was_below row below) (was_within member within) trusted;
@@ -173,7 +190,8 @@ module _ (slot : ℕ) (seal : Seal) (body : List Bytes) (from : PutsFrom) (table
     on_journals = λ journal beyond counted. elim (cases_eq journal slot) [
       | inl is_it ↦ subst (λ (j : ℕ). IsAt (journals' j) new_table new j seal body) (sym is_it) (here (subst (CountsOn new_table) is_it counted))
       | inr apart ↦ subst (λ (p : Progress). IsAt p new_table new journal seal body) (sym (same_journals journal apart))
-          (at_beyond table new_table old new journal seal body beside.goes.same_id beside.goes.same_geometry (λ at. beside.same journal at apart counted) (journals journal)
+          (at_beyond table new_table old new journal seal body beside.goes.same_id beside.goes.same_geometry (λ at. beside.same journal at apart counted)
+          (journals journal)
           (is.on_journals journal (beyond_then journal beyond) (beside.goes.counts journal counted)))
     ];
     may_stand = stands_still origin is.may_stand;
@@ -208,7 +226,8 @@ module _ (slot : ℕ) (seal : Seal) (body : List Bytes) (from : PutsFrom) (table
         (λ at. beside.same journal at (λ same. absurd (omega (arith, same, is_member, beyond_then journal beyond))) counted)
         (is.on_journals journal (beyond_then journal beyond) (beside.goes.counts journal counted));
     on_members = λ member i below within inside held trusted. elim (cases_eq member slot) [
-      | inl same ↦ subst (λ (k : ℕ). sector_of (seen new k) (FIRST_ROW + row_at seal.rows.items i) ≡ in_body new_table.geometry.members seal body i k) (sym same)
+      | inl same ↦ subst (λ (k : ℕ). sector_of (seen new k) (FIRST_ROW + row_at seal.rows.items i) ≡ in_body new_table.geometry.members seal body i k)
+          (sym same)
           (here (subst (CountsOn new_table) same (trusted_counts (row_at seal.rows.items i) member within trusted)) i inside
           (subst (λ (k : ℕ). holds new_table.geometry.members seal.form i k ≡ true) same held)
           (subst (λ (k : ℕ). trusts (state_at new_table.states k) (row_at seal.rows.items i) new_table.position ≡ true) same trusted))

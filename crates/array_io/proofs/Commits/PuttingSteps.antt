@@ -1,5 +1,6 @@
 -- The calls that put a part of an entry on one slot, and what is made of their end, as steps.
-use Rattle.std.proofs.Common.{◌≡◌, ◌≢◌, ◌⊎◌, inl, inr, ℕ, ◌+◌, ◌<◌, ◌≤◌, Bool, true, false, List, [], ◌∷◌, ◌++◌, length, Ok, Err, Result, refl, sym, ◌∙◌, ap, subst, arith}
+use Rattle.std.proofs.Common.{◌≡◌, ◌≢◌, ◌⊎◌, inl, inr, ℕ, ◌+◌, ◌<◌, ◌≤◌, Bool, true, false, List, [], ◌∷◌, ◌++◌, length, Ok, Err, Result, refl, sym, ◌∙◌, ap}
+use Rattle.std.proofs.Common.{subst, arith}
 use Rattle.std.specs.Prelude.{IfErr, is_ok, slice_index_or}
 use Rattle.std.proofs.lemmas.Bool.{cases_eq}
 use Rattle.sector_model.specs.declared.refusal.Refusal.{Refusal}
@@ -32,7 +33,8 @@ use Rattle.array_io.specs.Steps.Bringing.{CountsOn}
 use Rattle.array_io.specs.Steps.CallSteps.{CallsOne, KeepsFront}
 use Rattle.array_io.specs.Steps.Putting.{Awaited, HasBody, HasSeal, HoldsAll, IfSingleFailure, IsComing, IsPutBefore, MayWrite, PutsFrom, in_body, reached}
 use Rattle.array_io.specs.Steps.PuttingRows.{HeldRows, PutsMember}
-use Rattle.array_io.specs.Steps.PuttingSteps.{Brings, EndsOrFailsSlot, FitsPart, HasItsRows, IsUntouched, PutsCalls, PutsPart, StepsPart, both_bodies, both_sealed, rows_held}
+use Rattle.array_io.specs.Steps.PuttingSteps.{Brings, EndsOrFailsSlot, FitsPart, HasItsRows, IsUntouched, PutsCalls, PutsPart, StepsPart, both_bodies}
+use Rattle.array_io.specs.Steps.PuttingSteps.{both_sealed, rows_held}
 use Rattle.array_io.proofs.Calls.CallSteps.{steps_both, steps_refused}
 use Rattle.array_io.proofs.Calls.DeviceSteps.{goes_on_later, single_failure_before, same_down, step_done, step_marked, step_worn}
 use Rattle.array_io.proofs.Calls.FrontCalls.{AllBeyond, front_stays}
@@ -48,8 +50,10 @@ abbrev EndsAt : Panel → ℕ → Stop → Type 0
 EndsAt panel device why = IsCauseOf panel why × ((why ≡ stop.Worn) ⊎ (why ≡ stop.Down device))
 
 -- calls of one device, of which a flush is the last
-pub puts_calls : (honest : Type 0) (device : ℕ) (calls : List Call) (old_panel new_panel : Panel) (old new : History) (result : Result (Unit {0}) Stop) → AllOf (λ d. d ≡ device) (calls ++ Flush device ∷ [])
-    → AllBeyond (calls ++ Flush device ∷ []) → IsLater old_panel new_panel → IfErr result (EndsAt new_panel device) → (honest → Made (calls ++ Flush device ∷ []) (is_ok result) old new)
+pub puts_calls : (honest : Type 0) (device : ℕ) (calls : List Call) (old_panel new_panel : Panel) (old new : History) (result : Result (Unit {0}) Stop)
+    → AllOf (λ d. d ≡ device) (calls ++ Flush device ∷ [])
+    → AllBeyond (calls ++ Flush device ∷ []) → IsLater old_panel new_panel → IfErr result (EndsAt new_panel device)
+    → (honest → Made (calls ++ Flush device ∷ []) (is_ok result) old new)
     → PutsCalls honest device (calls ++ Flush device ∷ []) old_panel new_panel old new result
 puts_calls honest device calls old_panel new_panel old new result all beyond later ends made = record {
   calls_one = record {
@@ -58,7 +62,8 @@ puts_calls honest device calls old_panel new_panel old new result all beyond lat
     named = named_of device new_panel result ends;
     off = λ fair. throughout_last new (stays_off_calls (λ d. d ≡ device) all (made fair));
     none_failed = λ fair ok. same_down device old new (throughout_last new (stays_off_calls (λ d. d ≡ device) all (made fair)))
-        (flushed_is_up device calls (subst (λ (b : Bool). Made (calls ++ Flush device ∷ []) b old new) (ap (λ (r : Result (Unit {0}) Stop). is_ok r) ok) (made fair)));
+        (flushed_is_up device calls (subst (λ (b : Bool). Made (calls ++ Flush device ∷ []) b old new) (ap (λ (r : Result (Unit {0}) Stop). is_ok r) ok)
+        (made fair)));
     runs = λ fair. throughout_more (λ h off. off.stays_down) new (stays_off_calls (λ d. d ≡ device) all (made fair));
     front = λ fair ok. front_stays beyond (made fair);
   };
@@ -66,16 +71,21 @@ puts_calls honest device calls old_panel new_panel old new result all beyond lat
 }
 
 -- they ended before the flush
-pub puts_short : (honest : Type 0) (device : ℕ) (calls : List Call) (old_panel new_panel : Panel) (old new : History) (result : Result (Unit {0}) Stop) (why : Stop) → result ≡ Err why
-    → AllOf (λ d. d ≡ device) (calls ++ Flush device ∷ []) → AllBeyond (calls ++ Flush device ∷ []) → IsLater old_panel new_panel → EndsAt new_panel device why → (honest → Made calls false old new)
+pub puts_short : (honest : Type 0) (device : ℕ) (calls : List Call) (old_panel new_panel : Panel) (old new : History) (result : Result (Unit {0}) Stop)
+    (why : Stop) → result ≡ Err why
+    → AllOf (λ d. d ≡ device) (calls ++ Flush device ∷ []) → AllBeyond (calls ++ Flush device ∷ []) → IsLater old_panel new_panel → EndsAt new_panel device why
+    → (honest → Made calls false old new)
     → PutsCalls honest device (calls ++ Flush device ∷ []) old_panel new_panel old new result
 puts_short honest device calls old_panel new_panel old new result why is all beyond later ends made =
-    puts_calls honest device calls old_panel new_panel old new result all beyond later (subst (λ (r : Result (Unit {0}) Stop). IfErr r (EndsAt new_panel device)) (sym is) ends)
-    (λ fair. subst (λ (b : Bool). Made (calls ++ Flush device ∷ []) b old new) (sym (ap (λ (r : Result (Unit {0}) Stop). is_ok r) is)) (made_short (Flush device ∷ []) (made fair)))
+    puts_calls honest device calls old_panel new_panel old new result all beyond later
+    (subst (λ (r : Result (Unit {0}) Stop). IfErr r (EndsAt new_panel device)) (sym is) ends)
+    (λ fair. subst (λ (b : Bool). Made (calls ++ Flush device ∷ []) b old new) (sym (ap (λ (r : Result (Unit {0}) Stop). is_ok r) is))
+    (made_short (Flush device ∷ []) (made fair)))
 
 -- the flush was made
 pub puts_flushed : (honest : Type 0) (device : ℕ) (calls : List Call) (first second third : Panel) (old mid new : History) (result : Result (Unit {0}) Stop)
-    → AllOf (λ d. d ≡ device) (calls ++ Flush device ∷ []) → AllBeyond (calls ++ Flush device ∷ []) → IsLater first second → IsLater second third → IfErr result (EndsAt third device) → (result ≡ Ok tt → third.down device ≡ false)
+    → AllOf (λ d. d ≡ device) (calls ++ Flush device ∷ []) → AllBeyond (calls ++ Flush device ∷ []) → IsLater first second → IsLater second third
+    → IfErr result (EndsAt third device) → (result ≡ Ok tt → third.down device ≡ false)
     → (honest → IsTrueTo third new) → (honest → Made calls true old mid) → (honest → new ≡ after_try (after_flush device) result mid)
     → PutsCalls honest device (calls ++ Flush device ∷ []) first third old new result
 puts_flushed honest device calls first second third old mid new result all beyond later further ends up third_true made flush =
@@ -91,7 +101,8 @@ flags_differ : ¬ (true ≡ false)
 flags_differ e = cc
 
 -- what putting the rows on a member calls; where they stand no superblock does
-pub member_calls : (honest : Type 0) (table : Table) (of : HeldRows) (member : ℕ) (old_panel new_panel : Panel) (old new : History) (result : Result (Unit {0}) Stop)
+pub member_calls : (honest : Type 0) (table : Table) (of : HeldRows) (member : ℕ) (old_panel new_panel : Panel) (old new : History)
+    (result : Result (Unit {0}) Stop)
     → PutsMember honest table of member old_panel new_panel old new result → CallsOne honest member old_panel new_panel old new result
 member_calls honest table of member old_panel new_panel old new result puts = record {
   later = puts.later;
@@ -127,17 +138,21 @@ brings_same honest before after number table panel h so = record {
 }
 
 -- steps from one state to another, and then to a third; the body may be spelled by the table between them
-pub brings_both : (honest still : Type 0) → (honest → still) → (before between after : PutsFrom → Table → History → Type 0) (old mid new : ArrayView) (answer : Answer)
+pub brings_both : (honest still : Type 0) → (honest → still)
+    → (before between after : PutsFrom → Table → History → Type 0) (old mid new : ArrayView) (answer : Answer)
     → Brings honest before between old mid (Ok tt) → Brings still between after mid new answer → Brings honest before after old new answer
-brings_both honest still more before between after old mid new answer first second = steps_both honest still more HoldsAll (IfSingleFailure before) (IfSingleFailure between) (IfSingleFailure after) old mid new answer first second
+brings_both honest still more before between after old mid new answer first second =
+    steps_both honest still more HoldsAll (IfSingleFailure before) (IfSingleFailure between) (IfSingleFailure after) old mid new answer first second
 
 -- where they were refused, what they would have reached is free
 pub brings_refused : (honest : Type 0) (before after beyond : PutsFrom → Table → History → Type 0) (old new : ArrayView) (refusal : Refusal)
     → Brings honest before after old new (Err refusal) → Brings honest before beyond old new (Err refusal)
-brings_refused honest before after beyond old new refusal steps = steps_refused honest HoldsAll (IfSingleFailure before) (IfSingleFailure after) (IfSingleFailure beyond) old new refusal steps
+brings_refused honest before after beyond old new refusal steps =
+    steps_refused honest HoldsAll (IfSingleFailure before) (IfSingleFailure after) (IfSingleFailure beyond) old new refusal steps
 
 -- Calls of one device that come to a part, however they ended, and what is made of their end.
-module _ (spellings : Spellings) (honest : Type 0) (before after : PutsFrom → Table → History → Type 0) (slot number : ℕ) (table : Table) (old_panel mid_panel : Panel) (old mid : History)
+module _ (spellings : Spellings) (honest : Type 0) (before after : PutsFrom → Table → History → Type 0) (slot number : ℕ) (table : Table)
+    (old_panel mid_panel : Panel) (old mid : History)
     (true_old : honest → IsTrueTo old_panel old) (true_mid : honest → IsTrueTo mid_panel mid) where
   -- from this run on, with the table, to that
   abbrev StepTo : Panel → Table → History → Answer → Type 0
@@ -145,47 +160,58 @@ module _ (spellings : Spellings) (honest : Type 0) (before after : PutsFrom → 
 
   -- they are a part, from each state before
   abbrev pub ArePart : Result (Unit {0}) Stop → Type 0
-  ArePart done = honest → (from : PutsFrom) → IsSingleFailure (slots_of from.base) from.lost old → before from table old → IsPartOf after from slot table old mid (is_ok done)
+  ArePart done = honest → (from : PutsFrom) → IsSingleFailure (slots_of from.base) from.lost old → before from table old
+      → IsPartOf after from slot table old mid (is_ok done)
 
   module _ (done : Result (Unit {0}) Stop) (calls : CallsOne honest slot old_panel mid_panel old mid done) (part : ArePart done) where
     moments : honest → (from : PutsFrom) → IfSingleFailure before from table old → Throughout (HoldsAll from) old mid
-    moments fair from at = throughout_if_lost from.base from.devices from.lost from.lists old mid (calls.runs fair) (λ was lost_at. (part fair from (was, lost_at) (at (was, lost_at))).moments)
+    moments fair from at = throughout_if_lost from.base from.devices from.lost from.lists old mid (calls.runs fair)
+        (λ was lost_at. (part fair from (was, lost_at) (at (was, lost_at))).moments)
 
     -- one slot was lost at most before
     lost_before : honest → (from : PutsFrom) → IsSingleFailure (slots_of from.base) from.lost mid → IsSingleFailure (slots_of from.base) from.lost old
     lost_before fair from = single_failure_before (slots_of from.base) from.lost old mid (calls.runs fair)
 
   pub part_steps : (new_panel : Panel) (new_table : Table) (new : History) (done : Result (Unit {0}) Stop) (answer : Answer) (still : Type 0) → (honest → still)
-      → (honest → IsTrueTo new_panel new) → HasItsSlots table old_panel → CountsOn table slot → CallsOne honest slot old_panel mid_panel old mid done → ArePart done
+      → (honest → IsTrueTo new_panel new) → HasItsSlots table old_panel → CountsOn table slot → CallsOne honest slot old_panel mid_panel old mid done
+      → ArePart done
       → EndsOrFailsSlot still slot mid_panel new_panel table new_table mid new done answer
       → Brings honest before after (view_of old_panel old table number) (view_of new_panel new new_table number) answer
   part_steps new_panel new_table new done answer still more true_new its counted = by_end done
     where
       -- nothing more was done
-      kept : (said : Answer) → StepTo mid_panel table mid said → answer ≡ said → IsUntouched mid_panel new_panel table new_table mid new → StepTo new_panel new_table new answer
+      kept : (said : Answer) → StepTo mid_panel table mid said → answer ≡ said → IsUntouched mid_panel new_panel table new_table mid new
+          → StepTo new_panel new_table new answer
       kept said step is same = subst (StepTo new_panel new_table new) (sym is)
           (subst (λ (p : Panel). StepTo p new_table new said) (sym same.same_panel)
           (subst (λ (t : Table). StepTo mid_panel t new said) (sym same.same_table)
           (subst (λ (h : History). StepTo mid_panel table h said) (sym same.same_history) step)))
 
-      by_end : (r : Result (Unit {0}) Stop) → CallsOne honest slot old_panel mid_panel old mid r → ArePart r → EndsOrFailsSlot still slot mid_panel new_panel table new_table mid new r answer
+      by_end : (r : Result (Unit {0}) Stop) → CallsOne honest slot old_panel mid_panel old mid r → ArePart r
+          → EndsOrFailsSlot still slot mid_panel new_panel table new_table mid new r answer
           → StepTo new_panel new_table new answer
-      by_end (Ok tt) calls part ends = kept (Ok tt) (step_done spellings honest (λ (f : PutsFrom). f.devices) (λ (f : PutsFrom). f.base) (λ (f : PutsFrom). f.lost) (λ (f : PutsFrom). f.lists)
+      by_end (Ok tt) calls part ends = kept (Ok tt) (step_done spellings honest (λ (f : PutsFrom). f.devices) (λ (f : PutsFrom). f.base)
+          (λ (f : PutsFrom). f.lost) (λ (f : PutsFrom). f.lists)
           (IfSingleFailure before) (IfSingleFailure after) slot number table old_panel mid_panel old mid true_old true_mid calls
           (λ fair from at. (
             moments (Ok tt) calls part fair from at,
             λ loss. let was = lost_before (Ok tt) calls part fair from loss in (part fair from was (at was)).done refl,
           ))) ends.0 ends.1
-      by_end (Err stop.Worn) calls part ends = kept (Err Worn) (step_worn spellings honest (λ (f : PutsFrom). f.devices) (λ (f : PutsFrom). f.base) (λ (f : PutsFrom). f.lost) (λ (f : PutsFrom). f.lists)
-          (IfSingleFailure before) (IfSingleFailure after) slot number table old_panel mid_panel old mid true_old true_mid calls (moments (Err stop.Worn) calls part)) ends.0 ends.1
+      by_end (Err stop.Worn) calls part ends = kept (Err Worn)
+          (step_worn spellings honest (λ (f : PutsFrom). f.devices) (λ (f : PutsFrom). f.base) (λ (f : PutsFrom). f.lost) (λ (f : PutsFrom). f.lists)
+          (IfSingleFailure before) (IfSingleFailure after) slot number table old_panel mid_panel old mid true_old true_mid calls
+          (moments (Err stop.Worn) calls part)) ends.0 ends.1
       by_end (Err (stop.Down device)) calls part ends =
           let same : device ≡ slot = calls.named device refl in
           marked (subst (λ (d : ℕ). CallsOne honest slot old_panel mid_panel old mid (Err (stop.Down d))) same calls)
           (subst (λ (d : ℕ). ArePart (Err (stop.Down d))) same part)
         where
-          marked : CallsOne honest slot old_panel mid_panel old mid (Err (stop.Down slot)) → ArePart (Err (stop.Down slot)) → StepTo new_panel new_table new answer
-          marked calls part = step_marked spellings honest (λ (f : PutsFrom). f.devices) (λ (f : PutsFrom). f.base) (λ (f : PutsFrom). f.lost) (λ (f : PutsFrom). f.lists)
-              (IfSingleFailure before) (IfSingleFailure after) slot number table old_panel mid_panel old mid true_old true_mid new_panel new_table new answer its counted calls
+          marked : CallsOne honest slot old_panel mid_panel old mid (Err (stop.Down slot)) → ArePart (Err (stop.Down slot))
+              → StepTo new_panel new_table new answer
+          marked calls part = step_marked spellings honest (λ (f : PutsFrom). f.devices) (λ (f : PutsFrom). f.base) (λ (f : PutsFrom). f.lost)
+              (λ (f : PutsFrom). f.lists)
+              (IfSingleFailure before) (IfSingleFailure after) slot number table old_panel mid_panel old mid true_old true_mid new_panel new_table new answer
+              its counted calls
               (marks_as slot mid_panel new_panel table new_table mid new answer more ends) true_new
               (λ fair from at loss. let is = part fair from loss (at loss) in (is.moments, is.failed (down fair)))
               (λ fair from at run then_marked loss.
@@ -205,22 +231,27 @@ module _ (spellings : Spellings) (honest : Type 0) (slot number : ℕ) (table : 
   Was = view_of old_panel old table number
 
   -- what the entry holds of a row on a member is the body's sector there
-  sector_in_body : (i member : ℕ) → HasItsRows table seal entry → i < length seal.rows.items → member < table.geometry.members → holds table.geometry.members seal.form i member ≡ true
+  sector_in_body : (i member : ℕ) → HasItsRows table seal entry → i < length seal.rows.items → member < table.geometry.members
+      → holds table.geometry.members seal.form i member ≡ true
       → sector_at entry i member ≡ in_body table.geometry.members seal body i member
   sector_in_body i member its inside within held =
       let of_entry : IsEntryOf table.geometry.members seal entry = record { rows = its.same; held = its.held } in
-      sym (body_at table.geometry.members entry i member table.geometry.limits.members_most (subst (λ (r : List ℕ). i < length r) (sym its.same) inside) within (its.held i member inside within ∙ held))
-      ∙ ap (λ (k : ℕ). slice_index_or body k []) (rank_of_seal table.geometry.members seal entry table.geometry.limits.members_most of_entry i member inside within)
+      sym (body_at table.geometry.members entry i member table.geometry.limits.members_most (subst (λ (r : List ℕ). i < length r) (sym its.same) inside) within
+      (its.held i member inside within ∙ held))
+      ∙ ap (λ (k : ℕ). slice_index_or body k []) (rank_of_seal table.geometry.members seal entry table.geometry.limits.members_most of_entry i member inside
+      within)
 
   -- a slot on which the table doesn't count is passed over
   pub part_passed : (kind : Part) → FitsPart kind table seal entry slot → ¬ CountsOn table slot → StepsPart honest kind seal body slot Was Was (Ok tt)
-  part_passed part.Body beyond out = λ origin journals awaited. brings_same honest (IsComing origin seal body journals) (IsComing origin seal body (reached journals slot HasBody)) number table old_panel old
+  part_passed part.Body beyond out = λ origin journals awaited. brings_same honest (IsComing origin seal body journals)
+      (IsComing origin seal body (reached journals slot HasBody)) number table old_panel old
       (λ from loss is. (
         is.writes,
         coming_still slot seal body from table table old old (nothing_beside slot table old) is.writes origin journals (reached journals slot HasBody) beyond is
             (reached_beside journals slot HasBody) (inr out) (λ on. absurd (out on)),
       ))
-  part_passed part.Seal beyond out = λ origin journals staged. brings_same honest (IsComing origin seal body journals) (IsComing origin seal body (reached journals slot HasSeal)) number table old_panel old
+  part_passed part.Seal beyond out = λ origin journals staged. brings_same honest (IsComing origin seal body journals)
+      (IsComing origin seal body (reached journals slot HasSeal)) number table old_panel old
       (λ from loss is. (
         is.writes,
         coming_still slot seal body from table table old old (nothing_beside slot table old) is.writes origin journals (reached journals slot HasSeal) beyond is
@@ -234,23 +265,30 @@ module _ (spellings : Spellings) (honest : Type 0) (slot number : ℕ) (table : 
       ))
 
   -- a part that was put, or whose slot's device failed
-  module _ (mid_panel new_panel : Panel) (new_table : Table) (mid new : History) (done : Result (Unit {0}) Stop) (answer : Answer) (still : Type 0) (more : honest → still)
+  module _ (mid_panel new_panel : Panel) (new_table : Table) (mid new : History) (done : Result (Unit {0}) Stop) (answer : Answer) (still : Type 0)
+      (more : honest → still)
       (true_old : honest → IsTrueTo old_panel old) (true_mid : honest → IsTrueTo mid_panel mid) (true_new : honest → IsTrueTo new_panel new)
-      (its_slots : HasItsSlots table old_panel) (counted : CountsOn table slot) (ends : EndsOrFailsSlot still slot mid_panel new_panel table new_table mid new done answer) where
+      (its_slots : HasItsSlots table old_panel) (counted : CountsOn table slot)
+      (ends : EndsOrFailsSlot still slot mid_panel new_panel table new_table mid new done answer) where
     pub part_put : (kind : Part) → FitsPart kind table seal entry slot → PutsPart honest kind table seal entry slot old_panel mid_panel old mid done
         → StepsPart honest kind seal body slot Was (view_of new_panel new new_table number) answer
-    part_put part.Body beyond puts = λ origin journals awaited. part_steps spellings honest (IsComing origin seal body journals) (IsComing origin seal body (reached journals slot HasBody)) slot number table
+    part_put part.Body beyond puts = λ origin journals awaited. part_steps spellings honest (IsComing origin seal body journals)
+        (IsComing origin seal body (reached journals slot HasBody)) slot number table
         old_panel mid_panel old mid true_old true_mid new_panel new_table new done answer still more true_new its_slots counted puts.calls_one
-        (λ fair from loss is. body_part spellings seal body from table old mid (is_ok done) slot counted (puts.calls_one.off fair) a_crash_leaves_either origin journals beyond is awaited (puts.made fair)) ends
-    part_put part.Seal beyond puts = λ origin journals staged. part_steps spellings honest (IsComing origin seal body journals) (IsComing origin seal body (reached journals slot HasSeal)) slot number table
+        (λ fair from loss is. body_part spellings seal body from table old mid (is_ok done) slot counted (puts.calls_one.off fair) a_crash_leaves_either origin
+        journals beyond is awaited (puts.made fair)) ends
+    part_put part.Seal beyond puts = λ origin journals staged. part_steps spellings honest (IsComing origin seal body journals)
+        (IsComing origin seal body (reached journals slot HasSeal)) slot number table
         old_panel mid_panel old mid true_old true_mid new_panel new_table new done answer still more true_new its_slots counted puts.calls_one
-        (λ fair from loss is. seal_part spellings seal body from table old mid (is_ok done) slot counted (puts.calls_one.off fair) a_crash_leaves_either origin journals beyond is staged (puts.made fair)) ends
+        (λ fair from loss is. seal_part spellings seal body from table old mid (is_ok done) slot counted (puts.calls_one.off fair) a_crash_leaves_either origin
+        journals beyond is staged (puts.made fair)) ends
     part_put part.Rows (within, its) puts =
         part_steps spellings honest (IsPutBefore slot seal body) (IsPutBefore (slot + 1) seal body) slot number table
         old_panel mid_panel old mid true_old true_mid new_panel new_table new done answer still more true_new its_slots counted
         (member_calls honest table (rows_held entry) slot old_panel mid_panel old mid done puts)
         (λ fair from loss is. rows_part spellings seal body from table old mid (is_ok done) slot counted (puts.off fair) within (rows_held entry) its.same
-        (λ i inside. its.held i slot inside within) (λ i inside held. sector_in_body i slot its inside within held) is honest fair old_panel mid_panel done puts (λ all. by_ok done all)) ends
+        (λ i inside. its.held i slot inside within) (λ i inside held. sector_in_body i slot its inside within held) is honest fair old_panel mid_panel done puts
+        (λ all. by_ok done all)) ends
       where
         by_ok : (r : Result (Unit {0}) Stop) → is_ok r ≡ true → r ≡ Ok tt
         by_ok (Ok tt) all = refl
@@ -265,10 +303,12 @@ pub second_awaited : (first : ℕ) → reached (λ k. Awaited) first HasBody (fi
 second_awaited first = reached_beside (λ k. Awaited) first HasBody (first + 1) (not_next first)
 
 pub first_bodied : (first : ℕ) → both_bodies first first ≡ HasBody
-first_bodied first = reached_beside (reached (λ k. Awaited) first HasBody) (first + 1) HasBody first (λ same. not_next first (sym same)) ∙ reached_here (λ k. Awaited) first HasBody
+first_bodied first = reached_beside (reached (λ k. Awaited) first HasBody) (first + 1) HasBody first (λ same. not_next first (sym same))
+    ∙ reached_here (λ k. Awaited) first HasBody
 
 pub second_bodied : (first : ℕ) → reached (both_bodies first) first HasSeal (first + 1) ≡ HasBody
-second_bodied first = reached_beside (both_bodies first) first HasSeal (first + 1) (not_next first) ∙ reached_here (reached (λ k. Awaited) first HasBody) (first + 1) HasBody
+second_bodied first = reached_beside (both_bodies first) first HasSeal (first + 1) (not_next first)
+    ∙ reached_here (reached (λ k. Awaited) first HasBody) (first + 1) HasBody
 
 -- each of both is sealed
 pub both_are_sealed : (first journal : ℕ) → first ≤ journal → journal < first + 2 → both_sealed first journal ≡ HasSeal

@@ -39,7 +39,8 @@ pub record IsReadOver (slot : ℕ) (old_table new_table : Table) (old new : Hist
 abbrev pub IsRead : (slot : ℕ) (old_table : Table) (old : History) → PutsFrom → Table → History → Type 0
 IsRead slot old_table old from table h = MayWrite from table h × IsReadOver slot old_table table old h
 
-module _ (spellings : Spellings) (slot : ℕ) (table : Table) (old mid : History) (counted : CountsOn table slot) (off : StaysOff (λ d. d ≡ slot) old mid) (read : HasRead old mid) where
+module _ (spellings : Spellings) (slot : ℕ) (table : Table) (old mid : History) (counted : CountsOn table slot) (off : StaysOff (λ d. d ≡ slot) old mid)
+    (read : HasRead old mid) where
   moments : Throughout (IsWriting table Nothing old) old mid
   moments = reads_write table Nothing old mid read (λ device not. off.others_down device (λ same. not (subst (CountsOn table) (sym same) counted)))
 
@@ -53,14 +54,23 @@ module _ (spellings : Spellings) (slot : ℕ) (table : Table) (old mid : History
   pub read_part : (answered : Bool) → (answered ≡ true → (device : ℕ) → is_down mid device ≡ is_down old device) → (from : PutsFrom) → MayWrite from table old
       → IsPartOf (IsRead slot table old) from slot table old mid answered
   read_part answered stay from writes = record {
-    moments = writing_throughout spellings from.devices from.base table from.lost from.lists from.lists Nothing old mid writes (nothing_keeps from.devices table (readable old) from.lists) moments;
+    moments = writing_throughout spellings from.devices from.base table from.lost from.lists from.lists Nothing old mid writes
+        (nothing_keeps from.devices table (readable old) from.lists) moments;
     done = λ all. (
-      writes_on spellings from.devices from.base table from.lost from.lists from.lists Nothing old mid writes (nothing_keeps from.devices table (readable old) from.lists) (throughout_last mid moments)
-          (λ device at first second up may may'. writes.nothing_pending device at first second (sym (stay all device) ∙ up) (held device at first may) (held device at second may'))
+      writes_on spellings from.devices from.base table from.lost from.lists from.lists Nothing old mid writes
+          (nothing_keeps from.devices table (readable old) from.lists) (throughout_last mid moments)
+          (λ device at first second up may may'. writes.nothing_pending device at first second (sym (stay all device) ∙ up) (held device at first may)
+          (held device at second may'))
           (λ other on. stay all other ∙ counted_is_up spellings from.devices from.base table from.lost from.lists old writes other on),
-      record { goes = counts_on_the_same table; counts = λ other apart on. on; same = λ other at on beyond. ap (λ (disk : List Bytes). sector_of disk at) (seen_read read other) },
+      record {
+        goes = counts_on_the_same table;
+        counts = λ other apart on. on;
+        same =
+            λ other at on beyond. ap (λ (disk : List Bytes). sector_of disk at) (seen_read read other);
+      },
     );
-    failed = λ down. (failed_in_step spellings from.devices from.base table from.lost from.lists from.lists Nothing slot old mid writes (nothing_keeps from.devices table (readable old) from.lists) moments off
+    failed = λ down. (failed_in_step spellings from.devices from.base table from.lost from.lists from.lists Nothing slot old mid writes
+        (nothing_keeps from.devices table (readable old) from.lists) moments off
         counted down).0;
     marked = λ new_table new marked writes_then.
         let beside = marked_beside spellings from slot table new_table old mid new counted off.others_seen marked writes_then in (
@@ -68,18 +78,25 @@ module _ (spellings : Spellings) (slot : ℕ) (table : Table) (old mid : History
           record {
             goes = beside.goes;
             counts = beside.counts;
-            same = λ other at on. beside.same other at (λ same. marked_out spellings from slot table new_table old mid new counted off.others_seen marked writes_then (subst (CountsOn new_table) same on)) on;
+            same = λ other at on. beside.same other at
+                (λ same. marked_out spellings from slot table new_table old mid new counted off.others_seen marked writes_then
+                (subst (CountsOn new_table) same on)) on;
           },
         );
   }
 
 -- Reads of one device, however they ended, and what is made of their end.
-pub read_brings : Spellings → (honest : Type 0) (slot number : ℕ) (table new_table : Table) (old_panel mid_panel new_panel : Panel) (old mid new : History) (done : Result (Unit {0}) Stop) (answer : Answer)
-    (still : Type 0) → (honest → still) → (honest → IsTrueTo old_panel old) → (honest → IsTrueTo mid_panel mid) → (honest → IsTrueTo new_panel new) → HasItsSlots table old_panel → CountsOn table slot
-    → CallsOne honest slot old_panel mid_panel old mid done → (honest → HasRead old mid) → EndsOrFailsSlot still slot mid_panel new_panel table new_table mid new done answer
+pub read_brings : Spellings → (honest : Type 0) (slot number : ℕ) (table new_table : Table) (old_panel mid_panel new_panel : Panel) (old mid new : History)
+    (done : Result (Unit {0}) Stop) (answer : Answer)
+    (still : Type 0) → (honest → still) → (honest → IsTrueTo old_panel old) → (honest → IsTrueTo mid_panel mid) → (honest → IsTrueTo new_panel new)
+    → HasItsSlots table old_panel → CountsOn table slot
+    → CallsOne honest slot old_panel mid_panel old mid done → (honest → HasRead old mid)
+    → EndsOrFailsSlot still slot mid_panel new_panel table new_table mid new done answer
     → Brings honest MayWrite (IsRead slot table old) (view_of old_panel old table number) (view_of new_panel new new_table number) answer
-read_brings spellings honest slot number table new_table old_panel mid_panel new_panel old mid new done answer still more true_old true_mid true_new its counted calls read ends =
-    part_steps spellings honest MayWrite (IsRead slot table old) slot number table old_panel mid_panel old mid true_old true_mid new_panel new_table new done answer still more true_new its counted calls
+read_brings spellings honest slot number table new_table old_panel mid_panel new_panel old mid new done answer still more true_old true_mid true_new its counted
+    calls read ends =
+    part_steps spellings honest MayWrite (IsRead slot table old) slot number table old_panel mid_panel old mid true_old true_mid new_panel new_table new done
+    answer still more true_new its counted calls
     (λ fair from loss writes. read_part spellings slot table old mid counted (calls.off fair) (read fair) (is_ok done)
     (λ all. calls.none_failed fair (by_ok done all)) from writes) ends
   where

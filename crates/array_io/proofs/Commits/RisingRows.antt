@@ -25,8 +25,18 @@ pub still_has : (rows : List ℕ) (row place other : ℕ) → place ≤ length r
 still_has rows row place other within has =
     let long = length-insert rows place row within in
     elim (cases_lt has.place place) [
-      | inl before ↦ record { place = has.place; within = omega (arith, long, has.within); is = get_or-insert_below rows place row 0 has.place before within ∙ has.is }
-      | inr from ↦ record { place = has.place + 1; within = omega (arith, long, has.within); is = get_or-insert_above rows place row 0 has.place from within ∙ has.is }
+      | inl before ↦ record {
+        place = has.place;
+        within = omega (arith, long, has.within);
+        is = get_or-insert_below rows place row 0 has.place before within
+            ∙ has.is;
+      }
+      | inr from ↦ record {
+        place = has.place + 1;
+        within = omega (arith, long, has.within);
+        is = get_or-insert_above rows place row 0 has.place from within
+            ∙ has.is;
+      }
     ]
 
 -- and the new one
@@ -38,7 +48,8 @@ new_has rows row place within = record {
 }
 
 -- and no other
-pub only_new : (rows : List ℕ) (row place i : ℕ) → place ≤ length rows → i < length (insert rows place row) → HasRow rows (row_at (insert rows place row) i) ⊎ (row_at (insert rows place row) i ≡ row)
+pub only_new : (rows : List ℕ) (row place i : ℕ) → place ≤ length rows → i < length (insert rows place row) → HasRow rows (row_at (insert rows place row) i)
+    ⊎ (row_at (insert rows place row) i ≡ row)
 only_new rows row place i within inside =
     let long = length-insert rows place row within in
     elim (cases_lt i place) [
@@ -50,7 +61,8 @@ only_new rows row place i within inside =
     ]
 
 -- a row of rising rows goes to its own place
-pub goes_to_own : (rows : List ℕ) (row place : ℕ) → IsStrictlyIncreasing rows → GoesTo rows row place → HasRow rows row → (place < length rows) × (row_at rows place ≡ row)
+pub goes_to_own : (rows : List ℕ) (row place : ℕ) → IsStrictlyIncreasing rows → GoesTo rows row place → HasRow rows row → (place < length rows)
+    × (row_at rows place ≡ row)
 goes_to_own rows row place rising goes has = elim (cases_lt has.place place) [
   | inl before ↦ absurd (omega (arith, goes.below has.place before, has.is))
   | inr from ↦ elim (cases_eq has.place place) [

@@ -1,5 +1,6 @@
 -- From an image with something in a slot that is not live back to the image before: what holds of its rows.
-use Rattle.std.proofs.Common.{◌≡◌, ◌≢◌, ◌⊎◌, ◌↔◌, inl, inr, ℕ, ◌+◌, ◌<◌, ◌≤◌, ◌==◌, Bool, true, false, cond, IsTrue, List, Contains, refl, sym, ◌∙◌, ap, subst, subst₂, arith}
+use Rattle.std.proofs.Common.{◌≡◌, ◌≢◌, ◌⊎◌, ◌↔◌, inl, inr, ℕ, ◌+◌, ◌<◌, ◌≤◌, ◌==◌, Bool, true, false, cond, IsTrue, List, Contains, refl, sym, ◌∙◌, ap, subst}
+use Rattle.std.proofs.Common.{subst₂, arith}
 use Rattle.std.proofs.lemmas.Bool.{cases_eq, cases_lt, cond-true, cond-false, eq-eqb, ne_eqb}
 use Rattle.sector_model.specs.History.{Bytes, Slots, disk_of, sector_of}
 use Rattle.layout_map.specs.declared.sizes.TheConstants.{FIRST_ROW}
@@ -28,7 +29,8 @@ pub record MayLose (devices : ℕ) (table : Table) (X : List (List Bytes)) (imag
   pub decided : IsLive devices table slot (image slot) ⊎ ¬ IsLive devices table slot (image slot)
 
 -- it is settled whether a member's own sector counts, where it is settled whether the member is live
-trust_or_not : (devices : ℕ) (table : Table) (image : Slots) (row member : ℕ) → IsLive devices table member (image member) ⊎ ¬ IsLive devices table member (image member)
+trust_or_not : (devices : ℕ) (table : Table) (image : Slots) (row member : ℕ) → IsLive devices table member (image member)
+    ⊎ ¬ IsLive devices table member (image member)
     → IsTrusted devices table image row member ⊎ ¬ IsTrusted devices table image row member
 trust_or_not devices table image row member (inr out) = inr (λ trusted. out trusted.live)
 trust_or_not devices table image row member (inl live) = by_state (state_at table.states member) refl
@@ -79,15 +81,18 @@ before_journal devices table image slot content after beyond journals are = reco
   before = after;
   are = record {
     width = are.width;
-    own_sector = λ row member within. are.own_sector row member within ∙ ap (λ (c : Content). sector_of (disk_of c) (FIRST_ROW + row)) (put_elsewhere image slot content member (other member within));
+    own_sector = λ row member within. are.own_sector row member within
+        ∙ ap (λ (c : Content). sector_of (disk_of c) (FIRST_ROW + row)) (put_elsewhere image slot content member (other member within));
     trust = λ row member within. (
       λ counts. trusted_before devices table image slot content row member (other member within) ((are.trust row member within).0 counts),
       λ trusted. (are.trust row member within).1 (trusted_after devices table image slot content row member (other member within) trusted),
     );
     last = are.last;
-    is_last = entry_stays table.id table.geometry (IsLiveJournal devices table (with_slot image slot content)) (IsLiveBut devices table image slot) (with_slot image slot content) image journals are.last are.is_last;
+    is_last = entry_stays table.id table.geometry (IsLiveJournal devices table (with_slot image slot content)) (IsLiveBut devices table image slot)
+        (with_slot image slot content) image journals are.last are.is_last;
     in_entry = λ row member. are.in_entry row member
-        ∙ sectors_stay table.geometry.members table.id table.geometry (IsLiveJournal devices table (with_slot image slot content)) (with_slot image slot content) image journals.same are.last are.is_last row member;
+        ∙ sectors_stay table.geometry.members table.id table.geometry (IsLiveJournal devices table (with_slot image slot content))
+        (with_slot image slot content) image journals.same are.last are.is_last row member;
   };
   alike = λ sound. alike table after after (λ row member below within. refl);
   width = are.width;
@@ -103,7 +108,8 @@ before_member : (devices : ℕ) (table : Table) (X : List (List Bytes)) (image :
 before_member devices table X image slot content after may within out journals are = record {
   before = before;
   are = rows_are;
-  alike = λ sound. rows_without devices table (IsLiveBut devices table image slot) (IsLiveJournal devices table (with_slot image slot content)) image slot content before after within out may.whole may.in_full
+  alike = λ sound. rows_without devices table (IsLiveBut devices table image slot) (IsLiveJournal devices table (with_slot image slot content)) image slot
+      content before after within out may.whole may.in_full
       (record { one = rows_are; two = are; last = refl; same = λ k is. sym (journals.same k (journals.back k is)) }) sound;
   width = are.width;
 }
@@ -137,9 +143,11 @@ before_member devices table X image slot content after may within out journals a
       own_sector = λ row member below. refl;
       trust = trust;
       last = are.last;
-      is_last = entry_stays table.id table.geometry (IsLiveJournal devices table (with_slot image slot content)) (IsLiveBut devices table image slot) (with_slot image slot content) image journals are.last are.is_last;
+      is_last = entry_stays table.id table.geometry (IsLiveJournal devices table (with_slot image slot content)) (IsLiveBut devices table image slot)
+          (with_slot image slot content) image journals are.last are.is_last;
       in_entry = λ row member. are.in_entry row member
-          ∙ sectors_stay table.geometry.members table.id table.geometry (IsLiveJournal devices table (with_slot image slot content)) (with_slot image slot content) image journals.same are.last are.is_last row member;
+          ∙ sectors_stay table.geometry.members table.id table.geometry (IsLiveJournal devices table (with_slot image slot content))
+          (with_slot image slot content) image journals.same are.last are.is_last row member;
     }
 
 rows_before : (devices : ℕ) (table : Table) (X : List (List Bytes)) (image : Slots) (slot : ℕ) (content : Content) (after : Rows)
@@ -160,7 +168,12 @@ journal_before : (devices : ℕ) (table : Table) (image : Slots) (slot : ℕ) (c
     → IsLiveJournal devices table (with_slot image slot content) journal → JournalBefore devices table image slot content journal
 journal_before devices table image slot content journal out after = record {
   apart = apart;
-  live = record { beyond_members = after.beyond_members; of_set = after.of_set; live = subst (IsLive devices table journal) (put_elsewhere image slot content journal apart) after.live };
+  live = record {
+    beyond_members = after.beyond_members;
+    of_set = after.of_set;
+    live =
+        subst (IsLive devices table journal) (put_elsewhere image slot content journal apart) after.live;
+  };
   same = sym (put_elsewhere image slot content journal apart);
 }
   where
@@ -168,7 +181,8 @@ journal_before devices table image slot content journal out after = record {
     apart is = out (subst (IsLive devices table slot) (put_there image slot content)
         (subst (λ (k : ℕ). IsLive devices table k (with_slot image slot content k)) is after.live))
 
-same_journals : (devices : ℕ) (table : Table) (image : Slots) (slot : ℕ) (content : Content) → ¬ IsLive devices table slot content → SameJournals devices table image slot content
+same_journals : (devices : ℕ) (table : Table) (image : Slots) (slot : ℕ) (content : Content) → ¬ IsLive devices table slot content
+    → SameJournals devices table image slot content
 same_journals devices table image slot content out = record {
   there = λ k live. let j = journal_before devices table image slot content k out live in (j.live, j.apart);
   back = λ k live. record {

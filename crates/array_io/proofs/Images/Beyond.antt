@@ -31,20 +31,23 @@ pub carrier_of_set : (devices : ℕ) (table : Table) (slot place : ℕ) (content
 carrier_of_set devices table slot place content superblock carries counts =
     subst₂ (λ (s : ℕ) (t : Table). s < t.geometry.members + 2) counts.own_slot carries superblock.of_set
 
-chosen_beyond : (devices : ℕ) (table : Table) (old new : Slots) → DiffersBeyond devices table old new → IsChosen table.id devices old table → IsChosen table.id devices new table
+chosen_beyond : (devices : ℕ) (table : Table) (old new : Slots) → DiffersBeyond devices table old new → IsChosen table.id devices old table
+    → IsChosen table.id devices new table
 chosen_beyond devices table old new differs chosen = record {
   slot = chosen.slot;
   place = chosen.place;
   best = chosen.best;
   counted = subst (λ (c : Content). Counts table.id devices chosen.slot c chosen.place chosen.best)
-      (sym (differs.of_set chosen.slot (carrier_of_set devices table chosen.slot chosen.place (old chosen.slot) chosen.best chosen.carried chosen.counted))) chosen.counted;
+      (sym (differs.of_set chosen.slot (carrier_of_set devices table chosen.slot chosen.place (old chosen.slot) chosen.best chosen.carried chosen.counted)))
+      chosen.counted;
   carried = chosen.carried;
   greatest = λ other at superblock counts. chosen.greatest other at superblock (counted_before devices table old new differs other at superblock counts);
   first = λ other at superblock counts equal. chosen.first other at superblock (counted_before devices table old new differs other at superblock counts) equal;
 }
 
 -- a live journal of the one image is a live journal of the other, and has the same there
-journal_in_old : (devices : ℕ) (table : Table) (old new : Slots) → DiffersBeyond devices table old new → (slot : ℕ) → IsLiveJournal devices table new slot → IsLiveJournal devices table old slot
+journal_in_old : (devices : ℕ) (table : Table) (old new : Slots) → DiffersBeyond devices table old new → (slot : ℕ) → IsLiveJournal devices table new slot
+    → IsLiveJournal devices table old slot
 journal_in_old devices table old new differs slot live = record {
   beyond_members = live.beyond_members;
   of_set = live.of_set;
@@ -64,30 +67,41 @@ same_journals devices table old new differs = record {
 }
 
 -- the ways to the rows of the new image are those of the old one
-rows_in_old : (devices : ℕ) (table : Table) (old new : Slots) → DiffersBeyond devices table old new → (rows : Rows) → AreRowsOf devices table new rows → AreRowsOf devices table old rows
+rows_in_old : (devices : ℕ) (table : Table) (old new : Slots) → DiffersBeyond devices table old new → (rows : Rows) → AreRowsOf devices table new rows
+    → AreRowsOf devices table old rows
 rows_in_old devices table old new differs rows are = record {
   width = are.width;
-  own_sector = λ row member within. are.own_sector row member within ∙ ap (λ (c : Content). sector_of (disk_of c) (FIRST_ROW + row)) (differs.of_set member (omega (arith, within)));
+  own_sector = λ row member within. are.own_sector row member within
+      ∙ ap (λ (c : Content). sector_of (disk_of c) (FIRST_ROW + row)) (differs.of_set member (omega (arith, within)));
   trust = λ row member within.
       let same = differs.of_set member (omega (arith, within)) in (
-        λ counts. let trusted = (are.trust row member within).0 counts in record { live = subst (IsLive devices table member) same trusted.live; rebuilt = trusted.rebuilt },
+        λ counts. let trusted = (are.trust row member within).0 counts in record {
+          live = subst (IsLive devices table member) same trusted.live;
+          rebuilt =
+              trusted.rebuilt;
+        },
         λ trusted. (are.trust row member within).1 (record { live = subst (IsLive devices table member) (sym same) trusted.live; rebuilt = trusted.rebuilt }),
       );
   last = are.last;
-  is_last = entry_stays table.id table.geometry (IsLiveJournal devices table new) (IsLiveJournal devices table old) new old (same_journals devices table old new differs) are.last are.is_last;
+  is_last = entry_stays table.id table.geometry (IsLiveJournal devices table new) (IsLiveJournal devices table old) new old
+      (same_journals devices table old new differs) are.last are.is_last;
   in_entry = λ row member. are.in_entry row member
-      ∙ sectors_stay table.geometry.members table.id table.geometry (IsLiveJournal devices table new) new old (same_journals devices table old new differs).same are.last are.is_last row member;
+      ∙ sectors_stay table.geometry.members table.id table.geometry (IsLiveJournal devices table new) new old (same_journals devices table old new differs).same
+      are.last are.is_last row member;
 }
 
 -- what holds still holds where only what stands after the set's slots differs
-pub holds_in_beyond : (devices : ℕ) (table : Table) (X : List (List Bytes)) (old new : Slots) → DiffersBeyond devices table old new → HoldsIn devices table X old → HoldsIn devices table X new
+pub holds_in_beyond : (devices : ℕ) (table : Table) (X : List (List Bytes)) (old new : Slots) → DiffersBeyond devices table old new
+    → HoldsIn devices table X old → HoldsIn devices table X new
 holds_in_beyond devices table X old new differs holds = record {
   chosen = chosen_beyond devices table old new differs holds.chosen;
   one_out = λ first second in_set in_set' out out'. holds.one_out first second in_set in_set'
       (λ full. out (subst (IsInFull devices table first) (sym (differs.of_set first in_set)) full))
       (λ full. out' (subst (IsInFull devices table second) (sym (differs.of_set second in_set')) full));
-  none_higher = λ slot place superblock counts. holds.none_higher slot place superblock (counted_before devices table old new differs slot place superblock counts);
-  one_content = λ slot place superblock counts. holds.one_content slot place superblock (counted_before devices table old new differs slot place superblock counts);
+  none_higher = λ slot place superblock counts. holds.none_higher slot place superblock
+      (counted_before devices table old new differs slot place superblock counts);
+  one_content = λ slot place superblock counts. holds.one_content slot place superblock
+      (counted_before devices table old new differs slot place superblock counts);
   sound = λ rows are. holds.sound rows (rows_in_old devices table old new differs rows are);
   listed = λ rows are. holds.listed rows (rows_in_old devices table old new differs rows are);
   in_step = λ first second a b live live' last last'.
@@ -118,13 +132,15 @@ put_both devices table old new slot content differs = record {
 }
   where
     put_is : {other : ℕ} (old : Slots) → other ≡ slot → (new : Slots) → with_slot new slot content other ≡ with_slot old slot content other
-    put_is {other} old is new = ap (with_slot new slot content) is ∙ put_there new slot content ∙ sym (put_there old slot content) ∙ sym (ap (with_slot old slot content) is)
+    put_is {other} old is new = ap (with_slot new slot content) is ∙ put_there new slot content ∙ sym (put_there old slot content)
+        ∙ sym (ap (with_slot old slot content) is)
 
 one_counts_beyond : (devices : ℕ) (table : Table) (old new : Slots) (lost : Option Lost) → DiffersBeyond devices table old new
     → OneCounts devices table record { image = old; lost = lost } lost → OneCounts devices table record { image = new; lost = lost } lost
 one_counts_beyond devices table old new None differs one = tt
 one_counts_beyond devices table old new (Some lost) differs one = λ there. elim (cases_lt lost.slot (table.geometry.members + 2)) [
-  | inl of_set ↦ subst (λ (c : Content). AllButOneStale devices table lost.slot (option_to_list c ++ lost.away)) (sym (differs.of_set lost.slot of_set)) (one there)
+  | inl of_set ↦ subst (λ (c : Content). AllButOneStale devices table lost.slot (option_to_list c ++ lost.away)) (sym (differs.of_set lost.slot of_set))
+      (one there)
   | inr beyond ↦ absurd (there (table.allowed.missing_beyond lost.slot beyond))
 ]
 

@@ -19,7 +19,8 @@ use Rattle.array_io.specs.Believed.Settled.{NoneComesBack}
 use Rattle.array_io.proofs.Rest.AtRestLost.{away_is_out}
 use Rattle.array_io.proofs.Laws.Begun.{one_at_most}
 use Rattle.array_io.proofs.Images.Counting.{none_is_out, stale_is_out}
-use Rattle.array_io.proofs.Images.LossBefore.{HasGone, HoldsBy, IsTheLost, WasLost, by_table, holds_by_table, lost_is_out, one_of_stale, one_with, stands_before, was_lost}
+use Rattle.array_io.proofs.Images.LossBefore.{HasGone, HoldsBy, IsTheLost, WasLost, by_table, holds_by_table, lost_is_out, one_of_stale, one_with}
+use Rattle.array_io.proofs.Images.LossBefore.{stands_before, was_lost}
 use Rattle.array_io.proofs.Images.Put.{put_elsewhere, put_same, put_there, put_twice}
 use Rattle.array_io.proofs.Images.Spellings.{Spellings}
 

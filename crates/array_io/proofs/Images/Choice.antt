@@ -37,17 +37,20 @@ pub record IsAsNew (devices : ℕ) (table : Table) (slot : ℕ) (content : Conte
   pub equal : superblock.table.generation ≡ table.generation
 
 -- the superblock that a slot would have of the table, if it may have one
-one_or_none : (table : Table) (slot : ℕ) → ((superblock : Superblock) × (superblock.table ≡ table) × (superblock.role ≡ slot)) ⊎ ((superblock : Superblock) → superblock.table ≡ table → superblock.role ≢ slot)
+one_or_none : (table : Table) (slot : ℕ) → ((superblock : Superblock) × (superblock.table ≡ table) × (superblock.role ≡ slot))
+    ⊎ ((superblock : Superblock) → superblock.table ≡ table → superblock.role ≢ slot)
 one_or_none table slot = elim (cases_lt slot (table.geometry.members + 2)) [
   | inl in_set ↦ by_state (state_at table.states slot) refl in_set
   | inr beyond ↦ inr (λ superblock carried is. absurd (omega (arith, superblock.of_set, ap (λ (t : Table). t.geometry.members) carried, is, beyond)))
 ]
   where
-    there : slot < table.geometry.members + 2 → state_at table.states slot ≢ Missing → ((superblock : Superblock) × (superblock.table ≡ table) × (superblock.role ≡ slot))
+    there : slot < table.geometry.members + 2 → state_at table.states slot ≢ Missing
+        → ((superblock : Superblock) × (superblock.table ≡ table) × (superblock.role ≡ slot))
     there in_set not_missing = (record { table = table; role = slot; of_set = in_set; there = not_missing }, refl, refl)
 
     by_state : (state : State) → state_at table.states slot ≡ state → slot < table.geometry.members + 2
-        → ((superblock : Superblock) × (superblock.table ≡ table) × (superblock.role ≡ slot)) ⊎ ((superblock : Superblock) → superblock.table ≡ table → superblock.role ≢ slot)
+        → ((superblock : Superblock) × (superblock.table ≡ table) × (superblock.role ≡ slot))
+        ⊎ ((superblock : Superblock) → superblock.table ≡ table → superblock.role ≢ slot)
     by_state Missing missing in_set = inr (λ superblock carried is.
         superblock.there (ap (λ (r : ℕ). state_at superblock.table.states r) is ∙ ap (λ (t : Table). state_at t.states slot) carried ∙ missing))
     by_state InSync in_sync in_set = inl (there in_set (λ missing. absurd (differ (sym in_sync ∙ missing))))
@@ -68,7 +71,8 @@ as_new_or_not devices table slot content room known = elim (one_or_none table sl
 ]
   where
     by_sector : (own : (superblock : Superblock) × (superblock.table ≡ table) × (superblock.role ≡ slot))
-        → Dec (sector_of (disk_of content) (table.generation % SUPERBLOCK_PLACES) ≡ superblock_sector own.0) → IsAsNew devices table slot content ⊎ ¬ IsAsNew devices table slot content
+        → Dec (sector_of (disk_of content) (table.generation % SUPERBLOCK_PLACES) ≡ superblock_sector own.0) → IsAsNew devices table slot content
+        ⊎ ¬ IsAsNew devices table slot content
     by_sector own (yes stands) = inl (record {
       place = table.generation % SUPERBLOCK_PLACES;
       superblock = own.0;
@@ -84,16 +88,19 @@ as_new_or_not devices table slot content room known = elim (one_or_none table sl
     by_sector own (no other) = inr (λ new. other (
         ap (λ (p : ℕ). sector_of (disk_of content) p) (sym (ap (λ (g : ℕ). g % SUPERBLOCK_PLACES) new.equal) ∙ new.counts.own_place)
         ∙ new.counts.stands
-        ∙ ap superblock_sector (same_superblock new.superblock own.0 (known.as_new new.place new.superblock new.counts new.equal ∙ sym own.1) (new.counts.own_slot ∙ sym own.2))))
+        ∙ ap superblock_sector (same_superblock new.superblock own.0 (known.as_new new.place new.superblock new.counts new.equal ∙ sym own.1)
+        (new.counts.own_slot ∙ sym own.2))))
 
 -- the table that is chosen without a slot is chosen with what is known to it in that slot
-pub chosen_with : Spellings → (devices : ℕ) (table : Table) (image : Slots) (slot : ℕ) (content : Content) → IsChosen table.id devices (with_slot image slot None) table
+pub chosen_with : Spellings → (devices : ℕ) (table : Table) (image : Slots) (slot : ℕ) (content : Content)
+    → IsChosen table.id devices (with_slot image slot None) table
     → IsKnown devices table slot content → IsChosen table.id devices (with_slot image slot content) table
 chosen_with spellings devices table image slot content chosen known =
     elim (cases_lt slot chosen.slot) [
       | inl below ↦ elim (as_new_or_not devices table slot content room known) [
         | inl new ↦ by_own new below
-        | inr not_new ↦ by_same (λ at superblock counts equal. absurd (not_new (record { place = at; superblock = superblock; counts = counts; equal = equal })))
+        | inr not_new ↦ by_same (λ at superblock counts equal.
+            absurd (not_new (record { place = at; superblock = superblock; counts = counts; equal = equal })))
       ]
       | inr beyond ↦ by_same (λ at superblock counts equal. beyond)
     ]
@@ -105,7 +112,8 @@ chosen_with spellings devices table image slot content chosen known =
     apart_from : (other at : ℕ) (superblock : Superblock) → other ≢ slot → Counts table.id devices other (with_slot image slot content other) at superblock
         → Counts table.id devices other (with_slot image slot None other) at superblock
     apart_from other at superblock apart counts =
-        subst (λ (c : Content). Counts table.id devices other c at superblock) (put_elsewhere image slot content other apart ∙ sym (put_elsewhere image slot None other apart)) counts
+        subst (λ (c : Content). Counts table.id devices other c at superblock)
+        (put_elsewhere image slot content other apart ∙ sym (put_elsewhere image slot None other apart)) counts
 
     here : (other at : ℕ) (superblock : Superblock) → other ≡ slot → Counts table.id devices other (with_slot image slot content other) at superblock
         → Counts table.id devices slot content at superblock
@@ -124,7 +132,8 @@ chosen_with spellings devices table image slot content chosen known =
         (subst (λ (c : Content). Counts table.id devices slot c chosen.place chosen.best) (put_there image slot None)
         (subst (λ (k : ℕ). Counts table.id devices k (with_slot image slot None k) chosen.place chosen.best) is chosen.counted))
 
-    by_same : ((at : ℕ) (superblock : Superblock) → Counts table.id devices slot content at superblock → superblock.table.generation ≡ table.generation → chosen.slot ≤ slot)
+    by_same : ((at : ℕ) (superblock : Superblock) → Counts table.id devices slot content at superblock → superblock.table.generation ≡ table.generation
+        → chosen.slot ≤ slot)
         → IsChosen table.id devices (with_slot image slot content) table
     by_same first = record {
       slot = chosen.slot;
@@ -150,6 +159,7 @@ chosen_with spellings devices table image slot content chosen known =
       greatest = greatest;
       first = λ other at superblock counts equal. elim (cases_eq other slot) [
         | inl is ↦ omega (arith, is)
-        | inr apart ↦ let least : chosen.slot ≤ other = chosen.first other at superblock (apart_from other at superblock apart counts) equal in omega (arith, least, below)
+        | inr apart ↦ let least : chosen.slot ≤ other =
+            chosen.first other at superblock (apart_from other at superblock apart counts) equal in omega (arith, least, below)
       ];
     }

@@ -19,10 +19,12 @@ after_id : ℕ → List ℕ → Form → List ℕ
 after_id number rows form = drop (length (first_mark form)) (seal_bytes [] number rows form)
 
 -- the second of nine parts, between the first and the rest
-second_part : (m i a b c d e f g : List ℕ) → m ++ i ++ a ++ b ++ c ++ d ++ e ++ f ++ g ≡ m ++ (i ++ drop (length m) (m ++ [] ++ a ++ b ++ c ++ d ++ e ++ f ++ g))
+second_part : (m i a b c d e f g : List ℕ) → m ++ i ++ a ++ b ++ c ++ d ++ e ++ f ++ g ≡ m
+    ++ (i ++ drop (length m) (m ++ [] ++ a ++ b ++ c ++ d ++ e ++ f ++ g))
 second_part m i a b c d e f g = simp (append_assoc, drop-append_seam)
 
-seal_bytes_are : (id : List ℕ) (number : ℕ) (rows : List ℕ) (form : Form) → seal_bytes id number rows form ≡ first_mark form ++ (id ++ after_id number rows form)
+seal_bytes_are : (id : List ℕ) (number : ℕ) (rows : List ℕ) (form : Form) → seal_bytes id number rows form ≡ first_mark form
+    ++ (id ++ after_id number rows form)
 unfolding seal_bytes after_id
 seal_bytes_are id number rows form = second_part (first_mark form) id _ _ _ _ _ _ _
 

@@ -31,14 +31,17 @@ entry_stays id geometry journals others image other alike (Some entry) latest = 
     before journal seal on sealed = subst (λ (c : Content). IsGreatest id geometry c seal) (sym (alike.same journal (alike.back journal on))) sealed
 
 -- and the same sectors in it
-pub sectors_stay : (members : ℕ) (id : List ℕ) (geometry : Geometry) (journals : ℕ → Type 0) (image other : Slots) → ((slot : ℕ) → journals slot → image slot ≡ other slot)
-    → (last : Option Entry) → IsLastEntry id geometry journals image last → (row member : ℕ) → sector_of_last members image last row member ≡ sector_of_last members other last row member
+pub sectors_stay : (members : ℕ) (id : List ℕ) (geometry : Geometry) (journals : ℕ → Type 0) (image other : Slots)
+    → ((slot : ℕ) → journals slot → image slot ≡ other slot)
+    → (last : Option Entry) → IsLastEntry id geometry journals image last → (row member : ℕ)
+    → sector_of_last members image last row member ≡ sector_of_last members other last row member
 sectors_stay members id geometry journals image other same None none row member = refl
 sectors_stay members id geometry journals image other same (Some entry) latest row member =
     ap (λ (c : Content). sector_in members c entry.seal row member) (same entry.journal latest.on_live)
 
 -- two seals with one number that count on one journal are one seal
-pub seal_is_one : Spellings → (id : List ℕ) (geometry : Geometry) (content : Content) (first second : Seal) → IsGreatest id geometry content first → IsGreatest id geometry content second
+pub seal_is_one : Spellings → (id : List ℕ) (geometry : Geometry) (content : Content) (first second : Seal) → IsGreatest id geometry content first
+    → IsGreatest id geometry content second
     → first.number ≡ second.number → first ≡ second
 seal_is_one spellings id geometry content first second one two equal =
     let places : one.place ≡ two.place = sym one.counted.belongs.own_place ∙ ap (λ (n : ℕ). n % HALVES) equal ∙ two.counted.belongs.own_place in

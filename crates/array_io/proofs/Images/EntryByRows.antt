@@ -38,8 +38,10 @@ in_its_place f None sector has = absurd (none-some sector has)
 in_its_place f (Some place) sector has = (place, refl, same_Some (f place) sector has)
 
 -- so it is whole
-pub sector_whole : (devices : ℕ) (table : Table) (image : Slots) → HasWholeSectors image → (journal : ℕ) (seal : Seal) → IsLiveJournal devices table image journal
-    → (row member : ℕ) (sector : Bytes) → member < table.geometry.members → sector_in table.geometry.members (image journal) seal row member ≡ Some sector → length sector ≡ 512
+pub sector_whole : (devices : ℕ) (table : Table) (image : Slots) → HasWholeSectors image → (journal : ℕ) (seal : Seal)
+    → IsLiveJournal devices table image journal
+    → (row member : ℕ) (sector : Bytes) → member < table.geometry.members → sector_in table.geometry.members (image journal) seal row member ≡ Some sector
+    → length sector ≡ 512
 sector_whole devices table image whole journal seal live row member sector within has =
     let at = in_its_place (sector_of (disk_of (image journal))) (place_by_seal table.geometry.members seal row member) sector has in
     let body = bodies_within table.geometry.members seal row member at.0 table.geometry.limits.members_most within at.1 in
@@ -89,7 +91,8 @@ module _ (spellings : Spellings) (devices : ℕ) (table : Table) (X : List (List
   are = last_rows spellings devices table image one
 
   -- each sector of an entry that has the own ones of trusted members is the value that the members give
-  module _ (whole : HasWholeSectors image) (owns : HaveOwnSectors devices table image one.last) (journal : ℕ) (seal : Seal) (live : IsLiveJournal devices table image journal)
+  module _ (whole : HasWholeSectors image) (owns : HaveOwnSectors devices table image one.last) (journal : ℕ) (seal : Seal)
+      (live : IsLiveJournal devices table image journal)
       (is : one.last ≡ Some seal) (row : ℕ) (below : row < row_count table) where
     entry_here : (member : ℕ) → member < table.geometry.members → rows.entry row member ≡ sector_in table.geometry.members (image journal) seal row member
     entry_here member within = are.in_entry row member ∙ entry_is are.last are.is_last journal seal live is row member within
@@ -99,7 +102,8 @@ module _ (spellings : Spellings) (devices : ℕ) (table : Table) (X : List (List
         → value rows row member ≡ sector_of (disk_of (image member)) (FIRST_ROW + row)
     trusted_value member within trusted = by_entry (sector_in table.geometry.members (image journal) seal row member) refl
       where
-        by_entry : (entry : Option Bytes) → sector_in table.geometry.members (image journal) seal row member ≡ entry → value rows row member ≡ sector_of (disk_of (image member)) (FIRST_ROW + row)
+        by_entry : (entry : Option Bytes) → sector_in table.geometry.members (image journal) seal row member ≡ entry
+            → value rows row member ≡ sector_of (disk_of (image member)) (FIRST_ROW + row)
         by_entry None none =
             value-own rows row member (entry_here member within ∙ none)
             ((are.trust row member within).1 ((table_tells devices table image one.there row member within).0 trusted))
@@ -112,21 +116,25 @@ module _ (spellings : Spellings) (devices : ℕ) (table : Table) (X : List (List
         → known (rows_by table image) row member ≡ sector_of (disk_of (image member)) (FIRST_ROW + row)
     known_is member trusted = ap (λ (t : Bool). unwrap_or (direct_of None t (sector_of (disk_of (image member)) (FIRST_ROW + row))) zero_sector) trusted
 
-    body_value : (member : ℕ) (sector : Bytes) → member < table.geometry.members → sector_in table.geometry.members (image journal) seal row member ≡ Some sector
+    body_value : (member : ℕ) (sector : Bytes) → member < table.geometry.members
+        → sector_in table.geometry.members (image journal) seal row member ≡ Some sector
         → sector ≡ value (rows_by table image) row member
     body_value member sector within has = by_trust (trusts (state_at table.states member) row table.position) refl
       where
         by_trust : (b : Bool) → trusts (state_at table.states member) row table.position ≡ b → sector ≡ value (rows_by table image) row member
-        by_trust true trusted = owns journal seal live is row member sector below within trusted has ∙ sym (value-own (rows_by table image) row member refl trusted)
+        by_trust true trusted = owns journal seal live is row member sector below within trusted has
+            ∙ sym (value-own (rows_by table image) row member refl trusted)
         by_trust false out =
             let its : value rows row member ≡ sector = value-entry rows row member sector (entry_here member within ∙ has) in
-            let long : length (value rows row member) ≡ 512 = ap length its ∙ sector_whole devices table image whole journal seal live row member sector within has in
+            let long : length (value rows row member) ≡ 512 =
+            ap length its ∙ sector_whole devices table image whole journal seal live row member sector within has in
             let sound : xor_of_all (map (λ other. value rows row other) (range_with_len 0 table.geometry.members)) ≡ zero_sector =
             subst (λ (n : ℕ). IsSoundRow (map (λ (other : ℕ). value rows row other) (range_with_len 0 n))) are.width (holds.sound rows are row below) in
             sym its
             ∙ sector_is_xor (value rows row member) (map (λ other. value rows row other) (others table.geometry.members member)) long
             (sym (xor_of_all-member (λ other. value rows row other) member 0 table.geometry.members (omega arith) (omega (arith, within))) ∙ sound)
-            ∙ ap xor_of_all (map-others (λ other. value rows row other) (λ other. known (rows_by table image) row other) member 0 table.geometry.members (λ other inside apart.
+            ∙ ap xor_of_all (map-others (λ other. value rows row other) (λ other. known (rows_by table image) row other) member 0 table.geometry.members
+            (λ other inside apart.
             let of_set : other < table.geometry.members = omega (arith, inside) in
             let trusted = trusted_apart table row member other within of_set apart out in
             trusted_value other of_set trusted ∙ sym (known_is other trusted)))

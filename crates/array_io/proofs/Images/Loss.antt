@@ -51,7 +51,8 @@ entries_stay devices table journals others image other whole without by row memb
     ∙ sym (by.two.in_entry row member))
 
 does_without : (devices : ℕ) (table : Table) (journals others : ℕ → Type 0) (image : Slots) (member : ℕ) (content : Content) (whole without : Rows)
-    → member < table.geometry.members → ¬ IsLive devices table member content → ByOneEntry devices table journals others image (with_slot image member content) whole without
+    → member < table.geometry.members → ¬ IsLive devices table member content
+    → ByOneEntry devices table journals others image (with_slot image member content) whole without
     → DoesWithout member whole without
 does_without devices table journals others image member content whole without within out by = record {
   width = by.two.width ∙ sym by.one.width;
@@ -76,7 +77,8 @@ own_is_whole : (devices : ℕ) (table : Table) (image : Slots) (member row : ℕ
 own_is_whole devices table image member row whole within below live = whole member (FIRST_ROW + row) reached
   where
     least : least_sectors table.geometry member ≡ FIRST_ROW + rows_of table.geometry.chunk table.geometry.stripes
-    least = cond-true (nat_lt member table.geometry.members) (FIRST_ROW + rows_of table.geometry.chunk table.geometry.stripes) JOURNAL_SECTORS (lt-ltb member table.geometry.members within)
+    least = cond-true (nat_lt member table.geometry.members) (FIRST_ROW + rows_of table.geometry.chunk table.geometry.stripes) JOURNAL_SECTORS
+        (lt-ltb member table.geometry.members within)
 
     reached : FIRST_ROW + row < length (disk_of (image member))
     reached = omega (arith, least, live.long_enough, below)
@@ -86,7 +88,8 @@ some_direct (Some sector) trusted own is = refl
 some_direct None trusted own is = subst (λ (t : Bool). IsSome (direct_of None t own)) (sym is) refl
 
 -- all of a member that is in full counts
-in_full_counts : (devices : ℕ) (table : Table) (image : Slots) (row member : ℕ) → IsInFull devices table member (image member) → IsTrusted devices table image row member
+in_full_counts : (devices : ℕ) (table : Table) (image : Slots) (row member : ℕ) → IsInFull devices table member (image member)
+    → IsTrusted devices table image row member
 in_full_counts devices table image row member full = record {
   live = full.live;
   rebuilt = λ is. absurd (differ (sym full.in_sync ∙ is));
@@ -142,4 +145,5 @@ one_member_may_go spellings devices table image member whole without within sect
 
     last : one.last ≡ two.last
     last = last_is_one spellings table.id table.geometry (IsLiveJournal devices table other) other one.last two.last
-        (entry_stays table.id table.geometry (IsLiveJournal devices table image) (IsLiveJournal devices table other) image other journals one.last one.is_last) two.is_last
+        (entry_stays table.id table.geometry (IsLiveJournal devices table image) (IsLiveJournal devices table other) image other journals one.last one.is_last)
+        two.is_last

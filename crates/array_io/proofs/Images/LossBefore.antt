@@ -1,6 +1,7 @@
 -- What was lost at an earlier moment by what is lost now, what stood in the slots then, and a case by the table that
 -- its image chooses.
-use Rattle.std.proofs.Common.{◌≡◌, ◌≢◌, ◌⊎◌, inl, inr, ℕ, ◌<◌, Bool, true, false, cond, List, [], ◌∷◌, ◌++◌, option_to_list, Option, Some, None, refl, sym, ◌∙◌, ap, subst}
+use Rattle.std.proofs.Common.{◌≡◌, ◌≢◌, ◌⊎◌, inl, inr, ℕ, ◌<◌, Bool, true, false, cond, List, [], ◌∷◌, ◌++◌, option_to_list, Option, Some, None, refl, sym, ◌∙◌}
+use Rattle.std.proofs.Common.{ap, subst}
 use Rattle.std.proofs.lemmas.Bool.{cases_eq}
 use Rattle.sector_model.specs.History.{Bytes, History, Slots, is_down, seen}
 use Rattle.superblock.specs.declared.table.Table.{Table}
@@ -132,7 +133,8 @@ pub record HoldsBy (base : Table) (devices : ℕ) (table : Table) (X : List (Lis
   pub one_counts : OneCounts devices table case case.lost
 
 -- as does each case that holds, by its own
-pub by_own_table : (base : Table) (devices : ℕ) (X : List (List Bytes)) (case : Case) (holds : Holds base devices case X) → HoldsBy base devices holds.table X case
+pub by_own_table : (base : Table) (devices : ℕ) (X : List (List Bytes)) (case : Case) (holds : Holds base devices case X)
+    → HoldsBy base devices holds.table X case
 by_own_table base devices X case holds = record {
   not_older = holds.not_older;
   lost_in_set = holds.lost_in_set;

@@ -17,7 +17,8 @@ pub record HasParts (devices : ℕ) (table : Table) (X : List (List Bytes)) (ima
   pub out : ℕ
   pub in_full : (slot : ℕ) → slot < table.geometry.members + 2 → slot ≢ out → IsInFull devices table slot (image slot)
 
-only_out : (devices : ℕ) (table : Table) (image : Slots) (out slot : ℕ) → ((slot : ℕ) → slot < table.geometry.members + 2 → slot ≢ out → IsInFull devices table slot (image slot))
+only_out : (devices : ℕ) (table : Table) (image : Slots) (out slot : ℕ)
+    → ((slot : ℕ) → slot < table.geometry.members + 2 → slot ≢ out → IsInFull devices table slot (image slot))
     → slot < table.geometry.members + 2 → ¬ IsInFull devices table slot (image slot) → slot ≡ out
 only_out devices table image out slot full in_set not_full = elim (cases_eq slot out) [
   | inl is ↦ is

@@ -8,17 +8,20 @@ use Rattle.array_io.specs.Laws.Law.{AreAlike}
 
 -- rows with the same values have the same logical list
 pub alike : (table : Table) (first second : Rows)
-    → ((row member : ℕ) → row < row_count table → member < table.geometry.members → value first row member ≡ value second row member) → AreAlike table first second
+    → ((row member : ℕ) → row < row_count table → member < table.geometry.members → value first row member ≡ value second row member)
+    → AreAlike table first second
 alike table first second same = record { values = same; lists = logical_list-same table.geometry first second same }
 
 pub alike_back : (table : Table) {first second : Rows} → AreAlike table first second → AreAlike table second first
 alike_back table are = record { values = λ row member below within. sym (are.values row member below within); lists = sym are.lists }
 
 -- rows that are alike are sound together
-pub sound_alike : (table : Table) (first second : Rows) → first.members ≡ table.geometry.members → second.members ≡ table.geometry.members → AreAlike table first second
+pub sound_alike : (table : Table) (first second : Rows) → first.members ≡ table.geometry.members → second.members ≡ table.geometry.members
+    → AreAlike table first second
     → AreSound first (row_count table) → AreSound second (row_count table)
 sound_alike table first second width width' are sound =
-    sound-same (row_count table) second first (width' ∙ sym width) (λ row member below within. sym (are.values row member below (omega (arith, width, within)))) sound
+    sound-same (row_count table) second first (width' ∙ sym width) (λ row member below within. sym (are.values row member below (omega (arith, width, within))))
+    sound
 
 -- two tests of one thing give one answer
 pub same_test : (a b : Bool) (A B : Type 0) → (IsTrue a ↔ A) → (IsTrue b ↔ B) → (A → B) → (B → A) → a ≡ b

@@ -77,7 +77,8 @@ pub sectors_beyond : (members : ℕ) (id : List ℕ) (geometry : Geometry) (jour
     → sector_of_last members other last row member ≡ sector_of_last members image last row member
 sectors_beyond members id geometry journals others image other same None none row member = refl
 sectors_beyond members id geometry journals others image other same (Some entry) latest row member =
-    sym (sector_beyond members (image entry.journal) (other entry.journal) (same.agree entry.journal (same.back entry.journal latest.on_live)) entry.seal row member)
+    sym (sector_beyond members (image entry.journal) (other entry.journal) (same.agree entry.journal (same.back entry.journal latest.on_live)) entry.seal row
+    member)
 
 -- An image by a table, and another one by a table of the same shape: the same slots are live, the same sectors of members count, and in each
 -- live slot is the same after the superblocks.
@@ -124,7 +125,8 @@ entry_here : (devices : ℕ) (table new : Table) (image other : Slots) → AreSa
     → IsLastEntry new.id new.geometry (IsLiveJournal devices new other) other last
     → IsLastEntry table.id table.geometry (IsLiveJournal devices table image) image last
 entry_here devices table new image other same last is =
-    entry_beyond table.id table.geometry (IsLiveJournal devices table image) (IsLiveJournal devices new other) image other (same_journals devices table new image other same) last
+    entry_beyond table.id table.geometry (IsLiveJournal devices table image) (IsLiveJournal devices new other) image other
+    (same_journals devices table new image other same) last
     (subst (λ (g : Geometry). IsLastEntry table.id g (IsLiveJournal devices new other) other last) same.same_geometry
     (subst (λ (i : List ℕ). IsLastEntry i new.geometry (IsLiveJournal devices new other) other last) same.same_id is))
 

@@ -13,7 +13,8 @@ use Rattle.array_io.proofs.Commits.FormedRows.{sector_of_logical_list}
 
 -- each value of a set's rows has 512 bytes
 abbrev pub HaveWholeValues : Geometry → Rows → Type 0
-HaveWholeValues geometry rows = (row member : ℕ) → row < rows_of geometry.chunk geometry.stripes → member < geometry.members → length (value rows row member) ≡ 512
+HaveWholeValues geometry rows = (row member : ℕ) → row < rows_of geometry.chunk geometry.stripes → member < geometry.members
+    → length (value rows row member) ≡ 512
 
 -- a value at the place of a logical sector is that of the logical sector
 pub value_placed : (geometry : Geometry) (rows : Rows) (logical row member : ℕ) → IsPlace geometry.members geometry.chunk logical member row
@@ -23,7 +24,8 @@ value_placed geometry rows logical row member placed =
     ∙ ap (λ (m : ℕ). value rows (stripe_of_chunk geometry.members (logical / geometry.chunk) * geometry.chunk + logical % geometry.chunk) m) placed.on_member
 
 -- in a sound row each value is the XOR of the others
-value_of_others : (geometry : Geometry) (rows : Rows) → rows.members ≡ geometry.members → AreSound rows (rows_of geometry.chunk geometry.stripes) → HaveWholeValues geometry rows
+value_of_others : (geometry : Geometry) (rows : Rows) → rows.members ≡ geometry.members → AreSound rows (rows_of geometry.chunk geometry.stripes)
+    → HaveWholeValues geometry rows
     → (row member : ℕ) → row < rows_of geometry.chunk geometry.stripes → member < geometry.members
     → value rows row member ≡ xor_of_all (map (λ other. value rows row other) (others geometry.members member))
 value_of_others geometry rows wide sound whole row member below within =

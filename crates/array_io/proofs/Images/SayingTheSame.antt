@@ -38,7 +38,8 @@ pub record SayTheSame (devices : ℕ) (table : Table) (image other : Slots) : Ty
       → IsTrusted devices table other row member → sector_of (disk_of (image member)) (FIRST_ROW + row) ≡ sector_of (disk_of (other member)) (FIRST_ROW + row)
 
 -- a live journal of one image is one of the other
-journal_of : (devices : ℕ) (table : Table) (image other : Slots) → ((slot : ℕ) → IsLive devices table slot (image slot) → IsLive devices table slot (other slot))
+journal_of : (devices : ℕ) (table : Table) (image other : Slots)
+    → ((slot : ℕ) → IsLive devices table slot (image slot) → IsLive devices table slot (other slot))
     → (journal : ℕ) → IsLiveJournal devices table image journal → IsLiveJournal devices table other journal
 journal_of devices table image other live journal is = record { beyond_members = is.beyond_members; of_set = is.of_set; live = live journal is.live }
 
@@ -80,8 +81,10 @@ same_entry id geometry journals others image other there back same (Some entry) 
   on_live = there entry.journal latest.on_live;
   sealed = same_greatest id geometry (other entry.journal) (image entry.journal)
       (back_seals (image entry.journal) (other entry.journal) (same entry.journal (there entry.journal latest.on_live))) entry.seal latest.sealed;
-  greatest = λ journal seal on sealed. latest.greatest journal seal (back journal on) (same_greatest id geometry (image journal) (other journal) (same journal on) seal sealed);
-  lowest = λ journal seal on sealed equal. latest.lowest journal seal (back journal on) (same_greatest id geometry (image journal) (other journal) (same journal on) seal sealed) equal;
+  greatest = λ journal seal on sealed. latest.greatest journal seal (back journal on)
+      (same_greatest id geometry (image journal) (other journal) (same journal on) seal sealed);
+  lowest = λ journal seal on sealed equal. latest.lowest journal seal (back journal on)
+      (same_greatest id geometry (image journal) (other journal) (same journal on) seal sealed) equal;
 }
 
 -- contents with the same body of a last entry
@@ -97,7 +100,8 @@ step_same members first second other_first other_second None (Some b) one two st
 step_same members first second other_first other_second (Some a) (Some b) one two (inl (same, equal)) = inl (
   same,
   λ row member within. one a refl row member within ∙ equal row member within
-      ∙ sym (subst (λ (s : Seal). sector_in members second s row member ≡ sector_in members other_second s row member) (sym same) (two b refl row member within)),
+      ∙ sym (subst (λ (s : Seal). sector_in members second s row member ≡ sector_in members other_second s row member) (sym same)
+      (two b refl row member within)),
 )
 step_same members first second other_first other_second (Some a) (Some b) one two (inr next) = inr next
 
@@ -108,7 +112,8 @@ pub record TellsAs (devices : ℕ) (table : Table) (image other : Slots) (last :
   pub is_last : IsLastEntry table.id table.geometry (IsLiveJournal devices table other) other other_last
   pub entries : (row member : ℕ) → member < table.geometry.members
       → sector_of_last table.geometry.members image last row member ≡ sector_of_last table.geometry.members other other_last row member
-  pub owns : (row member : ℕ) → row < row_count table → member < table.geometry.members → sector_of_last table.geometry.members other other_last row member ≡ None
+  pub owns : (row member : ℕ) → row < row_count table → member < table.geometry.members
+      → sector_of_last table.geometry.members other other_last row member ≡ None
       → IsTrusted devices table other row member → sector_of (disk_of (image member)) (FIRST_ROW + row) ≡ sector_of (disk_of (other member)) (FIRST_ROW + row)
 
 -- the same members are trusted in both
@@ -117,7 +122,8 @@ pub record HaveTrustAlike (devices : ℕ) (table : Table) (image other : Slots) 
   pub back : (row member : ℕ) → member < table.geometry.members → IsTrusted devices table other row member → IsTrusted devices table image row member
 
 module _ (devices : ℕ) (table : Table) (image other : Slots) (trust : HaveTrustAlike devices table image other)
-    (tells : (last : Option Entry) → IsLastEntry table.id table.geometry (IsLiveJournal devices table image) image last → TellsAs devices table image other last) where
+    (tells : (last : Option Entry) → IsLastEntry table.id table.geometry (IsLiveJournal devices table image) image last
+    → TellsAs devices table image other last) where
   -- the rows of the other image, by the same tests
   abbrev rows_of_other : Rows → Option Entry → Rows
   rows_of_other rows last = record {
@@ -127,7 +133,8 @@ module _ (devices : ℕ) (table : Table) (image other : Slots) (trust : HaveTrus
     own = λ row member. sector_of (disk_of (other member)) (FIRST_ROW + row);
   }
 
-  are_of_other : (rows : Rows) (are : AreRowsOf devices table image rows) → AreRowsOf devices table other (rows_of_other rows (tells are.last are.is_last).other_last)
+  are_of_other : (rows : Rows) (are : AreRowsOf devices table image rows)
+      → AreRowsOf devices table other (rows_of_other rows (tells are.last are.is_last).other_last)
   are_of_other rows are = record {
     width = are.width;
     own_sector = λ row member within. refl;
@@ -157,7 +164,8 @@ module _ (devices : ℕ) (table : Table) (image other : Slots) (trust : HaveTrus
       told = tells are.last are.is_last
 
   -- so its rows are sound and listed too
-  pub tells_the_same : (X : List (List Bytes)) → HasRows devices table X (IsLiveJournal devices table other) other → HasRows devices table X (IsLiveJournal devices table image) image
+  pub tells_the_same : (X : List (List Bytes)) → HasRows devices table X (IsLiveJournal devices table other) other
+      → HasRows devices table X (IsLiveJournal devices table image) image
   tells_the_same X has = record {
     sound = λ rows are.
         sound_alike table (rows_of_other rows (tells are.last are.is_last).other_last) rows are.width are.width
@@ -180,9 +188,11 @@ module _ (devices : ℕ) (table : Table) (image other : Slots) (same : SayTheSam
 
   entry_there : (last : Option Entry) → IsLastEntry table.id table.geometry (IsLiveJournal devices table image) image last
       → IsLastEntry table.id table.geometry (IsLiveJournal devices table other) other last
-  entry_there last is = same_entry table.id table.geometry (IsLiveJournal devices table image) (IsLiveJournal devices table other) image other there back seals last is
+  entry_there last is = same_entry table.id table.geometry (IsLiveJournal devices table image) (IsLiveJournal devices table other) image other there back seals
+      last is
 
-  sectors_are : (last : Option Entry) → IsLastEntry table.id table.geometry (IsLiveJournal devices table other) other last → (row member : ℕ) → member < table.geometry.members
+  sectors_are : (last : Option Entry) → IsLastEntry table.id table.geometry (IsLiveJournal devices table other) other last → (row member : ℕ)
+      → member < table.geometry.members
       → sector_of_last table.geometry.members image last row member ≡ sector_of_last table.geometry.members other last row member
   sectors_are None is row member below = refl
   sectors_are (Some entry) is row member below =
@@ -196,7 +206,8 @@ module _ (devices : ℕ) (table : Table) (image other : Slots) (same : SayTheSam
   }
 
   -- so its rows are sound and listed too
-  pub says_the_same : (X : List (List Bytes)) → HasRows devices table X (IsLiveJournal devices table other) other → HasRows devices table X (IsLiveJournal devices table image) image
+  pub says_the_same : (X : List (List Bytes)) → HasRows devices table X (IsLiveJournal devices table other) other
+      → HasRows devices table X (IsLiveJournal devices table image) image
   says_the_same X has = tells_the_same devices table image other trust (λ last is. record {
     other_last = last;
     is_last = entry_there last is;
@@ -207,9 +218,12 @@ module _ (devices : ℕ) (table : Table) (image other : Slots) (same : SayTheSam
   -- and its journals are in step
   pub steps_the_same : AreJournalsInStep devices table other → AreJournalsInStep devices table image
   steps_the_same steps first second a b live live' last last' =
-      let one = same_sealed table.id table.geometry (other first) (image first) (back_seals (image first) (other first) (seals first (there first live))) a last in
-      let two = same_sealed table.id table.geometry (other second) (image second) (back_seals (image second) (other second) (seals second (there second live'))) b last' in
-      step_same table.geometry.members (image first) (image second) (other first) (other second) a b (bodies first (there first live) a one) (bodies second (there second live') b two)
+      let one = same_sealed table.id table.geometry (other first) (image first) (back_seals (image first) (other first) (seals first (there first live))) a
+      last in
+      let two = same_sealed table.id table.geometry (other second) (image second) (back_seals (image second) (other second) (seals second (there second live')))
+      b last' in
+      step_same table.geometry.members (image first) (image second) (other first) (other second) a b (bodies first (there first live) a one)
+      (bodies second (there second live') b two)
       (steps first second a b (there first live) (there second live') one two)
     where
       bodies : (journal : ℕ) → IsLiveJournal devices table other journal → (last : Option Seal) → IsLastSealed table.id table.geometry (other journal) last

@@ -54,7 +54,8 @@ same_journals devices table image other same = record {
 }
 
 -- a slot that is live in neither image may differ
-same_but_one : (devices : ℕ) (table : Table) (image : Slots) (slot : ℕ) (content : Content) → ¬ IsLive devices table slot (image slot) → ¬ IsLive devices table slot content
+same_but_one : (devices : ℕ) (table : Table) (image : Slots) (slot : ℕ) (content : Content) → ¬ IsLive devices table slot (image slot)
+    → ¬ IsLive devices table slot content
     → HaveSameLive devices table image (with_slot image slot content)
 same_but_one devices table image slot content out out' = record {
   there = λ d live. sym (put_elsewhere image slot content d (λ is. out (subst (λ (k : ℕ). IsLive devices table k (image k)) is live)));
@@ -73,11 +74,13 @@ rows_alike spellings devices table image other same first second one two =
 
     last : one.last ≡ two.last
     last = last_is_one spellings table.id table.geometry (IsLiveJournal devices table other) other one.last two.last
-        (entry_stays table.id table.geometry (IsLiveJournal devices table image) (IsLiveJournal devices table other) image other journals one.last one.is_last) two.is_last
+        (entry_stays table.id table.geometry (IsLiveJournal devices table image) (IsLiveJournal devices table other) image other journals one.last one.is_last)
+        two.is_last
 
     entries : (row member : ℕ) → first.entry row member ≡ second.entry row member
     entries row member = one.in_entry row member
-        ∙ sectors_stay table.geometry.members table.id table.geometry (IsLiveJournal devices table image) image other (λ slot on. journals.same slot on) one.last one.is_last row member
+        ∙ sectors_stay table.geometry.members table.id table.geometry (IsLiveJournal devices table image) image other (λ slot on. journals.same slot on)
+        one.last one.is_last row member
         ∙ ap (λ (l : Option Entry). sector_of_last table.geometry.members other l row member) last
         ∙ sym (two.in_entry row member)
 
@@ -85,7 +88,8 @@ rows_alike spellings devices table image other same first second one two =
     in_set member within = omega (arith, two.width, within)
 
     trusts : (row member : ℕ) → member < table.geometry.members → first.trusted row member ≡ second.trusted row member
-    trusts row member within = same_test (first.trusted row member) (second.trusted row member) (IsTrusted devices table image row member) (IsTrusted devices table other row member)
+    trusts row member within = same_test (first.trusted row member) (second.trusted row member) (IsTrusted devices table image row member)
+        (IsTrusted devices table other row member)
         (one.trust row member within) (two.trust row member within)
         (trusted_there devices table image other same row member) (trusted_there devices table other image (turned devices table image other same) row member)
 
@@ -103,13 +107,15 @@ rows_alike spellings devices table image other same first second one two =
     }
 
 -- without what is older than the table, the table is still the chosen one
-chosen_without : Spellings → (devices : ℕ) (table : Table) (image : Slots) (slot : ℕ) → IsChosen table.id devices image table → IsStale devices table slot (image slot)
+chosen_without : Spellings → (devices : ℕ) (table : Table) (image : Slots) (slot : ℕ) → IsChosen table.id devices image table
+    → IsStale devices table slot (image slot)
     → IsChosen table.id devices (with_slot image slot None) table
 chosen_without spellings devices table image slot chosen stale = record {
   slot = chosen.slot;
   place = chosen.place;
   best = chosen.best;
-  counted = subst (λ (c : Content). Counts table.id devices chosen.slot c chosen.place chosen.best) (sym (put_elsewhere image slot None chosen.slot apart)) chosen.counted;
+  counted = subst (λ (c : Content). Counts table.id devices chosen.slot c chosen.place chosen.best) (sym (put_elsewhere image slot None chosen.slot apart))
+      chosen.counted;
   carried = chosen.carried;
   greatest = λ other at superblock counts. chosen.greatest other at superblock (before other at superblock counts);
   first = λ other at superblock counts equal. chosen.first other at superblock (before other at superblock counts) equal;
@@ -138,7 +144,8 @@ stale_counts_as_absent spellings devices table image slot chosen stale =
     same_but_one devices table image slot None (stale_is_out devices table slot (image slot) stale) (none_is_out spellings devices table slot) in
     record {
       table_stays = chosen_without spellings devices table image slot chosen stale;
-      entry_stays = entry_stays table.id table.geometry (IsLiveJournal devices table image) (IsLiveJournal devices table (with_slot image slot None)) image (with_slot image slot None)
+      entry_stays = entry_stays table.id table.geometry (IsLiveJournal devices table image) (IsLiveJournal devices table (with_slot image slot None)) image
+          (with_slot image slot None)
           (same_journals devices table image (with_slot image slot None) same);
       rows_stay = rows_alike spellings devices table image (with_slot image slot None) same;
     }

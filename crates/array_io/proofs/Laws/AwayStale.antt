@@ -41,4 +41,5 @@ stale_by_table spellings base devices table h lost X holds is complete live =
 -- the law
 pub away_is_stale : Spellings → AwayIsStale
 away_is_stale spellings base devices table number h lost V X later settled complete holds =
-    stale_by_table spellings base devices table h lost X holds (settled_table base devices table number h None V (Some lost) X later.same_id settled holds) complete settled.there
+    stale_by_table spellings base devices table h lost X holds (settled_table base devices table number h None V (Some lost) X later.same_id settled holds)
+    complete settled.there

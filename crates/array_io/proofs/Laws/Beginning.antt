@@ -115,7 +115,8 @@ one_lost_at_rest spellings devices table number h None after V settled (inr fail
 one_lost_at_rest spellings devices table number h (Some lost) after V settled (of_set, same, up) = same
 
 -- the table of a settled array is not older than one by which its cases held before
-pub settled_table : (base : Table) (devices : ℕ) (table : Table) (number : ℕ) (h : History) (lost : Option Lost) (V : List Bytes) (after : Option Lost) (X : List (List Bytes))
+pub settled_table : (base : Table) (devices : ℕ) (table : Table) (number : ℕ) (h : History) (lost : Option Lost) (V : List Bytes) (after : Option Lost)
+    (X : List (List Bytes))
     → table.id ≡ base.id → IsSettled devices table number h lost V → (holds : Holds base devices record { image = readable h; lost = after } X)
     → table ≡ holds.table
 settled_table base devices table number h lost V after X same settled holds =
@@ -123,7 +124,8 @@ settled_table base devices table number h lost V after X same settled holds =
     (subst (λ (i : List ℕ). IsChosen i devices (readable h) table) (same ∙ sym holds.not_older.same_id)
     (settled.chosen.whole (readable h) (readable_left h)))
 
-pub not_older_at_rest : (base : Table) (devices : ℕ) (before after : Option Lost) (X : List (List Bytes)) (table : Table) (number : ℕ) (h : History) (lost : Option Lost) (V : List Bytes)
+pub not_older_at_rest : (base : Table) (devices : ℕ) (before after : Option Lost) (X : List (List Bytes)) (table : Table) (number : ℕ) (h : History)
+    (lost : Option Lost) (V : List Bytes)
     → table.id ≡ base.id → HoldsNow base devices before X h → IsLostAt (slots_of base) before h after → IsSettled devices table number h lost V
     → IsNotOlder base table
 not_older_at_rest base devices before after X table number h lost V same now is settled =

@@ -97,7 +97,8 @@ found_none : (devices : ℕ) (table : Table) (X : List (List Bytes)) (image : Sl
     → Slot devices table X image known slot → Found devices table X image slot None known
 found_none devices table X image known slot has = record { whole = has.none; device = has.device; one_counts = has.one_counts }
 
-found_back : (devices : ℕ) (table : Table) (X : List (List Bytes)) (image : Slots) (slot : ℕ) (before : List (List Bytes)) (disk : List Bytes) (after : List (List Bytes))
+found_back : (devices : ℕ) (table : Table) (X : List (List Bytes)) (image : Slots) (slot : ℕ) (before : List (List Bytes)) (disk : List Bytes)
+    (after : List (List Bytes))
     → Slot devices table X image (before ++ disk ∷ after) slot → Found devices table X image slot (Some disk) (before ++ after)
 found_back devices table X image slot before disk after has = record {
   whole = has.device disk (Contains-append_right before (disk ∷ after) disk (at_front disk after));
@@ -118,7 +119,8 @@ found_stale devices table X image known slot content has stale = record {
   one_counts = λ there. stale_in_front devices table slot content known stale (has.one_counts there);
 }
 
-found_any : (devices : ℕ) (table : Table) (X : List (List Bytes)) (image : Slots) (known : List (List Bytes)) (slot : ℕ) (content : Content) (away : List (List Bytes))
+found_any : (devices : ℕ) (table : Table) (X : List (List Bytes)) (image : Slots) (known : List (List Bytes)) (slot : ℕ) (content : Content)
+    (away : List (List Bytes))
     → Slot devices table X image known slot → IsFound devices table slot known content away → Found devices table X image slot content away
 found_any devices table X image known slot content away has (inl (none, rest)) =
     subst (λ (c : Content). Found devices table X image slot c away) (sym none)
@@ -136,19 +138,23 @@ put_again : (devices : ℕ) (table : Table) (X : List (List Bytes)) (image : Slo
     → HoldsIn devices table X (with_slot image slot second) → HoldsIn devices table X (with_slot (with_slot image slot first) slot second)
 put_again devices table X image slot first second = subst (λ (i : Slots). HoldsIn devices table X i) (sym (put_twice image slot first second))
 
-weakened_again : (devices : ℕ) (table : Table) (X : List (List Bytes)) (image : Slots) (known : List (List Bytes)) (slot : ℕ) (content : Content) (away : List (List Bytes))
+weakened_again : (devices : ℕ) (table : Table) (X : List (List Bytes)) (image : Slots) (known : List (List Bytes)) (slot : ℕ) (content : Content)
+    (away : List (List Bytes))
     → Slot devices table X image known slot → Found devices table X image slot content away → (other : Content)
-    → MayStand devices table (Some record { slot = slot; away = away }) slot other → HoldsIn devices table X (with_slot (with_slot image slot content) slot other)
+    → MayStand devices table (Some record { slot = slot; away = away }) slot other
+    → HoldsIn devices table X (with_slot (with_slot image slot content) slot other)
 weakened_again devices table X image known slot content away has found other (inl none) =
     put_again devices table X image slot content other (subst (λ (c : Content). HoldsIn devices table X (with_slot image slot c)) (sym none) has.none)
 weakened_again devices table X image known slot content away has found other (inr (inl stale)) =
     put_again devices table X image slot content other (has.stale other stale)
 weakened_again devices table X image known slot content away has found other (inr (inr is)) =
-    put_again devices table X image slot content other (subst (λ (c : Content). HoldsIn devices table X (with_slot image slot c)) (sym is.holds) (found.device is.disk is.listed))
+    put_again devices table X image slot content other
+    (subst (λ (c : Content). HoldsIn devices table X (with_slot image slot c)) (sym is.holds) (found.device is.disk is.listed))
 
 -- the case with which the run begins holds
 begun : (base : Table) (devices : ℕ) (case : Case) (X : List (List Bytes)) (holds : Holds base devices case X) (slot : ℕ)
-    (content : Content) (away : List (List Bytes)) → slot < slots_of holds.table → MayBeOut case.lost slot → IsFound devices holds.table slot (devices_of case slot) content away
+    (content : Content) (away : List (List Bytes)) → slot < slots_of holds.table → MayBeOut case.lost slot
+    → IsFound devices holds.table slot (devices_of case slot) content away
     → Holds base devices record { image = with_slot case.image slot content; lost = Some record { slot = slot; away = away } } X
 begun base devices case X holds slot content away in_set may is =
     let has = slot_of base devices case X holds slot may in
@@ -158,10 +164,12 @@ begun base devices case X holds slot content away in_set may is =
       not_older = holds.not_older;
       lost_in_set = in_set;
       whole = found.whole;
-      weakened = λ other_slot other same stand. subst (λ (s : ℕ). HoldsIn devices holds.table X (with_slot (with_slot case.image slot content) s other)) (sym same)
+      weakened = λ other_slot other same stand. subst (λ (s : ℕ). HoldsIn devices holds.table X (with_slot (with_slot case.image slot content) s other))
+          (sym same)
           (weakened_again devices holds.table X case.image (devices_of case slot) slot content away has found other
           (subst (λ (s : ℕ). MayStand devices holds.table (Some record { slot = slot; away = away }) s other) same stand));
-      one_counts = λ there. subst (λ (c : Content). AllButOneStale devices holds.table slot (option_to_list c ++ away)) (sym (put_there case.image slot content)) (found.one_counts there);
+      one_counts = λ there. subst (λ (c : Content). AllButOneStale devices holds.table slot (option_to_list c ++ away))
+          (sym (put_there case.image slot content)) (found.one_counts there);
     }
 
 as_begun : (case : Case) (image : Slots) (lost : Option Lost) → case.image ≡ image → case.lost ≡ lost → case ≡ record { image = image; lost = lost }
@@ -175,10 +183,13 @@ begun_by base devices old new X holds starts =
     elim starts.begins [
       | inl same ↦ subst (λ (case : Case). Holds base devices case X) (sym same) beyond
       | inr begins ↦ subst (λ (case : Case). Holds base devices case X)
-          (sym (as_begun new (with_slot starts.image begins.slot begins.content) (Some record { slot = begins.slot; away = begins.away }) begins.image begins.lost))
+          (sym (as_begun new (with_slot starts.image begins.slot begins.content) (Some record { slot = begins.slot; away = begins.away }) begins.image
+          begins.lost))
           (begun base devices record { image = starts.image; lost = old.lost } X beyond begins.slot begins.content begins.away
-          (subst (λ (t : Table). begins.slot < slots_of t) (sym (table_beyond base devices old X holds starts.image starts.differs)) begins.of_set) begins.may_be_out
-          (subst (λ (t : Table). IsFound devices t begins.slot (devices_of record { image = starts.image; lost = old.lost } begins.slot) begins.content begins.away)
+          (subst (λ (t : Table). begins.slot < slots_of t) (sym (table_beyond base devices old X holds starts.image starts.differs)) begins.of_set)
+          begins.may_be_out
+          (subst (λ (t : Table). IsFound devices t begins.slot (devices_of record { image = starts.image; lost = old.lost } begins.slot) begins.content
+          begins.away)
           (sym (table_beyond base devices old X holds starts.image starts.differs)) begins.found))
     ]
 

@@ -1,5 +1,6 @@
 -- A set that was just made holds for the list of zeros.
-use Rattle.std.proofs.Common.{◌≡◌, ◌≢◌, ◌⊎◌, inl, inr, ℕ, zero, suc, ◌+◌, ◌%◌, ◌<◌, ◌≤◌, false, List, [], ◌∷◌, ◌++◌, length, map, refl, subst, sym, ap, ◌∙◌, arith}
+use Rattle.std.proofs.Common.{◌≡◌, ◌≢◌, ◌⊎◌, inl, inr, ℕ, zero, suc, ◌+◌, ◌%◌, ◌<◌, ◌≤◌, false, List, [], ◌∷◌, ◌++◌, length, map, refl, subst, sym, ap, ◌∙◌}
+use Rattle.std.proofs.Common.{arith}
 use Rattle.std.proofs.lemmas.Bool.{cases_eq, cases_lt}
 use Rattle.std.proofs.lemmas.List.Elements.{Contains-push, Contains-push_cases}
 use Rattle.std.specs.Prelude.{Option, Some, None, Contains, option_to_list}
@@ -81,7 +82,8 @@ as_new a b same = subst (λ (t : Table). t.generation ≤ b.generation) (sym sam
 -- the table is chosen by the superblock of a slot before which none counts
 chosen_at : (devices : ℕ) (table : Table) (image : Slots) (slot : ℕ) (superblock : Superblock) → superblock.table ≡ table
     → Counts table.id devices slot (image slot) 1 superblock
-    → ((other at : ℕ) (s : Superblock) → Counts table.id devices other (image other) at s → (s.table ≡ table) × (slot ≤ other)) → IsChosen table.id devices image table
+    → ((other at : ℕ) (s : Superblock) → Counts table.id devices other (image other) at s → (s.table ≡ table) × (slot ≤ other))
+    → IsChosen table.id devices image table
 chosen_at devices table image slot superblock carries counts others = record {
   slot = slot;
   place = 1;
@@ -180,7 +182,8 @@ fresh_live spellings devices table image fresh slot of_set =
         place = 1;
         newest = stands.superblock;
         counted = has_own devices table image fresh slot of_set;
-        greatest = λ at s counts. as_new s.table stands.superblock.table ((counted_is_own spellings devices table image fresh slot at s counts).is_table ∙ sym stands.carries);
+        greatest = λ at s counts. as_new s.table stands.superblock.table ((counted_is_own spellings devices table image fresh slot at s counts).is_table
+            ∙ sym stands.carries);
         own = ap (λ (t : Table). incarnation_at t.incarnations slot) stands.carries;
       };
     }
@@ -255,7 +258,8 @@ no_last_seal spellings devices table image fresh journal (Some seal) live is =
 
 pub none_in_step : (members : ℕ) (first second : Content) (a b : Option Seal) → a ≡ None → b ≡ None → AreInStep members first second a b
 none_in_step members first second a b no_a no_b =
-    subst (λ (s : Option Seal). AreInStep members first second s b) (sym no_a) (subst (λ (s : Option Seal). AreInStep members first second None s) (sym no_b) tt)
+    subst (λ (s : Option Seal). AreInStep members first second s b) (sym no_a)
+    (subst (λ (s : Option Seal). AreInStep members first second None s) (sym no_b) tt)
 
 has_rows : Spellings → (devices : ℕ) (table : Table) (image : Slots) → IsFresh devices table image → (among : ℕ → Type 0)
     → ((journal : ℕ) → among journal → IsLiveJournal devices table image journal) → HasRows devices table (zeros_of table.geometry ∷ []) among image
@@ -312,4 +316,5 @@ fresh_core spellings devices table image fresh = record {
 
 pub fresh_set_holds : Spellings → HoldsFromCore → FreshSetHolds
 fresh_set_holds spellings from_core devices table image fresh =
-    from_core table devices table record { image = image; lost = None } (zeros_of table.geometry ∷ []) (not_older_same table) (fresh_core spellings devices table image fresh)
+    from_core table devices table record { image = image; lost = None } (zeros_of table.geometry ∷ []) (not_older_same table)
+    (fresh_core spellings devices table image fresh)

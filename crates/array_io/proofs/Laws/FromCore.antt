@@ -60,7 +60,8 @@ stale_known devices table slot content stale = record {
 }
 
 -- it is settled whether a slot that may be out is live
-slot_decided : Spellings → (devices : ℕ) (table : Table) (case : Case) (X : List (List Bytes)) → Core devices table case X → (slot : ℕ) → MayBeOut case.lost slot
+slot_decided : Spellings → (devices : ℕ) (table : Table) (case : Case) (X : List (List Bytes)) → Core devices table case X → (slot : ℕ)
+    → MayBeOut case.lost slot
     → IsLive devices table slot (case.image slot) ⊎ ¬ IsLive devices table slot (case.image slot)
 slot_decided spellings devices table case X core slot may = go (case.image slot) refl
   where
@@ -81,18 +82,21 @@ may_lose spellings devices table case X core slot may = record {
 }
 
 -- a weakened image, by what is known of the content, and by its rows
-holds_with : Spellings → (devices : ℕ) (table : Table) (case : Case) (X : List (List Bytes)) → Core devices table case X → (slot : ℕ) (content : Content) → MayBeOut case.lost slot
+holds_with : Spellings → (devices : ℕ) (table : Table) (case : Case) (X : List (List Bytes)) → Core devices table case X → (slot : ℕ) (content : Content)
+    → MayBeOut case.lost slot
     → IsKnown devices table slot content
     → HasRows devices table X (IsLiveJournal devices table (with_slot case.image slot content)) (with_slot case.image slot content)
     → AreJournalsInStep devices table (with_slot case.image slot content) → HoldsIn devices table X (with_slot case.image slot content)
-holds_with spellings devices table case X core slot content may content_known rows in_step = holds_by_parts devices table X (with_slot case.image slot content) (record {
-  chosen = chosen_with spellings devices table case.image slot content (core.chosen_without slot may) content_known;
-  known = known;
-  rows = rows;
-  in_step = in_step;
-  out = slot;
-  in_full = λ other in_set apart. subst (IsInFull devices table other) (sym (put_elsewhere case.image slot content other apart)) (others_in_full devices table case X core slot may other in_set apart);
-})
+holds_with spellings devices table case X core slot content may content_known rows in_step =
+    holds_by_parts devices table X (with_slot case.image slot content) (record {
+      chosen = chosen_with spellings devices table case.image slot content (core.chosen_without slot may) content_known;
+      known = known;
+      rows = rows;
+      in_step = in_step;
+      out = slot;
+      in_full = λ other in_set apart. subst (IsInFull devices table other) (sym (put_elsewhere case.image slot content other apart))
+          (others_in_full devices table case X core slot may other in_set apart);
+    })
   where
     known : (other : ℕ) → IsKnown devices table other (with_slot case.image slot content other)
     known other = elim (cases_eq other slot) [
@@ -103,7 +107,8 @@ holds_with spellings devices table case X core slot content may content_known ro
 
 -- with something that is not live
 holds_lost : Spellings → (devices : ℕ) (table : Table) (case : Case) (X : List (List Bytes)) → Core devices table case X → (slot : ℕ) (content : Content)
-    → MayBeOut case.lost slot → IsKnown devices table slot content → ¬ IsLive devices table slot content → HoldsIn devices table X (with_slot case.image slot content)
+    → MayBeOut case.lost slot → IsKnown devices table slot content → ¬ IsLive devices table slot content
+    → HoldsIn devices table X (with_slot case.image slot content)
 holds_lost spellings devices table case X core slot content may known out =
     holds_with spellings devices table case X core slot content may known
     (rows_with_lost devices table X case.image slot content (may_lose spellings devices table case X core slot may) out)
@@ -114,7 +119,8 @@ holds_away : Spellings → (devices : ℕ) (table : Table) (case : Case) (X : Li
     → MayBeOut case.lost slot → Contains (away_of case.lost) disk → HoldsIn devices table X (with_slot case.image slot (Some disk))
 holds_away spellings devices table case X core slot disk may listed =
     elim (core.decided slot disk may (Contains-append_right (option_to_list (case.image slot)) (away_of case.lost) disk listed)) [
-      | inl live ↦ holds_with spellings devices table case X core slot (Some disk) may (core.known_away slot disk may listed) (core.rows_away slot disk may listed live) (core.in_step_away slot disk may listed live)
+      | inl live ↦ holds_with spellings devices table case X core slot (Some disk) may (core.known_away slot disk may listed)
+          (core.rows_away slot disk may listed live) (core.in_step_away slot disk may listed live)
       | inr out ↦ holds_lost spellings devices table case X core slot (Some disk) may (core.known_away slot disk may listed) out
     ]
 
@@ -125,7 +131,8 @@ holds_weakened spellings devices table case X core slot content may stands = eli
   | inl none ↦ subst (λ (c : Content). HoldsIn devices table X (with_slot case.image slot c)) (sym none)
       (holds_lost spellings devices table case X core slot None may (none_known spellings devices table slot) (none_is_out spellings devices table slot))
   | inr rest ↦ elim rest [
-    | inl stale ↦ holds_lost spellings devices table case X core slot content may (stale_known devices table slot content stale) (stale_is_out devices table slot content stale)
+    | inl stale ↦ holds_lost spellings devices table case X core slot content may (stale_known devices table slot content stale)
+        (stale_is_out devices table slot content stale)
     | inr away ↦ subst (λ (c : Content). HoldsIn devices table X (with_slot case.image slot c)) (sym away.holds)
         (holds_away spellings devices table case X core slot away.disk may away.listed)
   ]

@@ -40,7 +40,8 @@ pub record IsNothing (devices : ℕ) (table : Table) (slot : ℕ) (content : Con
   pub known : IsKnown devices table slot content
   pub out : ¬ IsLive devices table slot content
 
-pub stands_for_nothing : Spellings → (devices : ℕ) (table : Table) (slot : ℕ) (content : Content) → MayStand devices table None slot content → IsNothing devices table slot content
+pub stands_for_nothing : Spellings → (devices : ℕ) (table : Table) (slot : ℕ) (content : Content) → MayStand devices table None slot content
+    → IsNothing devices table slot content
 stands_for_nothing spellings devices table slot content (inl none) = subst (λ (c : Content). IsNothing devices table slot c) (sym none)
     record { known = none_known spellings devices table slot; out = none_is_out spellings devices table slot }
 stands_for_nothing spellings devices table slot content (inr (inl stale)) =
@@ -49,10 +50,12 @@ stands_for_nothing spellings devices table slot content (inr (inr away)) = absur
 
 -- each image that a crash may leave when the run begins is the one that it began with
 each_began : (devices : ℕ) (table : Table) (image : Slots) (P : Slots → Type 0) → P image
-    → ((slot : ℕ) (content : Content) → MayStand devices table None slot content → P (with_slot image slot content)) → InEachImage devices table (Began image) None P
+    → ((slot : ℕ) (content : Content) → MayStand devices table None slot content → P (with_slot image slot content))
+    → InEachImage devices table (Began image) None P
 each_began devices table image P whole weakened = record {
   whole = λ left may. subst P (sym (began_left image left may)) whole;
-  weakened = λ left slot content may out stands. subst (λ (i : Slots). P (with_slot i slot content)) (sym (began_left image left may)) (weakened slot content stands);
+  weakened = λ left slot content may out stands. subst (λ (i : Slots). P (with_slot i slot content)) (sym (began_left image left may))
+      (weakened slot content stands);
 }
 
 pub no_number : (last : Option Seal) → last ≡ None → number_of last ≡ 0
@@ -93,7 +96,8 @@ settled_begins spellings fresh_set_holds devices table image fresh = record {
       (stands_for_nothing spellings devices table slot content stands).known);
   numbered = each_began devices table image (HaveNumber devices table 0)
       (λ journal last live is. no_number last (no_last_seal spellings devices table image fresh journal last live is))
-      (λ slot content stands. number_with spellings devices table image fresh slot content (stands_for_nothing spellings devices table slot content stands).out);
+      (λ slot content stands. number_with spellings devices table image fresh slot content
+      (stands_for_nothing spellings devices table slot content stands).out);
   none_back = tt;
   lost_slot = none_lost devices table image fresh;
 }

@@ -73,10 +73,12 @@ module _ (spellings : Spellings) (honest : Type 0) (devices : ℕ) (base old_tab
 
   -- the slot is the lost one
   its : (after : Option Lost) → IsLostAt (slots_of base) lost mid after → IsLostThen lost mid after slot
-  its after lost_at = out_is_lost spellings base old_table devices lost X mid after (held after lost_at (readable mid) (readable_left mid)) lost_at slot failure.counted.of_set
+  its after lost_at = out_is_lost spellings base old_table devices lost X mid after (held after lost_at (readable mid) (readable_left mid)) lost_at slot
+      failure.counted.of_set
       (λ live. none_is_out spellings devices old_table slot (subst (IsLive devices old_table slot) (readable_down mid slot failure.down) live))
 
-  marks_from : (after : Option Lost) → (lost_at : IsLostAt (slots_of base) lost mid after) → MarksFrom base old_table new_table devices slot lost X (its after lost_at).one mid
+  marks_from : (after : Option Lost) → (lost_at : IsLostAt (slots_of base) lost mid after)
+      → MarksFrom base old_table new_table devices slot lost X (its after lost_at).one mid
   marks_from after lost_at =
       let chosen = (failure.chosen after lost_at).whole (readable mid) (readable_left mid) in
       record {
@@ -93,7 +95,8 @@ module _ (spellings : Spellings) (honest : Type 0) (devices : ℕ) (base old_tab
   moments : HoldsThroughout base devices lost X mid new
   moments = throughout_if_lost base devices lost X mid new
       (stays_throughout honest old_table new_table slot old_panel new_panel mid new answer is failure.counted.of_set is_honest)
-      (λ after lost_at. marks_throughout spellings honest devices base old_table new_table slot lost X (its after lost_at).one old_panel new_panel mid new is.result is.publishes
+      (λ after lost_at. marks_throughout spellings honest devices base old_table new_table slot lost X (its after lost_at).one old_panel new_panel mid new
+      is.result is.publishes
       (marks_from after lost_at) is_honest)
 
   last : IsInPublish new_table None is.publishes.sectors mid new
@@ -124,7 +127,8 @@ module _ (spellings : Spellings) (honest : Type 0) (devices : ℕ) (base old_tab
       ]
     ]
       where
-        safe_there : {value : Bytes} → IsNewThere new_table None is.publishes.sectors device at value → (held : Bytes) → MayHold new device at held → held ≡ is.publishes.sectors device
+        safe_there : {value : Bytes} → IsNewThere new_table None is.publishes.sectors device at value → (held : Bytes) → MayHold new device at held
+            → held ≡ is.publishes.sectors device
         safe_there is_new held may =
             is.publishes.safe is_honest published device is_new.gets held (subst (λ (a : ℕ). MayHold new device a held) is_new.in_place may)
 
@@ -135,7 +139,8 @@ module _ (spellings : Spellings) (honest : Type 0) (devices : ℕ) (base old_tab
     same_down = made_down (made honest old_table new_table slot old_panel new_panel mid new answer is failure.counted.of_set is_honest ok)
 
     -- another slot has what it had, with the new superblock
-    replaced : (other : ℕ) → other < slots_of old_table → other ≢ slot → IsReplaced new_table None is.publishes.sectors other (readable mid other) (readable new other)
+    replaced : (other : ℕ) → other < slots_of old_table → other ≢ slot
+        → IsReplaced new_table None is.publishes.sectors other (readable mid other) (readable new other)
     replaced other of_set apart =
         let gets = gets_others honest old_table new_table slot old_panel new_panel mid new answer is failure.counted.of_set is_honest other of_set apart in
         let up = up_then honest old_table new_table slot old_panel new_panel mid new answer is failure.counted.of_set is_honest ok other gets in
@@ -145,8 +150,10 @@ module _ (spellings : Spellings) (honest : Type 0) (devices : ℕ) (base old_tab
           gets = gets;
           stands = ap (λ (c : Content). sector_of (disk_of c) (place_of new_table)) now
               ∙ is.publishes.safe is_honest published other gets (sector_of (seen new other) (place_of new_table)) (up_seen new other (place_of new_table) up);
-          others = λ at elsewhere. ap (λ (c : Content). sector_of (disk_of c) at) now ∙ seen_apart other at up elsewhere ∙ sym (ap (λ (c : Content). sector_of (disk_of c) at) was);
-          long = ap (λ (c : Content). length (disk_of c)) now ∙ length-seen new other ∙ ap (λ (c : Content). length (disk_of c)) (last.start other) ∙ sym (length-seen mid other)
+          others = λ at elsewhere. ap (λ (c : Content). sector_of (disk_of c) at) now ∙ seen_apart other at up elsewhere
+              ∙ sym (ap (λ (c : Content). sector_of (disk_of c) at) was);
+          long = ap (λ (c : Content). length (disk_of c)) now ∙ length-seen new other ∙ ap (λ (c : Content). length (disk_of c)) (last.start other)
+              ∙ sym (length-seen mid other)
               ∙ sym (ap (λ (c : Content). length (disk_of c)) was);
         }
       where
@@ -162,16 +169,19 @@ module _ (spellings : Spellings) (honest : Type 0) (devices : ℕ) (base old_tab
       was = let before = was_lost (slots_of base) lost mid new single_failure.0 last.stays_down single_failure.1 in (before.before, before.was)
 
       steps : StepsSlot devices old_table new_table slot None is.publishes.sectors
-      steps = marks_slot devices old_table new_table slot is.publishes.sectors is.marked failure.counted.of_set is.others (marks_from was.0 was.1).has_slots is.publishes.spelled
+      steps = marks_slot devices old_table new_table slot is.publishes.sectors is.marked failure.counted.of_set is.others (marks_from was.0 was.1).has_slots
+          is.publishes.spelled
 
       chosen_now : IsChosen new_table.id devices (readable new) new_table
-      chosen_now = marks_chosen spellings honest devices base old_table new_table slot lost X (its was.0 was.1).one old_panel new_panel mid new is.result is.publishes
+      chosen_now = marks_chosen spellings honest devices base old_table new_table slot lost X (its was.0 was.1).one old_panel new_panel mid new is.result
+          is.publishes
           (marks_from was.0 was.1) is_honest published
 
       there : (other : ℕ) → other < slots_of new_table → state_at new_table.states other ≢ Missing → IsLive devices new_table other (readable new other)
       there other of_set counted =
           let of_old = subst (λ (g : Geometry). other < g.members + 2) is.marked.same_geometry of_set in
-          let apart : other ≢ slot = λ same. counted (ap (λ (k : ℕ). state_at new_table.states k) same ∙ missing_then old_table new_table slot is.marked failure.counted.of_set) in
+          let apart : other ≢ slot = λ same. counted (ap (λ (k : ℕ). state_at new_table.states k) same
+          ∙ missing_then old_table new_table slot is.marked failure.counted.of_set) in
           live_then spellings devices old_table new_table slot None is.publishes.sectors steps other (readable mid other) (readable new other) of_old apart
           (inr (replaced other of_old apart)) (λ place superblock counts. chosen_now.greatest other place superblock counts)
           (failure.others_there other (record { of_set = of_old; there = λ missing. none_differ (sym missing ∙ is.others other of_old apart) }) apart)
@@ -184,7 +194,8 @@ module _ (spellings : Spellings) (honest : Type 0) (devices : ℕ) (base old_tab
         holds = throughout_last new moments;
         chosen = λ after lost_at.
             let before = was_lost (slots_of base) lost mid new after last.stays_down lost_at in
-            marks_each spellings honest devices base old_table new_table slot lost X (its before.before before.was).one old_panel new_panel mid new is.result is.publishes
+            marks_each spellings honest devices base old_table new_table slot lost X (its before.before before.was).one old_panel new_panel mid new is.result
+            is.publishes
             (marks_from before.before before.was) is_honest published after lost_at;
       }
 
@@ -226,7 +237,8 @@ none_pending_failed slot old mid pending off down d at first second up may may' 
 ]
 
 -- The device failed in a step of writing that called no other.
-pub failed_in_step : Spellings → (devices : ℕ) (base table : Table) (lost : Option Lost) (X X' : List (List Bytes)) (puts : Contents) (slot : ℕ) (old mid : History)
+pub failed_in_step : Spellings → (devices : ℕ) (base table : Table) (lost : Option Lost) (X X' : List (List Bytes)) (puts : Contents) (slot : ℕ)
+    (old mid : History)
     → WritesFrom devices base table lost X old → KeepsRows devices table puts (readable old) X X' → Throughout (IsWriting table puts old) old mid
     → StaysOff (λ d. d ≡ slot) old mid → CountsOn table slot → is_down mid slot ≡ true
     → HasFailedOnce devices base table lost X' slot mid × HoldsThroughout base devices lost X' old mid
@@ -261,7 +273,8 @@ single_failure_stays slots None old new down (after, inr failure) = (
     lost = failure.lost;
   },
 )
-single_failure_stays slots (Some one) old new down (after, (of_set, same, up)) = (after, (of_set, same, λ other within apart. down other ∙ up other within apart))
+single_failure_stays slots (Some one) old new down (after, (of_set, same, up)) =
+    (after, (of_set, same, λ other within apart. down other ∙ up other within apart))
 
 -- Where all other slots are in sync, and none was lost before or the slot itself, the slot is the one that is lost.
 pub failed_is_single_failure : Spellings → (devices : ℕ) (base table : Table) (lost : Option Lost) (X : List (List Bytes)) (slot : ℕ) (mid : History)

@@ -1,5 +1,6 @@
 -- What `mark_missing` promises, by what it did.
-use Rattle.std.proofs.Common.{◌≡◌, ◌≢◌, inl, inr, ℕ, ◌+◌, ◌<◌, ◌≤◌, Bool, true, false, cond, nat_lt, List, [], ◌∷◌, Option, Some, None, Result, Ok, Err, refl, sym, ◌∙◌, ap, subst, subst₂, arith}
+use Rattle.std.proofs.Common.{◌≡◌, ◌≢◌, inl, inr, ℕ, ◌+◌, ◌<◌, ◌≤◌, Bool, true, false, cond, nat_lt, List, [], ◌∷◌, Option, Some, None, Result, Ok, Err, refl}
+use Rattle.std.proofs.Common.{sym, ◌∙◌, ap, subst, subst₂, arith}
 use Rattle.std.specs.Prelude.{IfErr, is_ok}
 use Rattle.sector_model.specs.declared.calls.TheConstants.{GREATEST_COUNT}
 use Rattle.sector_model.specs.declared.refusal.Refusal.{Refusal}
@@ -50,7 +51,8 @@ unchanged : (array : ArrayView) → GoesOn array array
 unchanged array = record { later = later_same array.panel; not_older = same_not_older array.table; number = omega arith; its_slots = λ its. its }
 
 -- the slot is missing already
-pub marks_again : (honest : Type 0) (slot : ℕ) (array : ArrayView) → slot < slots_of array.table → state_at array.table.states slot ≡ Missing → MarksMissing honest slot array array (Ok tt)
+pub marks_again : (honest : Type 0) (slot : ℕ) (array : ArrayView) → slot < slots_of array.table → state_at array.table.states slot ≡ Missing
+    → MarksMissing honest slot array array (Ok tt)
 marks_again honest slot array of_set missing = record {
   goes_on = unchanged array;
   number = refl;
@@ -64,7 +66,8 @@ marks_again honest slot array of_set missing = record {
 }
 
 -- it is refused, with nothing done
-pub refuses : (honest : Type 0) (slot : ℕ) (array : ArrayView) (why : Refusal) → state_at array.table.states slot ≢ Missing → (MayMark array slot → IsEndOf array array ⊥ why)
+pub refuses : (honest : Type 0) (slot : ℕ) (array : ArrayView) (why : Refusal) → state_at array.table.states slot ≢ Missing
+    → (MayMark array slot → IsEndOf array array ⊥ why)
     → MarksMissing honest slot array array (Err why)
 refuses honest slot array why counted end = record {
   goes_on = unchanged array;
@@ -79,7 +82,8 @@ refuses honest slot array why counted end = record {
 }
 
 -- where another slot is out, and the slot may be marked, its device is down
-pub two_are_out : (array : ArrayView) (slot other : ℕ) → slot < slots_of array.table → IsOut array.table other → other ≢ slot → MayMark array slot → IsEndOf array array ⊥ TwoLost
+pub two_are_out : (array : ArrayView) (slot other : ℕ) → slot < slots_of array.table → IsOut array.table other → other ≢ slot → MayMark array slot
+    → IsEndOf array array ⊥ TwoLost
 two_are_out array slot other of_set out apart (inl alone) = absurd (apart (alone other out))
 two_are_out array slot other of_set out apart (inr down) = record {
   first = other;
@@ -103,7 +107,8 @@ ok_if (Err (Down device)) is = absurd (cc)
 ok_if (Err StopWorn) is = absurd (cc)
 
 -- The call marked the slot of an array whose other slots are in sync, and published the table.
-pub record HasPublished (honest : Type 0) (slot number : ℕ) (old_panel new_panel : Panel) (old_table new_table : Table) (old new : History) (result : Result (Unit {0}) Stop) : Type 0 where
+pub record HasPublished (honest : Type 0) (slot number : ℕ) (old_panel new_panel : Panel) (old_table new_table : Table) (old new : History)
+    (result : Result (Unit {0}) Stop) : Type 0 where
   pub of_set : slot < slots_of old_table
   pub counted : state_at old_table.states slot ≢ Missing
   pub others : (other : ℕ) → other < slots_of old_table → other ≢ slot → state_at old_table.states other ≡ InSync
@@ -116,7 +121,8 @@ pub record HasPublished (honest : Type 0) (slot number : ℕ) (old_panel new_pan
 same_slots : (old_table new_table : Table) (slot : ℕ) → IsMarked old_table slot new_table → slots_of new_table ≡ slots_of old_table
 same_slots old_table new_table slot marked = ap (λ (g : Geometry). g.members + 2) marked.same_geometry
 
-apart_if : (old_table new_table : Table) (slot other : ℕ) → slot < slots_of old_table → IsMarked old_table slot new_table → state_at new_table.states other ≢ Missing → other ≢ slot
+apart_if : (old_table new_table : Table) (slot other : ℕ) → slot < slots_of old_table → IsMarked old_table slot new_table
+    → state_at new_table.states other ≢ Missing → other ≢ slot
 apart_if old_table new_table slot other of_set marked there is =
     there (ap (λ (k : ℕ). state_at new_table.states k) is ∙ missing_then old_table new_table slot marked of_set)
 
@@ -125,7 +131,8 @@ up_before true never = absurd (never refl)
 up_before false never = refl
 
 -- the set's slots stay slots of the bank, and those that are left are long enough
-pub others_stay : (old_panel new_panel : Panel) (old_table new_table : Table) (slot : ℕ) → slot < slots_of old_table → IsMarked old_table slot new_table → IsLater old_panel new_panel
+pub others_stay : (old_panel new_panel : Panel) (old_table new_table : Table) (slot : ℕ) → slot < slots_of old_table → IsMarked old_table slot new_table
+    → IsLater old_panel new_panel
     → HasOtherSlots slot old_table old_panel → HasItsSlots new_table new_panel
 others_stay old_panel new_panel old_table new_table slot of_set marked later its = record {
   of_bank = omega (arith, its.of_bank, later.devices, same_slots old_table new_table slot marked);
@@ -139,13 +146,15 @@ others_stay old_panel new_panel old_table new_table slot of_set marked later its
 }
 
 -- the same, where all were
-slots_stay : (old_panel new_panel : Panel) (old_table new_table : Table) (slot : ℕ) → slot < slots_of old_table → IsMarked old_table slot new_table → IsLater old_panel new_panel
+slots_stay : (old_panel new_panel : Panel) (old_table new_table : Table) (slot : ℕ) → slot < slots_of old_table → IsMarked old_table slot new_table
+    → IsLater old_panel new_panel
     → HasItsSlots old_table old_panel → HasItsSlots new_table new_panel
 slots_stay old_panel new_panel old_table new_table slot of_set marked later its =
     others_stay old_panel new_panel old_table new_table slot of_set marked later
     (record { of_bank = its.of_bank; fit = λ other of_set' apart there up. its.fit other of_set' there up })
 
-module _ (spellings : Spellings) (honest : Type 0) (slot number : ℕ) (old_panel new_panel : Panel) (old_table new_table : Table) (old new : History) (result : Result (Unit {0}) Stop)
+module _ (spellings : Spellings) (honest : Type 0) (slot number : ℕ) (old_panel new_panel : Panel) (old_table new_table : Table) (old new : History)
+    (result : Result (Unit {0}) Stop)
     (has : HasPublished honest slot number old_panel new_panel old_table new_table old new result) where
   abbrev Chosen : Option Lost → Type 0
   Chosen lost = InEachImage old_panel.devices old_table old lost (λ image. IsChosen old_table.id old_panel.devices image old_table)
@@ -157,12 +166,14 @@ module _ (spellings : Spellings) (honest : Type 0) (slot number : ℕ) (old_pane
   gives one own chosen = record { marked = has.marked; of_set = has.of_set; own = own; has_slots = has.its_slots.of_bank; chosen = chosen }
 
   -- by what was lost before
-  moments : honest → (lost : Option Lost) (X : List (List Bytes)) → MayBeOut lost slot → Chosen (lost_from lost slot) → HoldsNow old_table old_panel.devices (lost_from lost slot) X old
+  moments : honest → (lost : Option Lost) (X : List (List Bytes)) → MayBeOut lost slot → Chosen (lost_from lost slot)
+      → HoldsNow old_table old_panel.devices (lost_from lost slot) X old
       → HoldsThroughout old_table old_panel.devices (lost_from lost slot) X old new
   moments is_honest lost X may chosen holds =
       let (one, is, own) = lost_is lost slot may in
       subst (λ (l : Option Lost). HoldsThroughout old_table old_panel.devices l X old new) (sym is)
-      (published_throughout spellings honest old_panel.devices old_table new_table slot one old_panel new_panel old new result has.publishes (gives one own (subst Chosen is chosen))
+      (published_throughout spellings honest old_panel.devices old_table new_table slot one old_panel new_panel old new result has.publishes
+      (gives one own (subst Chosen is chosen))
       is_honest X (subst (λ (l : Option Lost). HoldsNow old_table old_panel.devices l X old) is holds))
 
   chosen_then : honest → result ≡ Ok tt → (lost : Option Lost) → MayBeOut lost slot → Chosen (lost_from lost slot)
@@ -170,7 +181,8 @@ module _ (spellings : Spellings) (honest : Type 0) (slot number : ℕ) (old_pane
   chosen_then is_honest ok lost may chosen =
       let (one, is, own) = lost_is lost slot may in
       subst (λ (l : Option Lost). InEachImage old_panel.devices new_table new l (λ image. IsChosen new_table.id old_panel.devices image new_table)) (sym is)
-      (published_chosen spellings honest old_panel.devices old_table new_table slot one old_panel new_panel old new result has.publishes (gives one own (subst Chosen is chosen))
+      (published_chosen spellings honest old_panel.devices old_table new_table slot one old_panel new_panel old new result has.publishes
+      (gives one own (subst Chosen is chosen))
       is_honest ok)
 
   gets_new : (other : ℕ) → other < slots_of old_table → other ≢ slot → GetsIt new_table None other
@@ -238,7 +250,8 @@ module _ (spellings : Spellings) (honest : Type 0) (slot number : ℕ) (old_pane
     marked_or_not = inr has.marked;
     untouched = λ is. absurd (has.counted is);
     moments = λ is_honest lost X may. moments is_honest lost X may.may may.chosen may.holds;
-    chosen = λ is_honest ok lost X may. subst (λ (n : ℕ). InEachImage n new_table new (lost_from lost slot) (λ image. IsChosen new_table.id n image new_table)) (sym has.publishes.later.devices)
+    chosen = λ is_honest ok lost X may. subst (λ (n : ℕ). InEachImage n new_table new (lost_from lost slot) (λ image. IsChosen new_table.id n image new_table))
+        (sym has.publishes.later.devices)
         (chosen_then is_honest (ok_if result ok) lost may.may may.chosen);
     rests = λ is_honest ok lost V may rests. rests_then is_honest (ok_if result ok) lost V may rests;
     cause = λ may refusal same. ends result refl refusal same;
@@ -253,7 +266,8 @@ least_two geometry slot = by_case (nat_lt slot geometry.members)
     by_case false = omega arith
 
 -- the marked table may be published
-pub can_publish : (panel : Panel) (old_table new_table : Table) (slot : ℕ) → slot < slots_of old_table → IsMarked old_table slot new_table → HasOtherSlots slot old_table panel
+pub can_publish : (panel : Panel) (old_table new_table : Table) (slot : ℕ) → slot < slots_of old_table → IsMarked old_table slot new_table
+    → HasOtherSlots slot old_table panel
     → CanPublish panel new_table None
 can_publish panel old_table new_table slot of_set marked its =
     let after = others_stay panel panel old_table new_table slot of_set marked (later_same panel) its in
@@ -269,7 +283,8 @@ pub but_one : (slot : ℕ) (table : Table) (panel : Panel) → HasItsSlots table
 but_one slot table panel its = record { of_bank = its.of_bank; fit = λ other of_set apart there up. its.fit other of_set there up }
 
 -- the set's slots are slots of the bank whatever was done
-pub its_slots_stay : (honest : Type 0) (slot : ℕ) (old_panel new_panel : Panel) (old_table new_table : Table) (old new : History) (answer : Answer) → slot < slots_of old_table
+pub its_slots_stay : (honest : Type 0) (slot : ℕ) (old_panel new_panel : Panel) (old_table new_table : Table) (old new : History) (answer : Answer)
+    → slot < slots_of old_table
     → HasItsSlots old_table old_panel → MarksOn honest slot old_panel new_panel old_table new_table old new answer → HasItsSlots new_table new_panel
 its_slots_stay honest slot old_panel new_panel old_table new_table old new answer of_set its (inl left) =
     subst₂ (λ (t : Table) (p : Panel). HasItsSlots t p) (sym left.same_table) (sym left.same_panel) its
@@ -277,8 +292,10 @@ its_slots_stay honest slot old_panel new_panel old_table new_table old new answe
     others_stay old_panel new_panel old_table new_table slot of_set is.marked is.publishes.later (but_one slot old_table old_panel its)
 
 -- what `mark_slot` did of an array's bank and table is what `mark_missing` promises
-pub marks_missing : Spellings → (honest : Type 0) (slot number : ℕ) (old_panel new_panel : Panel) (old_table new_table : Table) (old new : History) (answer : Answer)
-    → slot < slots_of old_table → HasItsSlots old_table old_panel → (honest → IsTrueTo old_panel old) → MarksOn honest slot old_panel new_panel old_table new_table old new answer
+pub marks_missing : Spellings → (honest : Type 0) (slot number : ℕ) (old_panel new_panel : Panel) (old_table new_table : Table) (old new : History)
+    (answer : Answer)
+    → slot < slots_of old_table → HasItsSlots old_table old_panel → (honest → IsTrueTo old_panel old)
+    → MarksOn honest slot old_panel new_panel old_table new_table old new answer
     → MarksMissing honest slot (view_of old_panel old old_table number) (view_of new_panel new new_table number) answer
 marks_missing spellings honest slot number old_panel new_panel old_table new_table old new answer of_set its true_to (inl left) =
     subst (λ (p : Panel). MarksMissing honest slot array (view_of p new new_table number) answer) (sym left.same_panel)

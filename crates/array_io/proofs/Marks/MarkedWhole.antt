@@ -1,5 +1,6 @@
 -- While a slot is marked missing that is not there, every case keeps holding.
-use Rattle.std.proofs.Common.{◌≡◌, ◌⊎◌, inl, inr, ℕ, ◌+◌, ◌<◌, ◌≤◌, true, false, List, [], ◌∷◌, ◌++◌, Contains, Option, Some, None, Result, Ok, refl, sym, ◌∙◌, ap, subst, arith}
+use Rattle.std.proofs.Common.{◌≡◌, ◌⊎◌, inl, inr, ℕ, ◌+◌, ◌<◌, ◌≤◌, true, false, List, [], ◌∷◌, ◌++◌, Contains, Option, Some, None, Result, Ok, refl, sym, ◌∙◌}
+use Rattle.std.proofs.Common.{ap, subst, arith}
 use Rattle.std.specs.Prelude.{is_ok, map}
 use Rattle.std.proofs.lemmas.Bool.{cases_eq}
 use Rattle.std.proofs.lemmas.List.Elements.{Contains-append_cases, Contains-push_cases}
@@ -36,7 +37,8 @@ differ is = cc
 
 -- What holds at each moment, if one slot at most is lost at the first, holds at each moment: two that are lost stay so.
 pub throughout_if_lost : (base : Table) (devices : ℕ) (lost : Option Lost) (X : List (List Bytes)) (old new : History) → Throughout (StaysDown old) old new
-    → ((before : Option Lost) → IsLostAt (slots_of base) lost old before → HoldsThroughout base devices lost X old new) → HoldsThroughout base devices lost X old new
+    → ((before : Option Lost) → IsLostAt (slots_of base) lost old before → HoldsThroughout base devices lost X old new)
+    → HoldsThroughout base devices lost X old new
 throughout_if_lost base devices lost X old new stays then_holds =
     throughout_more (λ h both. both.1) new (with_cuts new stays (λ t from to after image lost_at may.
     let was = was_lost (slots_of base) lost old (cut_at t new) after (throughout_cut new stays t from) lost_at in
@@ -78,12 +80,15 @@ lost_then slots None (Some one) h slot (inr failure) is =
 lost_then slots (Some lost) (Some one) h slot (of_set, same, up) is = record { one = one; is = refl; own = sym is; by = inl (sym same) }
 
 -- a slot that is not live is the lost one
-the_lost : Spellings → (base table : Table) (devices : ℕ) (X : List (List Bytes)) (image : Slots) (after : Option Lost) → Held base devices table X image after → (slot : ℕ)
+the_lost : Spellings → (base table : Table) (devices : ℕ) (X : List (List Bytes)) (image : Slots) (after : Option Lost) → Held base devices table X image after
+    → (slot : ℕ)
     → slot < slots_of table → ¬ IsLive devices table slot (image slot) → IsTheLost after slot
 the_lost spellings base table devices X image None held slot of_set out =
-    absurd (lowest_apart slot (sym ((held.weakened (lowest_but slot) None tt (inl refl)).one_out slot (lowest_but slot) of_set (lowest_of_set slot table.geometry.members)
+    absurd (lowest_apart slot (sym ((held.weakened (lowest_but slot) None tt (inl refl)).one_out slot (lowest_but slot) of_set
+    (lowest_of_set slot table.geometry.members)
     (λ full. out (subst (IsLive devices table slot) (put_elsewhere image (lowest_but slot) None slot (λ is. lowest_apart slot (sym is))) full.live))
-    (λ full. none_is_out spellings devices table (lowest_but slot) (subst (IsLive devices table (lowest_but slot)) (put_there image (lowest_but slot) None) full.live)))))
+    (λ full. none_is_out spellings devices table (lowest_but slot)
+    (subst (IsLive devices table (lowest_but slot)) (put_there image (lowest_but slot) None) full.live)))))
 the_lost spellings base table devices X image (Some one) held slot of_set out = elim (cases_eq slot one.slot) [
   | inl same ↦ same
   | inr apart ↦ (held.weakened one.slot None refl (inl refl)).one_out slot one.slot of_set held.lost_in_set
@@ -126,8 +131,10 @@ pub record MarksFrom (base table new_table : Table) (devices slot : ℕ) (lost :
   pub by : IsLostBy lost h slot one
   pub held : (image : Slots) → MayLeave h image → Held base devices table X image (Some one)
 
-module _ (spellings : Spellings) (honest : Type 0) (devices : ℕ) (base table new_table : Table) (slot : ℕ) (lost : Option Lost) (X : List (List Bytes)) (one : Lost)
-    (old_panel new_panel : Panel) (old new : History) (result : Result (Unit {0}) Stop) (published : Publishes honest new_table None old_panel new_panel old new result)
+module _ (spellings : Spellings) (honest : Type 0) (devices : ℕ) (base table new_table : Table) (slot : ℕ) (lost : Option Lost) (X : List (List Bytes))
+    (one : Lost)
+    (old_panel new_panel : Panel) (old new : History) (result : Result (Unit {0}) Stop)
+    (published : Publishes honest new_table None old_panel new_panel old new result)
     (from : MarksFrom base table new_table devices slot lost X one old) where
   gives : GivesUp devices table new_table slot one old
   gives = record {
@@ -170,14 +177,17 @@ module _ (spellings : Spellings) (honest : Type 0) (devices : ℕ) (base table n
       }
 
   stays_down : honest → Throughout (StaysDown old) old new
-  stays_down is_honest = throughout_more (λ h is. is.stays_down) new (in_publish new_table None published.sectors (is_ok result) old new (published.made is_honest))
+  stays_down is_honest = throughout_more (λ h is. is.stays_down) new
+      (in_publish new_table None published.sectors (is_ok result) old new (published.made is_honest))
 
   -- at each moment all cases hold
   pub marks_throughout : honest → HoldsThroughout base devices lost X old new
   marks_throughout is_honest =
-      let moments = published_throughout spellings honest devices table new_table slot one old_panel new_panel old new result published gives is_honest X by_old in
+      let moments = published_throughout spellings honest devices table new_table slot one old_panel new_panel old new result published gives is_honest X
+      by_old in
       throughout_more (λ h both. both.1) new
-      (with_cuts new (stays_down is_honest) (λ t from' to. by_base (cut_at t new) (throughout_cut new (stays_down is_honest) t from') (throughout_cut new moments t from')))
+      (with_cuts new (stays_down is_honest) (λ t from' to. by_base (cut_at t new) (throughout_cut new (stays_down is_honest) t from')
+      (throughout_cut new moments t from')))
 
   -- and at Ok each image chooses the new table
   pub marks_each : honest → result ≡ Ok tt → (after : Option Lost) → IsLostAt (slots_of base) lost new after
@@ -191,7 +201,8 @@ module _ (spellings : Spellings) (honest : Type 0) (devices : ℕ) (base table n
   -- as do reads
   pub marks_chosen : honest → result ≡ Ok tt → IsChosen new_table.id devices (readable new) new_table
   marks_chosen is_honest ok =
-      (published_chosen spellings honest devices table new_table slot one old_panel new_panel old new result published gives is_honest ok).whole (readable new) (readable_left new)
+      (published_chosen spellings honest devices table new_table slot one old_panel new_panel old new result published gives is_honest ok).whole (readable new)
+      (readable_left new)
 
 -- what a crash may leave of a device is what reads of it give
 abbrev pub IsFlushed : History → ℕ → Type 0
@@ -207,18 +218,21 @@ is_first_or slot slots device has = elim (Contains-append_cases (slot ∷ []) sl
   | inr later ↦ inr later
 ]
 
-flush_each : (slots : List ℕ) (old new : History) (device : ℕ) → Performs (map (λ slot. Flush slot) slots) true old new → Contains slots device ⊎ IsFlushed old device → IsFlushed new device
+flush_each : (slots : List ℕ) (old new : History) (device : ℕ) → Performs (map (λ slot. Flush slot) slots) true old new → Contains slots device
+    ⊎ IsFlushed old device → IsFlushed new device
 flush_each [] old new device (all, is) (inl (k, below, at)) = absurd (omega (arith, below))
 flush_each [] old new device (all, is) (inr flushed) = subst (λ (h : History). IsFlushed h device) (sym is) flushed
 flush_each (slot ∷ slots) old new device (inl (none, is)) given = absurd (cc)
-flush_each (slot ∷ slots) old new device (inr (up, rest)) (inr flushed) = flush_each slots (after_call (Flush slot) true old) new device rest (inr (λ at value may. flushed at value may.0))
+flush_each (slot ∷ slots) old new device (inr (up, rest)) (inr flushed) =
+    flush_each slots (after_call (Flush slot) true old) new device rest (inr (λ at value may. flushed at value may.0))
 flush_each (slot ∷ slots) old new device (inr (up, rest)) (inl has) = elim (is_first_or slot slots device has) [
   | inl same ↦ flush_each slots (after_call (Flush slot) true old) new device rest (inr (λ at value may. may.1 (sym same)))
   | inr later ↦ flush_each slots (after_call (Flush slot) true old) new device rest (inl later)
 ]
 
 -- calls that were all answered, in two parts
-in_two : (first second : List Call) (old new : History) → Performs (first ++ second) true old new → (mid : History) × Performs first true old mid × Performs second true mid new
+in_two : (first second : List Call) (old new : History) → Performs (first ++ second) true old new → (mid : History) × Performs first true old mid
+    × Performs second true mid new
 in_two [] second old new performed = (old, (refl, refl), performed)
 in_two (call ∷ first) second old new (inl (none, is)) = absurd (cc)
 in_two (call ∷ first) second old new (inr (up, rest)) =

@@ -38,7 +38,8 @@ answered_down (Flush at) h device = refl
 pub all_answered_down : (calls : List Call) (old new : History) (device : ℕ) → Performs calls true old new → is_down new device ≡ is_down old device
 all_answered_down [] old new device (all, is) = ap (λ (h : History). is_down h device) is
 all_answered_down (call ∷ calls) old new device (inl (none, is)) = absurd (cc)
-all_answered_down (call ∷ calls) old new device (inr (up, rest)) = all_answered_down calls (after_call call true old) new device rest ∙ answered_down call old device
+all_answered_down (call ∷ calls) old new device (inr (up, rest)) = all_answered_down calls (after_call call true old) new device rest
+    ∙ answered_down call old device
 
 -- and each device that was called was up
 called_up : (calls : List Call) (old new : History) (device : ℕ) → Performs calls true old new → IsCalled device calls → is_down old device ≡ false
@@ -57,7 +58,8 @@ marking_up table sectors old new made device gets =
     ∙ called_up (publish_calls table None sectors) old new device made.performed (elim (Contains-append_cases (first_slots table None) [] device gets) [
       | inl first ↦
           called_left device (written_and_flushed table sectors (first_slots table None)) (written_and_flushed table sectors [])
-          (called_left device (map (λ slot. Write slot (place_of table) (sectors slot)) (first_slots table None)) (map (λ slot. Flush slot) (first_slots table None))
+          (called_left device (map (λ slot. Write slot (place_of table) (sectors slot)) (first_slots table None))
+          (map (λ slot. Flush slot) (first_slots table None))
           (called_write (place_of table) sectors (first_slots table None) device first))
       | inr (k, below, is) ↦ absurd (omega (arith, below))
     ])

@@ -58,7 +58,8 @@ may_publish devices old_table new_table slot lost old gives = record {
       });
 }
 
-module _ (spellings : Spellings) (honest : Type 0) (devices : ℕ) (old_table new_table : Table) (slot : ℕ) (lost : Lost) (old_panel new_panel : Panel) (old new : History)
+module _ (spellings : Spellings) (honest : Type 0) (devices : ℕ) (old_table new_table : Table) (slot : ℕ) (lost : Lost) (old_panel new_panel : Panel)
+    (old new : History)
     (result : Result (Unit {0}) Stop) (published : Publishes honest new_table None old_panel new_panel old new result)
     (gives : GivesUp devices old_table new_table slot lost old) where
   marks : MarksSlot devices old_table new_table slot lost published.sectors

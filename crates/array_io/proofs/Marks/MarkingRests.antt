@@ -1,5 +1,6 @@
 -- A settled array of which a slot is marked missing is settled again.
-use Rattle.std.proofs.Common.{◌≡◌, ◌≢◌, inl, inr, ℕ, ◌+◌, ◌%◌, ◌<◌, ◌≤◌, Bool, true, false, cond, nat_lt, List, [], ◌∷◌, length, Option, Some, None, refl, sym, ◌∙◌, ap, subst, subst₂, arith}
+use Rattle.std.proofs.Common.{◌≡◌, ◌≢◌, inl, inr, ℕ, ◌+◌, ◌%◌, ◌<◌, ◌≤◌, Bool, true, false, cond, nat_lt, List, [], ◌∷◌, length, Option, Some, None, refl, sym}
+use Rattle.std.proofs.Common.{◌∙◌, ap, subst, subst₂, arith}
 use Rattle.std.specs.Prelude.{IsSome}
 use Rattle.std.proofs.lemmas.Bool.{cases_eq, cases_lt, cond-true, lt-ltb}
 use Rattle.sector_model.specs.Bank.{IsTrueTo, Panel}
@@ -39,7 +40,8 @@ use Rattle.array_io.proofs.Images.Rows.{alike, sound_alike}
 use Rattle.array_io.proofs.Images.SameBeyond.{AgreeBeyond, sealed_beyond}
 
 -- A settled array of which one slot, with all others in sync, is marked missing: the new table is published, and safe on each other device.
-pub record HasMarked (devices : ℕ) (old_table new_table : Table) (slot number : ℕ) (lost : Option Lost) (V : List Bytes) (sectors : ℕ → Bytes) (old new : History) : Type 0 where
+pub record HasMarked (devices : ℕ) (old_table new_table : Table) (slot number : ℕ) (lost : Option Lost) (V : List Bytes) (sectors : ℕ → Bytes)
+    (old new : History) : Type 0 where
   pub rests : IsSettled devices old_table number old lost V
   pub marked : IsMarked old_table slot new_table
   pub of_set : slot < slots_of old_table
@@ -98,7 +100,8 @@ module _ (devices : ℕ) (old_table new_table : Table) (slot number : ℕ) (lost
   ]
 
   -- of a device that is up, each sector after the superblocks has what reads gave
-  one_beyond : (device at : ℕ) (value : Bytes) → is_down new device ≡ false → SUPERBLOCK_PLACES ≤ at → MayHold new device at value → value ≡ sector_of (seen old device) at
+  one_beyond : (device at : ℕ) (value : Bytes) → is_down new device ≡ false → SUPERBLOCK_PLACES ≤ at → MayHold new device at value
+      → value ≡ sector_of (seen old device) at
   one_beyond device at value up beyond may =
       has.rests.nothing_pending device at value (sector_of (seen old device) at) (was_up device up) (held_beyond device at value beyond may)
       (up_seen old device at (was_up device up))
@@ -106,14 +109,16 @@ module _ (devices : ℕ) (old_table new_table : Table) (slot number : ℕ) (lost
   seen_beyond : (device at : ℕ) → is_down new device ≡ false → SUPERBLOCK_PLACES ≤ at → sector_of (seen new device) at ≡ sector_of (seen old device) at
   seen_beyond device at up beyond = one_beyond device at (sector_of (seen new device) at) up beyond (up_seen new device at up)
 
-  readable_beyond : (device at : ℕ) → is_down new device ≡ false → SUPERBLOCK_PLACES ≤ at → sector_of (disk_of (readable new device)) at ≡ sector_of (disk_of (readable old device)) at
+  readable_beyond : (device at : ℕ) → is_down new device ≡ false → SUPERBLOCK_PLACES ≤ at
+      → sector_of (disk_of (readable new device)) at ≡ sector_of (disk_of (readable old device)) at
   readable_beyond device at up beyond =
       ap (λ (c : Content). sector_of (disk_of c) at) (readable_up new device up)
       ∙ seen_beyond device at up beyond
       ∙ sym (ap (λ (c : Content). sector_of (disk_of c) at) (readable_up old device (was_up device up)))
 
   -- a sector has one value where it gets the superblock, or had one
-  nothing_pending : (device at : ℕ) (first second : Bytes) → is_down new device ≡ false → MayHold new device at first → MayHold new device at second → first ≡ second
+  nothing_pending : (device at : ℕ) (first second : Bytes) → is_down new device ≡ false → MayHold new device at first → MayHold new device at second
+      → first ≡ second
   nothing_pending device at first second up may may' = elim (has.in_publish.holds device at first may) [
     | inr is_new ↦ both is_new
     | inl before ↦ elim (has.in_publish.holds device at second may') [
@@ -143,7 +148,8 @@ module _ (devices : ℕ) (old_table new_table : Table) (slot number : ℕ) (lost
       ap (λ (c : Content). sector_of (disk_of c) (place_of new_table)) (readable_up new other up)
       ∙ has.safe other (has.gets other of_set apart) (sector_of (seen new other) (place_of new_table)) (up_seen new other (place_of new_table) up)
 
-  live_now : (chosen : IsChosen new_table.id devices (readable new) new_table) → (other : ℕ) → other < slots_of old_table → other ≢ slot → IsLive devices new_table other (readable new other)
+  live_now : (chosen : IsChosen new_table.id devices (readable new) new_table) → (other : ℕ) → other < slots_of old_table → other ≢ slot
+      → IsLive devices new_table other (readable new other)
   live_now chosen other of_set apart =
       let was = has.rests.there other of_set (was_there other of_set apart) in
       let stands = has.spelled other (subst (λ (n : ℕ). other < n) (sym set_is) of_set) (is_counted other of_set apart) in
@@ -166,7 +172,8 @@ module _ (devices : ℕ) (old_table new_table : Table) (slot number : ℕ) (lost
               chosen.counted.has_slots,
             );
           };
-          greatest = λ at superblock counts. subst (λ (t : Table). superblock.table.generation ≤ t.generation) (sym stands.carries) (chosen.greatest other at superblock counts);
+          greatest = λ at superblock counts. subst (λ (t : Table). superblock.table.generation ≤ t.generation) (sym stands.carries)
+              (chosen.greatest other at superblock counts);
           own = ap (λ (t : Table). incarnation_at t.incarnations other) stands.carries;
         };
       }
@@ -204,20 +211,24 @@ module _ (devices : ℕ) (old_table new_table : Table) (slot number : ℕ) (lost
     out = λ row. ap (λ (s : State). trusts s row new_table.position) missing;
   }
 
-  own_whole : slot < old_table.geometry.members → (row : ℕ) → row < row_count old_table → length (sector_of (disk_of (readable old slot)) (FIRST_ROW + row)) ≡ 512
+  own_whole : slot < old_table.geometry.members → (row : ℕ) → row < row_count old_table
+      → length (sector_of (disk_of (readable old slot)) (FIRST_ROW + row)) ≡ 512
   own_whole within row below =
       let live = has.rests.there slot has.of_set has.counted in
       let least : least_sectors old_table.geometry slot ≡ FIRST_ROW + rows_of old_table.geometry.chunk old_table.geometry.stripes =
-      cond-true (nat_lt slot old_table.geometry.members) (FIRST_ROW + rows_of old_table.geometry.chunk old_table.geometry.stripes) JOURNAL_SECTORS (lt-ltb slot old_table.geometry.members within) in
+      cond-true (nat_lt slot old_table.geometry.members) (FIRST_ROW + rows_of old_table.geometry.chunk old_table.geometry.stripes) JOURNAL_SECTORS
+      (lt-ltb slot old_table.geometry.members within) in
       let reached : FIRST_ROW + row < length (disk_of (readable old slot)) = omega (arith, least, live.long_enough, below) in
       has.whole slot (FIRST_ROW + row) reached
 
   same_values : (row member : ℕ) → row < row_count old_table → member < old_table.geometry.members
       → value (rows_by new_table (readable new)) row member ≡ value (rows_by old_table (readable old)) row member
   same_values row member below within = elim (cases_lt slot old_table.geometry.members) [
-    | inl is_member ↦ row_values_stay slot (row_count old_table) (rows_by old_table (readable old)) (rows_by new_table (readable new)) is_member without_member has.rests.sound
+    | inl is_member ↦ row_values_stay slot (row_count old_table) (rows_by old_table (readable old)) (rows_by new_table (readable new)) is_member without_member
+        has.rests.sound
         (λ r r_below counts. own_whole is_member r r_below)
-        (λ r other r_below inside apart. some_own (trusts (state_at old_table.states other) r old_table.position) (sector_of (disk_of (readable old other)) (FIRST_ROW + r))
+        (λ r other r_below inside apart. some_own (trusts (state_at old_table.states other) r old_table.position)
+        (sector_of (disk_of (readable old other)) (FIRST_ROW + r))
         (ap (λ (s : State). trusts s r old_table.position) (has.others other (in_set other inside) apart)))
         row member below within
     | inr is_journal ↦ value-agree row member (rows_by new_table (readable new)) (rows_by old_table (readable old)) (record {
@@ -253,29 +264,38 @@ module _ (devices : ℕ) (old_table new_table : Table) (slot number : ℕ) (lost
         ∙ sym (ap (λ (c : Content). sector_of (disk_of c) a) (readable_up old other (was_up other up)));
   }
 
-  number_there : (image : Slots) → MayLeave new image → (journal : ℕ) (last : Option Seal) → new_table.geometry.members ≤ journal → journal < new_table.geometry.members + 2 → journal ≢ slot
+  number_there : (image : Slots) → MayLeave new image → (journal : ℕ) (last : Option Seal) → new_table.geometry.members ≤ journal
+      → journal < new_table.geometry.members + 2 → journal ≢ slot
       → IsLastSealed new_table.id new_table.geometry (image journal) last → number_of last ≡ number
   number_there image may journal last beyond of_set apart sealed =
       let of_old : journal < slots_of old_table = subst (λ (n : ℕ). journal < n) set_is of_set in
       let up = has.up journal of_old apart in
       has.rests.numbered.whole (readable old) (readable_left old) journal last
-      (record { beyond_members = subst (λ (n : ℕ). n ≤ journal) width beyond; of_set = of_old; live = has.rests.there journal of_old (was_there journal of_old apart) })
+      (record {
+        beyond_members = subst (λ (n : ℕ). n ≤ journal) width beyond;
+        of_set = of_old;
+        live =
+            has.rests.there journal of_old (was_there journal of_old apart);
+      })
       (sealed_beyond old_table.id old_table.geometry (image journal) (readable old journal) (journal_beyond image may journal up) last
       (subst₂ (λ (id : List ℕ) (g : Geometry). IsLastSealed id g (image journal) last) has.marked.same_id has.marked.same_geometry sealed))
 
   numbered : (of_lost : Lost) → of_lost.slot ≡ slot → InEachImage devices new_table new (Some of_lost) (HaveNumber devices new_table number)
   numbered of_lost own = record {
-    whole = λ image may journal last live sealed. number_there image may journal last live.beyond_members live.of_set (apart_if journal live.live.not_missing) sealed;
+    whole = λ image may journal last live sealed. number_there image may journal last live.beyond_members live.of_set (apart_if journal live.live.not_missing)
+        sealed;
     weakened = λ image other content may out stands journal last live sealed.
         let apart = apart_if journal live.live.not_missing in
         number_there image may journal last live.beyond_members live.of_set apart
-        (subst (λ (c : Content). IsLastSealed new_table.id new_table.geometry c last) (put_elsewhere image other content journal (λ is. apart (is ∙ out ∙ own))) sealed);
+        (subst (λ (c : Content). IsLastSealed new_table.id new_table.geometry c last) (put_elsewhere image other content journal (λ is. apart (is ∙ out ∙ own)))
+        sealed);
   }
 
   -- what is lost is the slot that is missing now
 
   holds_by_new : (base : Table) (image : Slots) (of_lost : Lost) → base.id ≡ old_table.id → IsChosen new_table.id devices image new_table
-      → Holds base devices record { image = image; lost = Some of_lost } (V ∷ []) → Holds new_table devices record { image = image; lost = Some of_lost } (V ∷ [])
+      → Holds base devices record { image = image; lost = Some of_lost } (V ∷ [])
+      → Holds new_table devices record { image = image; lost = Some of_lost } (V ∷ [])
   holds_by_new base image of_lost same_id chosen holds =
       let same : new_table ≡ holds.table =
       chosen_is_one devices holds.table (V ∷ []) image holds.whole new_table
@@ -306,7 +326,8 @@ module _ (devices : ℕ) (old_table new_table : Table) (slot number : ℕ) (lost
     nothing_pending = nothing_pending;
     holds = λ image may. holds_by_new old_table image of_lost refl (chosen.whole image may) (holds (Some of_lost) image
         (subst (λ (k : ℕ). k < slots_of old_table) (sym own) has.of_set, refl, λ other of_set apart. has.up other of_set (λ is. apart (is ∙ sym own))) may);
-    there = λ other of_set counted. live_now (chosen.whole (readable new) (readable_left new)) other (subst (λ (n : ℕ). other < n) set_is of_set) (apart_if other counted);
+    there = λ other of_set counted. live_now (chosen.whole (readable new) (readable_left new)) other (subst (λ (n : ℕ). other < n) set_is of_set)
+        (apart_if other counted);
     listed = listed;
     sound = sound;
     chosen = chosen;
@@ -324,7 +345,8 @@ lost_is None slot may = (record { slot = slot; away = [] }, refl, refl)
 lost_is (Some lost) slot may = (lost, refl, sym may)
 
 -- the law, for an array of a table and a panel
-pub marking_rests : (panel : Panel) (devices : ℕ) (old_table new_table : Table) (slot number : ℕ) (lost : Option Lost) (V : List Bytes) (sectors : ℕ → Bytes) (old new : History)
+pub marking_rests : (panel : Panel) (devices : ℕ) (old_table new_table : Table) (slot number : ℕ) (lost : Option Lost) (V : List Bytes) (sectors : ℕ → Bytes)
+    (old new : History)
     → panel.devices ≡ devices → HasMarked devices old_table new_table slot number lost V sectors old new → MayBeOut lost slot
     → HoldsNow old_table devices (lost_from lost slot) (V ∷ []) new
     → InEachImage devices new_table new (lost_from lost slot) (λ image. IsChosen new_table.id devices image new_table)
@@ -343,7 +365,8 @@ marking_rests panel devices old_table new_table slot number lost V sectors old n
 
 -- a settled array's slot may be given up
 
-holds_as_lost : (base : Table) (devices : ℕ) (image : Slots) (slot : ℕ) (X : List (List Bytes)) → (holds : Holds base devices record { image = image; lost = None } X)
+holds_as_lost : (base : Table) (devices : ℕ) (image : Slots) (slot : ℕ) (X : List (List Bytes))
+    → (holds : Holds base devices record { image = image; lost = None } X)
     → slot < slots_of holds.table → Holds base devices record { image = image; lost = Some record { slot = slot; away = [] } } X
 holds_as_lost base devices image slot X holds of_set = record {
   table = holds.table;
@@ -354,7 +377,8 @@ holds_as_lost base devices image slot X holds of_set = record {
   one_counts = λ there. one_at_most devices holds.table slot (image slot);
 }
 
-pub gives_up : (devices : ℕ) (table : Table) (number slot : ℕ) (lost : Option Lost) (V : List Bytes) (h : History) → IsSettled devices table number h lost V → slot < slots_of table
+pub gives_up : (devices : ℕ) (table : Table) (number slot : ℕ) (lost : Option Lost) (V : List Bytes) (h : History) → IsSettled devices table number h lost V
+    → slot < slots_of table
     → HoldsNow table devices (lost_from lost slot) (V ∷ []) h
 gives_up devices table number slot None V h rests of_set after image is may =
     let holds = rests.holds image may in
@@ -363,12 +387,18 @@ gives_up devices table number slot None V h rests of_set after image is may =
 gives_up devices table number slot (Some lost) V h rests of_set after image is may =
     subst (λ (l : Option Lost). Holds table devices record { image = image; lost = l } (V ∷ [])) (sym is.1) (rests.holds image may)
 
-pub chosen_as_lost : (devices : ℕ) (table : Table) (slot : ℕ) (lost : Option Lost) (h : History) (P : Slots → Type 0) → InEachImage devices table h lost P → InEachImage devices table h (lost_from lost slot) P
-chosen_as_lost devices table slot None h P each = record { whole = each.whole; weakened = λ image other content may_leave may stands. each.weakened image other content may_leave tt stands }
+pub chosen_as_lost : (devices : ℕ) (table : Table) (slot : ℕ) (lost : Option Lost) (h : History) (P : Slots → Type 0) → InEachImage devices table h lost P
+    → InEachImage devices table h (lost_from lost slot) P
+chosen_as_lost devices table slot None h P each = record {
+  whole = each.whole;
+  weakened =
+      λ image other content may_leave may stands. each.weakened image other content may_leave tt stands;
+}
 chosen_as_lost devices table slot (Some lost) h P each = each
 
 -- an array that is settled, with its slot missing already, is settled after it is marked
-pub rests_missing : (array : ArrayView) (slot : ℕ) (lost : Option Lost) (V : List Bytes) → slot < slots_of array.table → state_at array.table.states slot ≡ Missing
+pub rests_missing : (array : ArrayView) (slot : ℕ) (lost : Option Lost) (V : List Bytes) → slot < slots_of array.table
+    → state_at array.table.states slot ≡ Missing
     → RestsOn array lost V → RestsAfter (lost_from lost slot) array V
 rests_missing array slot None V of_set missing rests =
     absurd (flags_differ (sym (rests.lost_slot.out slot record { of_set = of_set; out = λ is. none_differ (sym missing ∙ is) }).1))
@@ -384,6 +414,7 @@ rests_missing array slot (Some lost) V of_set missing rests =
 pub whole_readable : (panel : Panel) (h : History) → IsTrueTo panel h → HasWholeSectors (readable h)
 whole_readable panel h is_true slot a within = by_state (is_down h slot) refl within
   where
-    by_state : (down : Bool) → is_down h slot ≡ down → a < length (disk_of (cond down None (Some (seen h slot)))) → IsSector (sector_of (disk_of (cond down None (Some (seen h slot)))) a)
+    by_state : (down : Bool) → is_down h slot ≡ down → a < length (disk_of (cond down None (Some (seen h slot))))
+        → IsSector (sector_of (disk_of (cond down None (Some (seen h slot)))) a)
     by_state true is within = absurd (omega (arith, within))
     by_state false is within = is_true.whole slot a (sector_of (seen h slot) a) (omega (arith, within, length-seen h slot)) (up_seen h slot a is)

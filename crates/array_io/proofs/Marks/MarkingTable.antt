@@ -12,7 +12,8 @@ use Rattle.superblock.specs.States.{is_rebuilding, position_in}
 use Rattle.superblock.specs.Tables.{state_at}
 
 -- each state of a table whose other slots are in sync, once this one is missing
-not_rebuilding : (table : Table) (slot : ℕ) → slot < slots_of table → ((other : ℕ) → other < slots_of table → other ≢ slot → state_at table.states other ≡ InSync)
+not_rebuilding : (table : Table) (slot : ℕ) → slot < slots_of table
+    → ((other : ℕ) → other < slots_of table → other ≢ slot → state_at table.states other ≡ InSync)
     → All (λ (s : State). is_rebuilding s ≡ false) (without_slot table slot)
 not_rebuilding table slot of_set others k d below = elim (cases_eq k slot) [
   | inl is ↦ ap is_rebuilding (ap (λ (j : ℕ). get_or (without_slot table slot) j d) is ∙ get_or-set_same table.states slot Missing d slot_below)
@@ -32,7 +33,8 @@ not_rebuilding table slot of_set others k d below = elim (cases_eq k slot) [
     ]
 
 -- it has no position
-pub no_position : (table : Table) (slot position : ℕ) → slot < slots_of table → ((other : ℕ) → other < slots_of table → other ≢ slot → state_at table.states other ≡ InSync)
+pub no_position : (table : Table) (slot position : ℕ) → slot < slots_of table
+    → ((other : ℕ) → other < slots_of table → other ≢ slot → state_at table.states other ≡ InSync)
     → position_in (without_slot table slot) position ≡ 0
 no_position table slot position of_set others =
     ap (λ (b : Bool). cond b position 0) (list_any_none is_rebuilding (without_slot table slot) (not_rebuilding table slot of_set others))

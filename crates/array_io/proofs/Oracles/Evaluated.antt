@@ -79,7 +79,8 @@ pub upper_is_last : (devices : ℕ) (table : Table) (image : Slots) (lower : Opt
     → ((s : Seal) → lower ≡ Some s → s.number < upper.number)
     → IsLastEntry table.id table.geometry (IsLiveJournal devices table image) image (Some record { journal = table.geometry.members + 1; seal = upper })
 upper_is_last devices table image None upper is_lower is_upper above =
-    let live : IsLiveJournal devices table image (table.geometry.members + 1) = record { beyond_members = omega arith; of_set = omega arith; live = is_upper.0 } in
+    let live : IsLiveJournal devices table image (table.geometry.members + 1) =
+    record { beyond_members = omega arith; of_set = omega arith; live = is_upper.0 } in
     let greatest = journals_most devices table image upper.number None (Some upper) is_lower is_upper tt (omega arith) in
     record {
       on_live = live;
@@ -93,14 +94,16 @@ upper_is_last devices table image None upper is_lower is_upper above =
     }
 upper_is_last devices table image (Some low) upper is_lower is_upper above =
     let less : low.number < upper.number = above low refl in
-    let live : IsLiveJournal devices table image (table.geometry.members + 1) = record { beyond_members = omega arith; of_set = omega arith; live = is_upper.0 } in
+    let live : IsLiveJournal devices table image (table.geometry.members + 1) =
+    record { beyond_members = omega arith; of_set = omega arith; live = is_upper.0 } in
     let greatest = journals_most devices table image upper.number (Some low) (Some upper) is_lower is_upper (omega arith) (omega arith) in
     record {
       on_live = live;
       sealed = is_upper.1;
       greatest = greatest;
       lowest = λ other s is_live great equal. elim (which_journal devices table image other is_live) [
-        | inl is ↦ let most = is_lower.1.greatest great.place s (subst (λ (j : ℕ). Counts table.id table.geometry (image j) great.place s) is great.counted) in absurd (omega arith)
+        | inl is ↦ let most = is_lower.1.greatest great.place s (subst (λ (j : ℕ). Counts table.id table.geometry (image j) great.place s) is great.counted) in
+            absurd (omega arith)
         | inr is ↦ omega arith
       ];
     }

@@ -21,7 +21,8 @@ use Rattle.array_io.proofs.Images.Entries.{last_is_one}
 use Rattle.array_io.proofs.Images.Rows.{same_test}
 
 -- what was put at the first n members
-pub record IsFilledTo (devices : ℕ) (table : Table) (image : Slots) (last : Option Entry) (row n : ℕ) (entry : List (Option Bytes)) (trusted : List Bool) (own : List Bytes) : Type 0 where
+pub record IsFilledTo (devices : ℕ) (table : Table) (image : Slots) (last : Option Entry) (row n : ℕ) (entry : List (Option Bytes)) (trusted : List Bool)
+    (own : List Bytes) : Type 0 where
   pub long_entry : length entry ≡ MOST_MEMBERS
   pub long_trusted : length trusted ≡ MOST_MEMBERS
   pub long_own : length own ≡ MOST_MEMBERS
@@ -38,7 +39,8 @@ at_or_below xs n k x d expected within below earlier here = elim (cases_eq k n) 
 ]
 
 -- one more member
-pub filled_more : (devices : ℕ) (table : Table) (image : Slots) (last : Option Entry) (row n : ℕ) (entry : List (Option Bytes)) (trusted : List Bool) (own : List Bytes)
+pub filled_more : (devices : ℕ) (table : Table) (image : Slots) (last : Option Entry) (row n : ℕ) (entry : List (Option Bytes)) (trusted : List Bool)
+    (own : List Bytes)
     (e : Option Bytes) (t : Bool) (o : Bytes) → n < MOST_MEMBERS → IsFilledTo devices table image last row n entry trusted own
     → e ≡ sector_of_last table.geometry.members image last row n → IsTrue t ↔ IsTrusted devices table image row n
     → (FIRST_ROW + row < length (disk_of (image n)) → o ≡ sector_of (disk_of (image n)) (FIRST_ROW + row))
@@ -47,15 +49,19 @@ filled_more devices table image last row n entry trusted own e t o few filled is
   long_entry = length-set entry n e ∙ filled.long_entry;
   long_trusted = length-set trusted n t ∙ filled.long_trusted;
   long_own = length-set own n o ∙ filled.long_own;
-  entries = λ k below. at_or_below entry n k e None (λ k. sector_of_last table.geometry.members image last row k) (omega (arith, filled.long_entry)) below (filled.entries k) is_entry;
+  entries = λ k below. at_or_below entry n k e None (λ k. sector_of_last table.geometry.members image last row k) (omega (arith, filled.long_entry)) below
+      (filled.entries k) is_entry;
   trusts = λ k below. elim (cases_eq k n) [
-    | inl same ↦ subst (λ (b : Bool). IsTrue b ↔ IsTrusted devices table image row k) (sym (get_or-set_at trusted n k t false same (omega (arith, filled.long_trusted))))
+    | inl same ↦ subst (λ (b : Bool). IsTrue b ↔ IsTrusted devices table image row k)
+        (sym (get_or-set_at trusted n k t false same (omega (arith, filled.long_trusted))))
         (subst (λ (j : ℕ). IsTrue t ↔ IsTrusted devices table image row j) (sym same) is_trusted)
-    | inr other ↦ subst (λ (b : Bool). IsTrue b ↔ IsTrusted devices table image row k) (sym (get_or-set_other trusted n k t false other)) (filled.trusts k (omega arith))
+    | inr other ↦ subst (λ (b : Bool). IsTrue b ↔ IsTrusted devices table image row k) (sym (get_or-set_other trusted n k t false other))
+        (filled.trusts k (omega arith))
   ];
   owns = λ k below long. elim (cases_eq k n) [
     | inl same ↦ get_or-set_at own n k o [] same (omega (arith, filled.long_own))
-        ∙ is_own (subst (λ (j : ℕ). FIRST_ROW + row < length (disk_of (image j))) same long) ∙ ap (λ (j : ℕ). sector_of (disk_of (image j)) (FIRST_ROW + row)) (sym same)
+        ∙ is_own (subst (λ (j : ℕ). FIRST_ROW + row < length (disk_of (image j))) same long)
+        ∙ ap (λ (j : ℕ). sector_of (disk_of (image j)) (FIRST_ROW + row)) (sym same)
     | inr other ↦ get_or-set_other own n k o [] other ∙ filled.owns k (omega arith) long
   ];
 }
@@ -73,7 +79,8 @@ member_long : (table : Table) (member n : ℕ) → member < table.geometry.membe
 member_long table member n within long =
     let least = cond_below member table.geometry.members (FIRST_ROW + row_count table) JOURNAL_SECTORS within in omega arith
 
-pub same_values : (devices : ℕ) (table : Table) (image : Slots) (last : Option Entry) (row n : ℕ) (entry : List (Option Bytes)) (trusted : List Bool) (own : List Bytes)
+pub same_values : (devices : ℕ) (table : Table) (image : Slots) (last : Option Entry) (row n : ℕ) (entry : List (Option Bytes)) (trusted : List Bool)
+    (own : List Bytes)
     → row < row_count table → table.geometry.members ≤ n → IsLastEntry table.id table.geometry (IsLiveJournal devices table image) image last
     → IsFilledTo devices table image last row n entry trusted own
     → (rows : Rows) → AreRowsOf devices table image rows → HaveSameValues row (rows_with table.geometry.members entry trusted own) rows
@@ -98,13 +105,15 @@ same_values devices table image last row n entry trusted own below all is_last f
 
 -- the last entry's sector, where its journal has it
 pub entry_sector : (devices : ℕ) (table : Table) (image : Slots) (found : Option LastEntry) (last : LastEntry) (row member at : ℕ) (sector : Bytes)
-    → found ≡ Some last → HasLastEntry devices table image found → member < table.geometry.members → Some at ≡ place_by_seal table.geometry.members last.seal row member
+    → found ≡ Some last → HasLastEntry devices table image found → member < table.geometry.members
+    → Some at ≡ place_by_seal table.geometry.members last.seal row member
     → (at < length (disk_of (image last.journal)) → sector ≡ sector_of (disk_of (image last.journal)) at)
     → Some sector ≡ sector_of_last table.geometry.members image (entry_of found) row member
 entry_sector devices table image found last row member at sector is has within there reads =
     let latest : HasLastEntry devices table image (Some last) = subst (λ (o : Option LastEntry). HasLastEntry devices table image o) is has in
     let long = latest.on_live.live.long_enough in
-    let least = cond_above last.journal table.geometry.members (FIRST_ROW + row_count table) JOURNAL_SECTORS JOURNAL_SECTORS latest.on_live.beyond_members refl in
+    let least = cond_above last.journal table.geometry.members (FIRST_ROW + row_count table) JOURNAL_SECTORS JOURNAL_SECTORS latest.on_live.beyond_members
+    refl in
     let body = bodies_within table.geometry.members last.seal row member at table.geometry.limits.members_most within (sym there) in
     let read : sector ≡ sector_of (disk_of (image last.journal)) at = reads (omega (arith, body.1)) in
     ap Some read
@@ -113,7 +122,8 @@ entry_sector devices table image found last row member at sector is has within t
 
 -- and none, where it has no place
 pub no_entry_sector : (devices : ℕ) (table : Table) (image : Slots) (found : Option LastEntry) (last : LastEntry) (row member : ℕ)
-    → found ≡ Some last → place_by_seal table.geometry.members last.seal row member ≡ None → sector_of_last table.geometry.members image (entry_of found) row member ≡ None
+    → found ≡ Some last → place_by_seal table.geometry.members last.seal row member ≡ None
+    → sector_of_last table.geometry.members image (entry_of found) row member ≡ None
 no_entry_sector devices table image found last row member is none =
     ap (λ (o : Option LastEntry). sector_of_last table.geometry.members image (entry_of o) row member) is
     ∙ ap (option_map (sector_of (disk_of (image last.journal)))) none

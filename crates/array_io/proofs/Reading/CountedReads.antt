@@ -31,7 +31,8 @@ reads_few true members reads few is = omega (arith, is)
 reads_few false members reads few is = omega (arith, is, few)
 
 -- what there is of a sector, where a mask has its bit
-pub is_held : {X : Type 0} (P : X → Type 0) (found : Option X) (mask_bit held : Bool) → IfSome found (λ x. (mask_bit ≡ true) × P x) → (IsNone found → mask_bit ≡ false)
+pub is_held : {X : Type 0} (P : X → Type 0) (found : Option X) (mask_bit held : Bool) → IfSome found (λ x. (mask_bit ≡ true) × P x)
+    → (IsNone found → mask_bit ≡ false)
     → held ≡ is_some found → held ≡ mask_bit
 is_held P (Some x) mask_bit held some none is = is ∙ sym some.0
 is_held P None mask_bit held some none is = is ∙ sym (none refl)

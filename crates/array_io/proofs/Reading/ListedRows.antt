@@ -22,7 +22,8 @@ value_in_row rows row member within = get_or-map-range_with_len (λ (m : ℕ). v
 
 -- a sound row of whole values is its list's
 pub row_listed : (geometry : Geometry) (rows : Rows) (row : ℕ) → rows.members ≡ geometry.members → IsSoundRow (row_values rows row)
-    → ((member : ℕ) → member < geometry.members → length (value rows row member) ≡ 512) → IsListedRow geometry (logical_list geometry rows) row (row_values rows row)
+    → ((member : ℕ) → member < geometry.members → length (value rows row member) ≡ 512)
+    → IsListedRow geometry (logical_list geometry rows) row (row_values rows row)
 row_listed geometry rows row width sound whole = record {
   long = length-map-range_with_len (λ (m : ℕ). value rows row m) 0 rows.members ∙ width;
   whole = λ member within. ap length (value_in_row rows row member (omega (arith, width, within))) ∙ whole member within;

@@ -40,7 +40,8 @@ one_more_there table count flags there below_members are tells = record {
     within = omega (arith, below_members, are.long, table.geometry.limits.members_most)
 
 -- a member's own sector counts in the rows in which the table trusts it
-reads_by : (table : Table) (live : Bool) (option : Option (ℕ × ℕ)) (row member : ℕ) → member < table.geometry.members → live ≡ is_there (state_at table.states member)
+reads_by : (table : Table) (live : Bool) (option : Option (ℕ × ℕ)) (row member : ℕ) → member < table.geometry.members
+    → live ≡ is_there (state_at table.states member)
     → IsRebuildingBy table option → (live && is_below (rebuilding_of option) row member) ≡ trusts (state_at table.states member) row table.position
 reads_by table live option row member within there rebuilds =
     ap (λ (b : Bool). b && is_below (rebuilding_of option) row member) there ∙ by_state (state_at table.states member) refl option rebuilds
@@ -80,7 +81,8 @@ slots_by table flags option = record { members = table.geometry.members; live = 
 -- such flags, and that one, by the table
 pub slots_read : (table : Table) (flags : List Bool) (option : Option (ℕ × ℕ)) → AreThere table table.geometry.members flags → IsRebuildingBy table option
     → ReadsBy table (slots_by table flags option)
-slots_read table flags option there rebuilds = λ row member within. reads_by table (slice_index_or flags member false) option row member within (there.each member within) rebuilds
+slots_read table flags option there rebuilds = λ row member within. reads_by table (slice_index_or flags member false) option row member within
+    (there.each member within) rebuilds
 
 -- a member whose own sector doesn't count is not in sync, and there is one such at most
 pub at_most_one : (table : Table) (slots : LiveSlots) → slots.members ≡ table.geometry.members → ReadsBy table slots → AtMostOneOut slots
@@ -95,7 +97,8 @@ at_most_one table slots width reads = λ row first second first_in second_in fir
     not_in_sync row member within out is = differ (sym (reads row member within ∙ ap (λ (state : State). trusts state row table.position) is) ∙ out)
 
 -- each member has the same value by the live members as by the table
-pub live_value : (table : Table) (slots : LiveSlots) → slots.members ≡ table.geometry.members → ReadsBy table slots → (image : Slots) (row member : ℕ) → member < table.geometry.members
+pub live_value : (table : Table) (slots : LiveSlots) → slots.members ≡ table.geometry.members → ReadsBy table slots → (image : Slots) (row member : ℕ)
+    → member < table.geometry.members
     → value (rows_of slots image) row member ≡ value (rows_by table image) row member
 live_value table slots width reads image row member within =
     value-agree row member (rows_of slots image) (rows_by table image)
@@ -103,7 +106,8 @@ live_value table slots width reads image row member within =
 
 -- a row of a set each of whose slots is long enough can be read
 pub can_read : (table : Table) (slots : LiveSlots) (row : ℕ) (panel : Panel) → HasItsSlots table panel → slots.members ≡ table.geometry.members
-    → ((member : ℕ) → member < table.geometry.members → slots.live member ≡ is_there (state_at table.states member)) → AtMostOneOut slots → row < row_count table
+    → ((member : ℕ) → member < table.geometry.members → slots.live member ≡ is_there (state_at table.states member)) → AtMostOneOut slots
+    → row < row_count table
     → CanRead slots row panel
 can_read table slots row panel its_slots width there one_out below = record {
   devices = omega (arith, width, its_slots.of_bank);

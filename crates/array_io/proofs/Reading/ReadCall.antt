@@ -37,12 +37,14 @@ module _ (spellings : Spellings) (honest : Type 0) (number : ℕ) (table new_tab
   from_rest fair lost V rests = writable_at_rest spellings old_panel.devices number table lost V old rests (sectors_of old_panel old (true_old fair))
 
   -- steps that keep the list are a call that does
-  pub keeps_by_steps : (steps : StepsOf honest (KeepsList old_panel.devices) (Between old_panel.devices number) (Between old_panel.devices number) Was Now answer)
+  pub keeps_by_steps : (steps : StepsOf honest (KeepsList old_panel.devices) (Between old_panel.devices number) (Between old_panel.devices number) Was Now
+      answer)
       → KeepsTheList honest Was Now (HasEnded answer)
   keeps_by_steps steps = record {
     moments = λ fair lost V rests. steps.moments fair record { base = table; lost = lost; logical = V } (from_rest fair lost V rests);
     rests = λ fair goes lost V rests.
-        let ok : answer ≡ Ok tt = answered_steps honest (KeepsList old_panel.devices) (Between old_panel.devices number) (Between old_panel.devices number) Was Now answer steps goes in
+        let ok : answer ≡ Ok tt = answered_steps honest (KeepsList old_panel.devices) (Between old_panel.devices number) (Between old_panel.devices number) Was
+        Now answer steps goes in
         writable_rests spellings new_panel old_panel.devices number table new_table lost V new steps.goes_on.later.devices
         (steps.reached fair ok record { base = table; lost = lost; logical = V } (from_rest fair lost V rests)) (sectors_of new_panel new (true_new fair));
   }
@@ -70,10 +72,14 @@ module _ (spellings : Spellings) (honest : Type 0) (number : ℕ) (table new_tab
       same_geometry : new_table.geometry ≡ table.geometry
       same_geometry = steps.goes_on.not_older.same_geometry
 
-      at_place : {V : List Bytes} → logical_list new_table.geometry (rows_by new_table (readable new)) ≡ V → value (rows_by new_table (readable new)) row member ≡ slice_index_or V logical []
+      at_place : {V : List Bytes} → logical_list new_table.geometry (rows_by new_table (readable new)) ≡ V
+          → value (rows_by new_table (readable new)) row member ≡ slice_index_or V logical []
       at_place {V} listed =
           let here : value (rows_by new_table (readable new)) row member ≡ logical_value table.geometry (rows_by new_table (readable new)) logical =
           ap (λ (r : ℕ). value (rows_by new_table (readable new)) r member) place.on_row
-          ∙ ap (λ (m : ℕ). value (rows_by new_table (readable new)) (stripe_of_chunk table.geometry.members (logical / table.geometry.chunk) * table.geometry.chunk + logical % table.geometry.chunk) m) place.on_member in
+          ∙ ap (λ (m : ℕ). value (rows_by new_table (readable new))
+          (stripe_of_chunk table.geometry.members (logical / table.geometry.chunk) * table.geometry.chunk + logical % table.geometry.chunk) m)
+          place.on_member in
           here ∙ sym (sector_of_logical_list table.geometry (rows_by new_table (readable new)) logical below)
-          ∙ ap (λ (l : List Bytes). slice_index_or l logical []) (ap (λ (g : Geometry). logical_list g (rows_by new_table (readable new))) (sym same_geometry) ∙ listed)
+          ∙ ap (λ (l : List Bytes). slice_index_or l logical []) (ap (λ (g : Geometry). logical_list g (rows_by new_table (readable new))) (sym same_geometry)
+          ∙ listed)

@@ -38,7 +38,8 @@ flags_differ : ¬ (true ≡ false)
 flags_differ e = cc
 
 -- no step keeps the list
-pub keeps_none : Spellings → (honest : Type 0) (table : Table) (panel : Panel) (h : History) → (honest → IsTrueTo panel h) → KeepsOn honest table table panel panel h h (Ok tt)
+pub keeps_none : Spellings → (honest : Type 0) (table : Table) (panel : Panel) (h : History) → (honest → IsTrueTo panel h)
+    → KeepsOn honest table table panel panel h h (Ok tt)
 keeps_none spellings honest table panel h true_to devices number = record {
   goes_on = goes_on_later panel panel h h table number (later_same panel);
   stays = record { table = inl refl; failure = λ fair goes slot of_set failed. absurd (flags_differ (sym failed.is_down ∙ failed.was_up)) };
@@ -57,7 +58,8 @@ record AreRowsFor (geometry : Geometry) (rows : Rows) (V : List Bytes) : Type 0 
   pub whole : HaveWholeValues geometry rows
 
 -- the values that a table counts on have 512 bytes
-members_whole : (devices : ℕ) (table : Table) (h : History) → IsAllThere devices table h → HasWholeSectors (readable h) → HaveWholeValues table.geometry (rows_by table (readable h))
+members_whole : (devices : ℕ) (table : Table) (h : History) → IsAllThere devices table h → HasWholeSectors (readable h)
+    → HaveWholeValues table.geometry (rows_by table (readable h))
 members_whole devices table h there whole row member below within = length-value (rows_by table (readable h)) row member
     (λ sector is. absurd (none-some sector is))
     (λ none counts.
@@ -89,23 +91,30 @@ value_listed spellings panel devices number from table h member row to within be
     (row_listed table.geometry rows row refl (are.sound row below) (λ m inside. are.whole row m below inside)) in
     is ∙ sym (value_in_row rows row member within) ∙ listed_once table.geometry from.logical row below (row_values rows row) values here listed member within
 
-module _ (honest : Type 0) (table mid_table : Table) (old_panel mid_panel : Panel) (old mid : History) (first : KeepsOn honest table mid_table old_panel mid_panel old mid (Ok tt)) where
+module _ (honest : Type 0) (table mid_table : Table) (old_panel mid_panel : Panel) (old mid : History)
+    (first : KeepsOn honest table mid_table old_panel mid_panel old mid (Ok tt)) where
   -- the set stays what it is
   pub same_set : mid_table.geometry ≡ table.geometry
   same_set = (first 0 0).goes_on.not_older.same_geometry
 
-  pub between_then : honest → (number : ℕ) (from : KeepsFrom) → Between old_panel.devices number from table old → Between mid_panel.devices number from mid_table mid
-  between_then fair number from at = subst (λ (n : ℕ). Between n number from mid_table mid) (sym (first 0 0).goes_on.later.devices) ((first old_panel.devices number).reached fair refl from at)
+  pub between_then : honest → (number : ℕ) (from : KeepsFrom) → Between old_panel.devices number from table old
+      → Between mid_panel.devices number from mid_table mid
+  between_then fair number from at = subst (λ (n : ℕ). Between n number from mid_table mid) (sym (first 0 0).goes_on.later.devices)
+      ((first old_panel.devices number).reached fair refl from at)
 
   module _ (still : Type 0) (more : honest → still) (new_table : Table) (new_panel : Panel) (new : History) where
     -- steps after steps
-    pub keeps_both : (answer : Answer) → KeepsOn still mid_table new_table mid_panel new_panel mid new answer → KeepsOn honest table new_table old_panel new_panel old new answer
-    keeps_both answer second devices number = steps_both honest still more (KeepsList devices) (Between devices number) (Between devices number) (Between devices number)
-        (view_of old_panel old table number) (view_of mid_panel mid mid_table number) (view_of new_panel new new_table number) answer (first devices number) (second devices number)
+    pub keeps_both : (answer : Answer) → KeepsOn still mid_table new_table mid_panel new_panel mid new answer
+        → KeepsOn honest table new_table old_panel new_panel old new answer
+    keeps_both answer second devices number = steps_both honest still more (KeepsList devices) (Between devices number) (Between devices number)
+        (Between devices number)
+        (view_of old_panel old table number) (view_of mid_panel mid mid_table number) (view_of new_panel new new_table number) answer (first devices number)
+        (second devices number)
 
     -- what was read last
     pub read_listed : Spellings → (honest → IsTrueTo new_panel new) → KeepsOn still mid_table new_table mid_panel new_panel mid new (Ok tt)
-        → (member row : ℕ) (to : Bytes) → member < table.geometry.members → row < rows_of table.geometry.chunk table.geometry.stripes → to ≡ value (rows_by new_table (readable new)) row member
+        → (member row : ℕ) (to : Bytes) → member < table.geometry.members → row < rows_of table.geometry.chunk table.geometry.stripes
+        → to ≡ value (rows_by new_table (readable new)) row member
         → honest → (number : ℕ) (from : KeepsFrom) → Between old_panel.devices number from table old → IsListed table.geometry from.logical row member to
     read_listed spellings true_new second member row to within below is fair number from at =
         let steps = keeps_both (Ok tt) second in

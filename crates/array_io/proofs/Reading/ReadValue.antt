@@ -26,7 +26,8 @@ use Rattle.array_io.proofs.Commits.EntryCarried.{Nothing, reads_write}
 use Rattle.array_io.proofs.Reading.LiveRows.{ReadsBy, live_value}
 
 -- reads in which one device at most failed leave the others as they were
-pub reads_off : (table : Table) (slot : ℕ) (old new : History) → CountsOn table slot → HasRead old new → ((d : ℕ) → d ≢ slot → is_down new d ≡ is_down old d) → StaysOff (λ d. d ≡ slot) old new
+pub reads_off : (table : Table) (slot : ℕ) (old new : History) → CountsOn table slot → HasRead old new → ((d : ℕ) → d ≢ slot → is_down new d ≡ is_down old d)
+    → StaysOff (λ d. d ≡ slot) old new
 reads_off table slot old new counted read down = record {
   start = writing.start;
   stays_down = writing.stays_down;
@@ -43,7 +44,8 @@ reads_off table slot old new counted read down = record {
     held d at value (inr put) = absurd (put.2)
 
 -- what is promised of a bank that is honest later is promised of one that is honest now
-publishes_as : {honest still : Type 0} (table : Table) (last : Option ℕ) (old_panel new_panel : Panel) (old new : History) (result : Result (Unit {0}) Stop) → (honest → still)
+publishes_as : {honest still : Type 0} (table : Table) (last : Option ℕ) (old_panel new_panel : Panel) (old new : History) (result : Result (Unit {0}) Stop)
+    → (honest → still)
     → Publishes still table last old_panel new_panel old new result → Publishes honest table last old_panel new_panel old new result
 publishes_as table last old_panel new_panel old new result more is = record {
   sectors = is.sectors;
@@ -59,7 +61,8 @@ publishes_as table last old_panel new_panel old new result more is = record {
   last_sees = λ fair. is.last_sees (more fair);
 }
 
-pub marks_as : {honest still : Type 0} (slot : ℕ) (old_panel new_panel : Panel) (old_table new_table : Table) (old new : History) (answer : Answer) → (honest → still)
+pub marks_as : {honest still : Type 0} (slot : ℕ) (old_panel new_panel : Panel) (old_table new_table : Table) (old new : History) (answer : Answer)
+    → (honest → still)
     → MarksOn still slot old_panel new_panel old_table new_table old new answer → MarksOn honest slot old_panel new_panel old_table new_table old new answer
 marks_as slot old_panel new_panel old_table new_table old new answer more (inl left) = inl left
 marks_as slot old_panel new_panel old_table new_table old new answer more (inr is) = inr record {
@@ -74,7 +77,8 @@ marks_as slot old_panel new_panel old_table new_table old new answer more (inr i
 module _ (honest : Type 0) (table : Table) (slots : LiveSlots) (member row : ℕ) (old_panel mid_panel : Panel) (old mid : History) (to : Bytes)
     (width : slots.members ≡ table.geometry.members) (by : ReadsBy table slots) where
   -- it was read
-  pub value_read : member < table.geometry.members → ReadsMember honest slots member row old_panel mid_panel old mid to (Ok tt) → IsValueRead honest table member row old_panel mid_panel old mid to
+  pub value_read : member < table.geometry.members → ReadsMember honest slots member row old_panel mid_panel old mid to (Ok tt)
+      → IsValueRead honest table member row old_panel mid_panel old mid to
   value_read within is = record {
     later = is.later;
     reads = is.reads;

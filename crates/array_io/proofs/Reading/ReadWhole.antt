@@ -1,5 +1,6 @@
 -- A whole sector is read as reads give it, also of an array that is not settled, where no device fails.
-use Rattle.std.proofs.Common.{◌≡◌, ◌≢◌, inl, inr, ℕ, ◌+◌, ◌*◌, ◌/◌, ◌%◌, ◌<◌, ◌≤◌, Bool, true, false, List, [], ◌∷◌, ◌++◌, length, get_or, Option, None, refl, sym, ◌∙◌, ap, subst, arith}
+use Rattle.std.proofs.Common.{◌≡◌, ◌≢◌, inl, inr, ℕ, ◌+◌, ◌*◌, ◌/◌, ◌%◌, ◌<◌, ◌≤◌, Bool, true, false, List, [], ◌∷◌, ◌++◌, length, get_or, Option, None, refl}
+use Rattle.std.proofs.Common.{sym, ◌∙◌, ap, subst, arith}
 use Rattle.std.specs.Prelude.{OnOk, Ok, Err, Result, is_ok, map}
 use Rattle.std.proofs.lemmas.Bool.{cases_eq, cases_lt}
 use Rattle.std.proofs.lemmas.List.{get_or_past}
@@ -63,14 +64,17 @@ below_publish table sectors =
     (below_writes 2 (place_of table) sectors (first_slots table None) (omega arith)) (below_flushes 2 (first_slots table None))) tt
 
 -- they leave the sectors beyond
-seen_beyond : (n : ℕ) (calls : List Call) (old new : History) (device at : ℕ) → WriteBelow n calls → Performs calls true old new → n ≤ at → sector_of (seen new device) at ≡ sector_of (seen old device) at
+seen_beyond : (n : ℕ) (calls : List Call) (old new : History) (device at : ℕ) → WriteBelow n calls → Performs calls true old new → n ≤ at
+    → sector_of (seen new device) at ≡ sector_of (seen old device) at
 seen_beyond n [] old new device at below (all, is) beyond = ap (λ (h : History). sector_of (seen h device) at) is
 seen_beyond n (call ∷ calls) old new device at below (inl (none, is)) beyond = absurd (cc)
-seen_beyond n (Read other place ∷ calls) old new device at below (inr (up, rest)) beyond = seen_beyond n calls (after_call (Read other place) true old) new device at below rest beyond
+seen_beyond n (Read other place ∷ calls) old new device at below (inr (up, rest)) beyond =
+    seen_beyond n calls (after_call (Read other place) true old) new device at below rest beyond
 seen_beyond n (Write other place bytes ∷ calls) old new device at below (inr (up, rest)) beyond =
     seen_beyond n calls (after_call (Write other place bytes) true old) new device at below.1 rest beyond
     ∙ seen_elsewhere other place bytes old device at (λ same is. omega (arith, below.0, beyond, is))
-seen_beyond n (Flush other ∷ calls) old new device at below (inr (up, rest)) beyond = seen_beyond n calls (after_call (Flush other) true old) new device at below rest beyond
+seen_beyond n (Flush other ∷ calls) old new device at below (inr (up, rest)) beyond =
+    seen_beyond n calls (after_call (Flush other) true old) new device at below rest beyond
 
 -- what reads give after the superblocks, of devices that are as up as before
 own_beyond : (old new : History) (device at : ℕ) → is_down new device ≡ is_down old device → sector_of (seen new device) at ≡ sector_of (seen old device) at
@@ -114,11 +118,13 @@ module _ (slot : ℕ) (table new_table : Table) (old new : History) (has : HasMa
   same_width = ap (λ (g : Geometry). g.members) has.marked.same_geometry
 
   -- the slot itself: nothing is read of it
-  own_stays : (row : ℕ) (b : Bool) → trusts (state_at table.states slot) row table.position ≡ b → slot < table.geometry.members → length (value (rows_by table (readable old)) row slot) ≡ 512
+  own_stays : (row : ℕ) (b : Bool) → trusts (state_at table.states slot) row table.position ≡ b → slot < table.geometry.members
+      → length (value (rows_by table (readable old)) row slot) ≡ 512
       → value (rows_by new_table (readable new)) row slot ≡ value (rows_by table (readable old)) row slot
   own_stays row true is below whole =
       let none : value (rows_by table (readable old)) row slot ≡ [] =
-      value-own (rows_by table (readable old)) row slot refl is ∙ ap (λ (c : Option (List Bytes)). sector_of (disk_of c) (FIRST_ROW + row)) (readable_down old slot has.down) in
+      value-own (rows_by table (readable old)) row slot refl is
+      ∙ ap (λ (c : Option (List Bytes)). sector_of (disk_of c) (FIRST_ROW + row)) (readable_down old slot has.down) in
       absurd (omega (arith, ap length none, whole))
   own_stays row false is below whole = value-agree row slot (rows_by new_table (readable new)) (rows_by table (readable old)) record {
     width = same_width;
@@ -139,7 +145,8 @@ module _ (slot : ℕ) (table new_table : Table) (old new : History) (has : HasMa
         let now : trusts (state_at new_table.states member) row new_table.position ≡ true =
         ap (λ (s : State). trusts s row new_table.position) (state_stays table new_table slot has.marked member apart ∙ in_sync) in
         let was : trusts (state_at table.states member) row table.position ≡ true = ap (λ (s : State). trusts s row table.position) in_sync in
-        value-own (rows_by new_table (readable new)) row member refl now ∙ has.own member (FIRST_ROW + row) (omega arith) ∙ sym (value-own (rows_by table (readable old)) row member refl was)
+        value-own (rows_by new_table (readable new)) row member refl now ∙ has.own member (FIRST_ROW + row) (omega arith)
+        ∙ sym (value-own (rows_by table (readable old)) row member refl was)
   ]
 
 -- ---- one try to read a value, and two
@@ -147,7 +154,8 @@ module _ (slot : ℕ) (table new_table : Table) (old new : History) (has : HasMa
 differ : ¬ (true ≡ false)
 differ is = cc
 
-module _ (honest : Type 0) (table new_table : Table) (old_panel new_panel : Panel) (old new : History) (is : IsFailureMarked honest table new_table old_panel new_panel old new (Ok tt))
+module _ (honest : Type 0) (table new_table : Table) (old_panel new_panel : Panel) (old new : History)
+    (is : IsFailureMarked honest table new_table old_panel new_panel old new (Ok tt))
     (true_old : honest → IsTrueTo old_panel old) (of_bank : slots_of table ≤ old_panel.devices) where
   failed_already : honest → NoDeviceFailed old_panel new_panel → is_down old is.slot ≡ true
   failed_already fair none = sym ((true_old fair).down is.slot) ∙ by_state (old_panel.down is.slot) refl
@@ -199,8 +207,10 @@ module _ (honest : Type 0) (table new_table : Table) (old_panel new_panel : Pane
       (values_stay is.slot table new_table is.mid new (has_marked fair))
 
 -- a try that answered the value read it
-value_read : (honest : Type 0) (table new_table : Table) (member row : ℕ) (old_panel new_panel : Panel) (old new : History) (to : Bytes) (result : Result Bool Refusal)
-    → ReadsOrFailsSlot honest table new_table member row old_panel new_panel old new to result → result ≡ Ok true → (new_table ≡ table) × IsValueRead honest table member row old_panel new_panel old new to
+value_read : (honest : Type 0) (table new_table : Table) (member row : ℕ) (old_panel new_panel : Panel) (old new : History) (to : Bytes)
+    (result : Result Bool Refusal)
+    → ReadsOrFailsSlot honest table new_table member row old_panel new_panel old new to result → result ≡ Ok true → (new_table ≡ table)
+    × IsValueRead honest table member row old_panel new_panel old new to
 value_read honest table new_table member row old_panel new_panel old new to result reads read = elim reads [
   | inl is ↦ (is.1, is.2)
   | inr rest ↦ elim rest [
@@ -213,8 +223,10 @@ value_read honest table new_table member row old_panel new_panel old new to resu
 ]
 
 -- the value was read by the first try
-pub first_whole : (honest : Type 0) (table new_table : Table) (member row : ℕ) (old_panel new_panel : Panel) (old new : History) (to : Bytes) (result : Result Bool Refusal)
-    → ReadsOrFailsSlot honest table new_table member row old_panel new_panel old new to result → result ≡ Ok true → honest → ReadsValue table new_table member row old new to
+pub first_whole : (honest : Type 0) (table new_table : Table) (member row : ℕ) (old_panel new_panel : Panel) (old new : History) (to : Bytes)
+    (result : Result Bool Refusal)
+    → ReadsOrFailsSlot honest table new_table member row old_panel new_panel old new to result → result ≡ Ok true → honest
+    → ReadsValue table new_table member row old new to
 first_whole honest table new_table member row old_panel new_panel old new to result reads read fair =
     let is = value_read honest table new_table member row old_panel new_panel old new to result reads read in
     record {
@@ -232,17 +244,23 @@ none_failed_before old mid new later none slot of_bank up = by_state (mid.down s
     by_state false still = still
 
 -- it was read by the second
-pub second_whole : (honest still : Type 0) → (honest → still) → (table mid_table new_table : Table) (member row : ℕ) (old_panel mid_panel new_panel : Panel) (old mid new : History) (to : Bytes)
-    (second : Result Bool Refusal) → IsFailureMarked honest table mid_table old_panel mid_panel old mid (Ok tt) → (honest → IsTrueTo old_panel old) → slots_of table ≤ old_panel.devices
-    → member < table.geometry.members → ReadsOrFailsSlot still mid_table new_table member row mid_panel new_panel mid new to second → second ≡ Ok true → honest → NoDeviceFailed old_panel new_panel
+pub second_whole : (honest still : Type 0) → (honest → still)
+    → (table mid_table new_table : Table) (member row : ℕ) (old_panel mid_panel new_panel : Panel) (old mid new : History) (to : Bytes)
+    (second : Result Bool Refusal) → IsFailureMarked honest table mid_table old_panel mid_panel old mid (Ok tt) → (honest → IsTrueTo old_panel old)
+    → slots_of table ≤ old_panel.devices
+    → member < table.geometry.members → ReadsOrFailsSlot still mid_table new_table member row mid_panel new_panel mid new to second → second ≡ Ok true → honest
+    → NoDeviceFailed old_panel new_panel
     → ReadsValue table new_table member row old new to
-second_whole honest still more table mid_table new_table member row old_panel mid_panel new_panel old mid new to second is true_old of_bank below reads read fair none =
+second_whole honest still more table mid_table new_table member row old_panel mid_panel new_panel old mid new to second is true_old of_bank below reads read
+    fair none =
     let was = value_read still mid_table new_table member row mid_panel new_panel mid new to second reads read in
     let now = first_whole still mid_table new_table member row mid_panel new_panel mid new to second reads read (more fair) in
-    let first = failure_stays honest table mid_table old_panel mid_panel old mid is true_old of_bank fair (none_failed_before old_panel mid_panel new_panel was.1.later none) in
+    let first = failure_stays honest table mid_table old_panel mid_panel old mid is true_old of_bank fair
+    (none_failed_before old_panel mid_panel new_panel was.1.later none) in
     record {
       given = λ whole. now.given (ap length (first row member below whole) ∙ whole) ∙ first row member below whole;
-      stays = λ r m within whole. now.stays r m (subst (λ (g : Geometry). m < g.members) (sym same) within) (ap length (first r m within whole) ∙ whole) ∙ first r m within whole;
+      stays = λ r m within whole. now.stays r m (subst (λ (g : Geometry). m < g.members) (sym same) within) (ap length (first r m within whole) ∙ whole)
+          ∙ first r m within whole;
     }
   where
     same : mid_table.geometry ≡ table.geometry
@@ -253,14 +271,16 @@ second_whole honest still more table mid_table new_table member row old_panel mi
 
 -- ---- a logical sector
 
-at_place : (geometry : Geometry) (rows : Rows) (logical member row : ℕ) → logical < data_sectors_of geometry.members geometry.chunk geometry.stripes → IsPlace geometry.members geometry.chunk logical member row
+at_place : (geometry : Geometry) (rows : Rows) (logical member row : ℕ) → logical < data_sectors_of geometry.members geometry.chunk geometry.stripes
+    → IsPlace geometry.members geometry.chunk logical member row
     → get_or (logical_list geometry rows) logical [] ≡ value rows row member
 at_place geometry rows logical member row below place =
     sector_of_logical_list geometry rows logical below
     ∙ sym (ap (λ (r : ℕ). value rows r member) place.on_row
     ∙ ap (λ (m : ℕ). value rows (stripe_of_chunk geometry.members (logical / geometry.chunk) * geometry.chunk + logical % geometry.chunk) m) place.on_member)
 
-module _ (table new_table : Table) (member row : ℕ) (old_panel new_panel : Panel) (old new : History) (number new_number : ℕ) (to : Bytes) (same : new_table.geometry ≡ table.geometry)
+module _ (table new_table : Table) (member row : ℕ) (old_panel new_panel : Panel) (old new : History) (number new_number : ℕ) (to : Bytes)
+    (same : new_table.geometry ≡ table.geometry)
     (read : ReadsValue table new_table member row old new to) where
   abbrev Was : ArrayView
   Was = view_of old_panel old table number
@@ -275,27 +295,34 @@ module _ (table new_table : Table) (member row : ℕ) (old_panel new_panel : Pan
         let r = stripe_of_chunk g.members (sector / g.chunk) * g.chunk + sector % g.chunk in
         let m = member_of_chunk g.members (sector / g.chunk) in
         let within : m < g.members = omega (arith, g.limits.members_least) in
-        let was : get_or (list_read Was) sector [] ≡ value (rows_by table (readable old)) r m = sector_of_logical_list g (rows_by table (readable old)) sector below in
+        let was : get_or (list_read Was) sector [] ≡ value (rows_by table (readable old)) r m =
+        sector_of_logical_list g (rows_by table (readable old)) sector below in
         let now : get_or (list_read Now) sector [] ≡ value (rows_by new_table (readable new)) r m =
-        ap (λ (s : Geometry). get_or (logical_list s (rows_by new_table (readable new))) sector []) same ∙ sector_of_logical_list g (rows_by new_table (readable new)) sector below in
+        ap (λ (s : Geometry). get_or (logical_list s (rows_by new_table (readable new))) sector []) same
+        ∙ sector_of_logical_list g (rows_by new_table (readable new)) sector below in
         now ∙ read.stays r m within (ap length (sym was) ∙ whole) ∙ sym was
     | inr past ↦
-        let none : get_or (list_read Was) sector [] ≡ [] = get_or_past (list_read Was) sector [] (omega (arith, past, length-logical_list table.geometry (rows_by table (readable old)))) in
+        let none : get_or (list_read Was) sector [] ≡ [] =
+        get_or_past (list_read Was) sector [] (omega (arith, past, length-logical_list table.geometry (rows_by table (readable old)))) in
         absurd (omega (arith, ap length none, whole))
   ]
 
-  pub reads_whole : (logical : ℕ) → logical < data_sectors_of table.geometry.members table.geometry.chunk table.geometry.stripes → IsPlace table.geometry.members table.geometry.chunk logical member row
+  pub reads_whole : (logical : ℕ) → logical < data_sectors_of table.geometry.members table.geometry.chunk table.geometry.stripes
+      → IsPlace table.geometry.members table.geometry.chunk logical member row
       → ReadsWhole logical Was Now to
   reads_whole logical below place =
-      let was : get_or (list_read Was) logical [] ≡ value (rows_by table (readable old)) row member = at_place table.geometry (rows_by table (readable old)) logical member row below place in
+      let was : get_or (list_read Was) logical [] ≡ value (rows_by table (readable old)) row member =
+      at_place table.geometry (rows_by table (readable old)) logical member row below place in
       record {
         given = λ whole. read.given (ap length (sym was) ∙ whole) ∙ sym was;
         stays = sectors_stay;
       }
 
 -- the same of an answer
-pub whole_if : (old_panel new_panel : Panel) (table new_table : Table) (member row : ℕ) (old new : History) (number new_number : ℕ) (to : Bytes) → new_table.geometry ≡ table.geometry → (logical : ℕ)
-    → logical < data_sectors_of table.geometry.members table.geometry.chunk table.geometry.stripes → IsPlace table.geometry.members table.geometry.chunk logical member row → (answer : Answer)
+pub whole_if : (old_panel new_panel : Panel) (table new_table : Table) (member row : ℕ) (old new : History) (number new_number : ℕ) (to : Bytes)
+    → new_table.geometry ≡ table.geometry → (logical : ℕ)
+    → logical < data_sectors_of table.geometry.members table.geometry.chunk table.geometry.stripes
+    → IsPlace table.geometry.members table.geometry.chunk logical member row → (answer : Answer)
     → OnOk answer (NoDeviceFailed old_panel new_panel → ReadsValue table new_table member row old new to)
     → OnOk answer (NoDeviceFailed old_panel new_panel → ReadsWhole logical (view_of old_panel old table number) (view_of new_panel new new_table new_number) to)
 whole_if old_panel new_panel table new_table member row old new number new_number to same logical below place (Ok done) read =

@@ -70,7 +70,8 @@ stands_for_nothing spellings devices table number X reads image lost case slot c
     record { known = none_known spellings devices table slot; out = none_is_out spellings devices table slot }
 stands_for_nothing spellings devices table number X reads image lost case slot content may (inr (inl stale)) =
     record { known = stale_known devices table slot content stale; out = stale_is_out devices table slot content stale }
-stands_for_nothing spellings devices table number X reads image lost case slot content may (inr (inr away)) = subst (StandsForNothing devices table slot) (sym away.holds)
+stands_for_nothing spellings devices table number X reads image lost case slot content may (inr (inr away)) =
+    subst (StandsForNothing devices table slot) (sym away.holds)
     record { known = case.known_away slot away.disk may away.listed; out = away_is_out devices table lost case.none_back slot away.disk may away.listed }
 
 -- by its cases, a set at rest is settled
@@ -86,7 +87,8 @@ settled_by_cases : Spellings → (devices : ℕ) (table : Table) (number : ℕ) 
     → IsSettled devices table number h lost (listed_by table (readable h))
 settled_by_cases spellings devices table number X h lost rests = record {
   nothing_pending = rests.quiet.nothing_pending;
-  holds = λ image may. holds_from_core spellings table devices table record { image = image; lost = lost } (listed_by table (readable h) ∷ []) (not_older_same table)
+  holds = λ image may. holds_from_core spellings table devices table record { image = image; lost = lost } (listed_by table (readable h) ∷ [])
+      (not_older_same table)
       (core_at_rest spellings devices table number X (readable h) image lost (rests.cases image may) rests.sound);
   there = rests.quiet.there;
   listed = refl;
@@ -115,12 +117,14 @@ record IsHeld (base table : Table) (devices number : ℕ) (X : List (List Bytes)
   quiet : IsQuiet devices table number h
   held : (image : Slots) → MayLeave h image → Held base devices table X image lost
 
-held_reads : Spellings → (base table : Table) (devices number : ℕ) (X : List (List Bytes)) (h : History) (lost : Option Lost) → IsHeld base table devices number X h lost
+held_reads : Spellings → (base table : Table) (devices number : ℕ) (X : List (List Bytes)) (h : History) (lost : Option Lost)
+    → IsHeld base table devices number X h lost
     → Held base devices table X (readable h) lost × IsRestImage devices table number (readable h) (readable h)
 held_reads spellings base table devices number X h lost is =
     (is.held (readable h) (readable_left h), rest_image spellings devices table number h is.quiet (readable h) (readable_left h))
 
-reads_sound : Spellings → (base table : Table) (devices number : ℕ) (X : List (List Bytes)) (h : History) (lost : Option Lost) → IsHeld base table devices number X h lost
+reads_sound : Spellings → (base table : Table) (devices number : ℕ) (X : List (List Bytes)) (h : History) (lost : Option Lost)
+    → IsHeld base table devices number X h lost
     → AreSound (rows_by table (readable h)) (row_count table)
 reads_sound spellings base table devices number X h lost is =
     let reads = held_reads spellings base table devices number X h lost is in
@@ -129,7 +133,8 @@ reads_sound spellings base table devices number X h lost is =
     sound_alike table rows (rows_by table (readable h)) are.width refl (alike_back table (reads_alike spellings devices table number (readable h) reads.1))
     (reads.0.whole.sound rows are)
 
-reads_listed : Spellings → (base table : Table) (devices number : ℕ) (X : List (List Bytes)) (h : History) (lost : Option Lost) → IsHeld base table devices number X h lost
+reads_listed : Spellings → (base table : Table) (devices number : ℕ) (X : List (List Bytes)) (h : History) (lost : Option Lost)
+    → IsHeld base table devices number X h lost
     → Contains X (listed_by table (readable h))
 reads_listed spellings base table devices number X h lost is =
     let reads = held_reads spellings base table devices number X h lost is in
@@ -164,14 +169,16 @@ lost_is_out table lost out = record {
 }
 
 -- no device that is away comes back
-none_comes_back : Spellings → (base table : Table) (devices number : ℕ) (X : List (List Bytes)) (h : History) (lost : Lost) → IsHeld base table devices number X h (Some lost)
+none_comes_back : Spellings → (base table : Table) (devices number : ℕ) (X : List (List Bytes)) (h : History) (lost : Lost)
+    → IsHeld base table devices number X h (Some lost)
     → IsOut table lost.slot → NoneComesBack devices table (Some lost)
 none_comes_back spellings base table devices number X h lost is out there =
     others_stale spellings devices table lost.slot (readable h lost.slot) lost.away (is.quiet.there lost.slot out.of_set there)
     ((held_reads spellings base table devices number X h (Some lost) is).0.one_counts there)
 
 rests_lost : Spellings → (base table : Table) (devices number : ℕ) (X : List (List Bytes)) (h : History) (before : Option Lost) (lost : Lost)
-    → IsHeld base table devices number X h (Some lost) → IsOut table lost.slot → IsLostAfter before table (Some lost) → Rests base table devices number before X h
+    → IsHeld base table devices number X h (Some lost) → IsOut table lost.slot → IsLostAfter before table (Some lost)
+    → Rests base table devices number before X h
 rests_lost spellings base table devices number X h before lost is out is_lost = record {
   logical = listed_by table (readable h);
   among = reads_listed spellings base table devices number X h (Some lost) is;
@@ -216,20 +223,24 @@ held_alone base devices table X image held slot of_set = record {
 }
 
 -- so the slot that is out is lost
-none_was_lost : Spellings → (base table : Table) (devices number : ℕ) (X : List (List Bytes)) (h : History) (lost : Option Lost) → IsHeld base table devices number X h lost
+none_was_lost : Spellings → (base table : Table) (devices number : ℕ) (X : List (List Bytes)) (h : History) (lost : Option Lost)
+    → IsHeld base table devices number X h lost
     → IsLostAt (slots_of base) None h lost → (slot : ℕ) → IsOut table slot → IsHeld base table devices number X h (Some (alone slot))
 unfolding alone
 none_was_lost spellings base table devices number X h lost is (inl (none, up)) slot out = record {
   quiet = is.quiet;
   held = λ image may. held_alone base devices table X image (subst (Held base devices table X image) none (is.held image may)) slot out.of_set;
 }
-none_was_lost spellings base table devices number X h lost is (inr failure) slot out = subst (IsHeld base table devices number X h) (failure.lost ∙ ap (λ (s : ℕ). Some (alone s)) same) is
+none_was_lost spellings base table devices number X h lost is (inr failure) slot out =
+    subst (IsHeld base table devices number X h) (failure.lost ∙ ap (λ (s : ℕ). Some (alone s)) same) is
   where
     of_set : failure.slot < slots_of table
-    of_set = subst (λ (g : Geometry). failure.slot < g.members + 2) (sym (held_reads spellings base table devices number X h lost is).0.not_older.same_geometry) failure.of_set
+    of_set = subst (λ (g : Geometry). failure.slot < g.members + 2) (sym (held_reads spellings base table devices number X h lost is).0.not_older.same_geometry)
+        failure.of_set
 
     same : failure.slot ≡ slot
-    same = table.allowed.one_out failure.slot slot of_set out.of_set (down_is_out spellings devices table h is.quiet.there failure.slot of_set failure.failed).out out.out
+    same = table.allowed.one_out failure.slot slot of_set out.of_set
+        (down_is_out spellings devices table h is.quiet.there failure.slot of_set failure.failed).out out.out
 
 -- a slot that is lost in a case that holds is the one that is out
 lost_was_out : Spellings → (base table : Table) (devices number : ℕ) (X : List (List Bytes)) (image : Slots) (lost : Lost)
@@ -247,10 +258,12 @@ rests_out : Spellings → (base table : Table) (devices number : ℕ) (X : List 
     → IsLostAt (slots_of base) before h lost → (slot : ℕ) → IsOut table slot → Rests base table devices number before X h
 unfolding alone
 rests_out spellings base table devices number X h None lost is at slot out =
-    rests_lost spellings base table devices number X h None (alone slot) (none_was_lost spellings base table devices number X h lost is at slot out) out (inr (slot, out, refl))
+    rests_lost spellings base table devices number X h None (alone slot) (none_was_lost spellings base table devices number X h lost is at slot out) out
+    (inr (slot, out, refl))
 rests_out spellings base table devices number X h (Some before) lost is (of_set, same, up) slot out =
     let held = subst (IsHeld base table devices number X h) same is in
-    let its = lost_was_out spellings base table devices number X (readable h) before (held_reads spellings base table devices number X h (Some before) held).0 slot out in
+    let its = lost_was_out spellings base table devices number X (readable h) before (held_reads spellings base table devices number X h (Some before) held).0
+    slot out in
     rests_lost spellings base table devices number X h (Some before) before held its (inr (its, refl))
 
 is_held : Spellings → (base table : Table) (devices number : ℕ) (lost : Option Lost) (X : List (List Bytes)) (h : History)

@@ -47,7 +47,8 @@ slot_seen h slot disk nothing up may = ext_get_or [] disk (seen h slot) (may.1 �
     (λ a below. nothing slot a (sector_of disk a) (sector_of (seen h slot) a) up (may.2 a) (up_seen h slot a up))
 
 -- what may be left in its slot is what reads give
-pub content_left : (h : History) (slot : ℕ) (content : Content) → NothingPending h → SlotMayHold h slot content → is_down h slot ≡ false → content ≡ readable h slot
+pub content_left : (h : History) (slot : ℕ) (content : Content) → NothingPending h → SlotMayHold h slot content → is_down h slot ≡ false
+    → content ≡ readable h slot
 content_left h slot None nothing may up = absurd (flags_differ (sym may ∙ up))
   where
     flags_differ : true ≡ false → ⊥
@@ -57,7 +58,8 @@ content_left h slot (Some disk) nothing may up = ap (λ (l : List Bytes). Some l
 pub same_left : (h : History) (image : Slots) (slot : ℕ) → NothingPending h → MayLeave h image → is_down h slot ≡ false → image slot ≡ readable h slot
 same_left h image slot nothing may up =
     let there = is_there h slot image up may in
-    there.1 ∙ ap (λ (l : List Bytes). Some l) (slot_seen h slot there.0 nothing up (subst (SlotMayHold h slot) there.1 (may slot))) ∙ sym (readable_up h slot up)
+    there.1 ∙ ap (λ (l : List Bytes). Some l) (slot_seen h slot there.0 nothing up (subst (SlotMayHold h slot) there.1 (may slot)))
+    ∙ sym (readable_up h slot up)
 
 -- a device on which a superblock counts is up
 counted_is_up : Spellings → (id : List ℕ) (devices slot place : ℕ) (superblock : Superblock) (h : History)
@@ -84,7 +86,8 @@ entry_stays : (devices : ℕ) (table : Table) (number : ℕ) (reads image : Slot
 entry_stays devices table number reads image same entry = record {
   last = entry.last;
   numbered = entry.numbered;
-  sealed = λ journal live. subst (λ (c : Content). IsLastSealed table.id table.geometry c entry.last) (sym (here journal live)) (entry.sealed journal (before journal live));
+  sealed = λ journal live. subst (λ (c : Content). IsLastSealed table.id table.geometry c entry.last) (sym (here journal live))
+      (entry.sealed journal (before journal live));
   bodies = λ journal seal live is row member sector below within has.
       entry.bodies journal seal (before journal live) is row member sector below within
       (subst (λ (c : Content). sector_in table.geometry.members c seal row member ≡ Some sector) (here journal live) has)
@@ -118,7 +121,8 @@ rest_image spellings devices table number h quiet image may = record {
 abbrev pub Held : (base : Table) (devices : ℕ) (table : Table) (X : List (List Bytes)) (image : Slots) (lost : Option Lost) → Type 0
 Held base devices table X image lost = HoldsBy base devices table X record { image = image; lost = lost }
 
-pub held_by : (base : Table) (devices : ℕ) (image : Slots) (lost : Option Lost) (X : List (List Bytes)) (holds : Holds base devices record { image = image; lost = lost } X)
+pub held_by : (base : Table) (devices : ℕ) (image : Slots) (lost : Option Lost) (X : List (List Bytes))
+    (holds : Holds base devices record { image = image; lost = lost } X)
     → Held base devices holds.table X image lost
 held_by base devices image lost X holds = by_own_table base devices X record { image = image; lost = lost } holds
 
@@ -192,7 +196,8 @@ one_table spellings base devices table other X h image lost has =
 
     counts : Counts other.id devices mine.slot (image mine.slot) mine.place mine.best
     counts = subst (λ (i : List ℕ). Counts i devices mine.slot (image mine.slot) mine.place mine.best) (sym has.held.not_older.same_id)
-        (subst (λ (c : Content). Counts base.id devices mine.slot c mine.place mine.best) (sym (same_left h image mine.slot has.nothing_pending has.left up)) mine.counted)
+        (subst (λ (c : Content). Counts base.id devices mine.slot c mine.place mine.best) (sym (same_left h image mine.slot has.nothing_pending has.left up))
+        mine.counted)
 
     newest : mine.best.table.generation ≤ other.generation
     newest = has.held.whole.chosen.greatest mine.slot mine.place mine.best counts

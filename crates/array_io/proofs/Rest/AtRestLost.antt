@@ -113,7 +113,8 @@ pub record RestCase (devices : ℕ) (table : Table) (number : ℕ) (X : List (Li
 abbrev pub listed_by : Table → Slots → List Bytes
 listed_by table reads = logical_list table.geometry (rows_by table reads)
 
-in_full_at_rest : (devices : ℕ) (table : Table) (number : ℕ) (reads image : Slots) → IsRestImage devices table number reads image → (slot : ℕ) → slot < slots_of table
+in_full_at_rest : (devices : ℕ) (table : Table) (number : ℕ) (reads image : Slots) → IsRestImage devices table number reads image → (slot : ℕ)
+    → slot < slots_of table
     → state_at table.states slot ≡ InSync → IsInFull devices table slot (image slot)
 in_full_at_rest devices table number reads image rest slot of_set in_sync =
     record { live = rest.live slot of_set (λ missing. in_sync_not_missing (sym in_sync ∙ missing)); in_sync = in_sync }
@@ -123,11 +124,12 @@ decided_at_rest : (devices : ℕ) (table : Table) (number : ℕ) (X : List (List
     → RestCase devices table number X reads image lost
     → (slot : ℕ) (disk : List Bytes) → MayBeOut lost slot → Contains (option_to_list (image slot) ++ away_of lost) disk
     → IsLive devices table slot (Some disk) ⊎ ¬ IsLive devices table slot (Some disk)
-decided_at_rest devices table number X reads image lost case slot disk may among = elim (Contains-append_cases (option_to_list (image slot)) (away_of lost) disk among) [
-  | inl there ↦ subst (λ (c : Content). IsLive devices table slot c ⊎ ¬ IsLive devices table slot c) (stands_there (image slot) disk there)
-      (rest_decided devices table image case.rest.live slot)
-  | inr away ↦ inr (away_is_out devices table lost case.none_back slot disk may away)
-]
+decided_at_rest devices table number X reads image lost case slot disk may among =
+    elim (Contains-append_cases (option_to_list (image slot)) (away_of lost) disk among) [
+      | inl there ↦ subst (λ (c : Content). IsLive devices table slot c ⊎ ¬ IsLive devices table slot c) (stands_there (image slot) disk there)
+          (rest_decided devices table image case.rest.live slot)
+      | inr away ↦ inr (away_is_out devices table lost case.none_back slot disk may away)
+    ]
 
 -- the core of a case at rest, in sound rows
 pub core_at_rest : Spellings → (devices : ℕ) (table : Table) (number : ℕ) (X : List (List Bytes)) (reads image : Slots) (lost : Option Lost)

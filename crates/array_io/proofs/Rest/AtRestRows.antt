@@ -48,7 +48,10 @@ trusts_tells Missing row position = (λ is. absurd (differ is), λ tells. absurd
     differ : ¬ (false ≡ true)
     differ e = cc
 trusts_tells InSync row position = (λ _. record { there = in_sync_not_missing; rebuilt = λ is. absurd (in_sync_not_rebuilding is) }, λ _. refl)
-trusts_tells Rebuilding row position = (λ is. record { there = differ; rebuilt = λ _. below row position is }, λ tells. below_is row position (tells.rebuilt refl))
+trusts_tells Rebuilding row position = (
+  λ is. record { there = differ; rebuilt = λ _. below row position is },
+  λ tells. below_is row position (tells.rebuilt refl),
+)
   where
     differ : ¬ (Rebuilding ≡ Missing)
     differ e = cc
@@ -101,7 +104,8 @@ module _ (spellings : Spellings) (devices : ℕ) (table : Table) (number : ℕ) 
     (are : AreRowsBy devices table among image rows) where
   own : (row member : ℕ) → member < table.geometry.members → rows.trusted row member ≡ true → (rows_by table reads).own row member ≡ rows.own row member
   own row member within counts =
-      ap (λ (c : Content). sector_of (disk_of c) (FIRST_ROW + row)) (sym (rest.same member (omega (arith, within)) ((are.trust row member within).0 counts).live.not_missing))
+      ap (λ (c : Content). sector_of (disk_of c) (FIRST_ROW + row))
+      (sym (rest.same member (omega (arith, within)) ((are.trust row member within).0 counts).live.not_missing))
       ∙ sym (are.own_sector row member within)
 
   tests : (row member : ℕ) → member < table.geometry.members → trusts (state_at table.states member) row table.position ≡ rows.trusted row member
@@ -114,7 +118,8 @@ module _ (spellings : Spellings) (devices : ℕ) (table : Table) (number : ℕ) 
       → sector ≡ value (rows_by table reads) row member
   sector_is_value row member sector below within has = by_last are.last are.is_last (sym (are.in_entry row member) ∙ has)
     where
-      by_last : (last : Option Entry) → IsLastEntry table.id table.geometry among image last → sector_of_last table.geometry.members image last row member ≡ Some sector
+      by_last : (last : Option Entry) → IsLastEntry table.id table.geometry among image last
+          → sector_of_last table.geometry.members image last row member ≡ Some sector
           → sector ≡ value (rows_by table reads) row member
       by_last None none stands = absurd (none-some sector stands)
       by_last (Some entry) latest stands =
@@ -138,7 +143,8 @@ module _ (spellings : Spellings) (devices : ℕ) (table : Table) (number : ℕ) 
         counts : rows.trusted row member ≡ true
         counts = sym (tests row member within) ∙ trusted
 
-        of_entry : (entry : Option Bytes) → rows.entry row member ≡ entry → direct rows row member ≡ direct_of entry (rows.trusted row member) (rows.own row member)
+        of_entry : (entry : Option Bytes) → rows.entry row member ≡ entry
+            → direct rows row member ≡ direct_of entry (rows.trusted row member) (rows.own row member)
         of_entry entry is = ap (λ (e : Option Bytes). direct_of e (rows.trusted row member) (rows.own row member)) is
 
         by_entry : (entry : Option Bytes) → rows.entry row member ≡ entry → direct rows row member ≡ Some ((rows_by table reads).own row member)
@@ -152,7 +158,8 @@ module _ (spellings : Spellings) (devices : ℕ) (table : Table) (number : ℕ) 
     same_sum : (member : ℕ) → member < table.geometry.members → trusts (state_at table.states member) row table.position ≡ false
         → from_others (rows_by table reads) row member ≡ from_others rows row member
     same_sum member within out =
-        ap xor_of_all (map-others (λ other. known (rows_by table reads) row other) (λ other. known rows row other) member 0 table.geometry.members (λ other inside apart.
+        ap xor_of_all (map-others (λ other. known (rows_by table reads) row other) (λ other. known rows row other) member 0 table.geometry.members
+        (λ other inside apart.
         let of_set : other < table.geometry.members = omega (arith, inside) in
         let trusted = trusted_apart table row member other within of_set apart out in
         ap (λ (o : Option Bytes). unwrap_or o zero_sector) (own_known other trusted ∙ sym (same_known other of_set trusted))))
@@ -186,5 +193,6 @@ has_rows_at_rest spellings devices table number reads image rest sound among liv
   sound = λ rows are. sound_alike table (rows_by table reads) rows refl are.width
       (alike_at_rest spellings devices table number reads image rest among live rows are) sound;
   listed = λ rows are. subst (Contains (logical_list table.geometry (rows_by table reads) ∷ []))
-      (alike_at_rest spellings devices table number reads image rest among live rows are).lists (Contains-push [] (logical_list table.geometry (rows_by table reads)));
+      (alike_at_rest spellings devices table number reads image rest among live rows are).lists
+      (Contains-push [] (logical_list table.geometry (rows_by table reads)));
 }

@@ -31,7 +31,8 @@ no_entry_at_rest devices table image no_entry = record {
 }
 
 -- two greatest seals of one journal are one
-greatest_is_one : Spellings → (id : List ℕ) (geometry : Geometry) (content : Content) (first second : Seal) → IsGreatest id geometry content first → IsGreatest id geometry content second
+greatest_is_one : Spellings → (id : List ℕ) (geometry : Geometry) (content : Content) (first second : Seal) → IsGreatest id geometry content first
+    → IsGreatest id geometry content second
     → first ≡ second
 greatest_is_one spellings id geometry content first second one two =
     let below : second.number ≤ first.number = one.greatest two.place second two.counted in
@@ -62,7 +63,12 @@ module _ (spellings : Spellings) (devices : ℕ) (table : Table) (number : ℕ) 
     | inl same ↦ absurd (out (subst (IsLive devices table slot) (put_there image slot content)
         (subst (λ (k : ℕ). IsLive devices table k (with_slot image slot content k)) same live.live)))
     | inr apart ↦ let stays = put_elsewhere image slot content journal apart in
-        number_at_rest journal last record { beyond_members = live.beyond_members; of_set = live.of_set; live = subst (IsLive devices table journal) stays live.live }
+        number_at_rest journal last record {
+          beyond_members = live.beyond_members;
+          of_set = live.of_set;
+          live =
+              subst (IsLive devices table journal) stays live.live;
+        }
         (subst (λ (c : Content). IsLastSealed table.id table.geometry c last) stays is)
   ]
 
@@ -78,7 +84,8 @@ module _ (spellings : Spellings) (devices : ℕ) (table : Table) (number : ℕ) 
       entry.bodies first seal live is row member (sector_of (disk_of (image first)) place) below within (here first)
       ∙ sym (entry.bodies second seal live' is row member (sector_of (disk_of (image second)) place) below within (here second)))
 
-  in_step_by : (first second : ℕ) → IsLiveJournal devices table image first → IsLiveJournal devices table image second → (last : Option Seal) → entry.last ≡ last
+  in_step_by : (first second : ℕ) → IsLiveJournal devices table image first → IsLiveJournal devices table image second → (last : Option Seal)
+      → entry.last ≡ last
       → IsLastSealed table.id table.geometry (image first) last → AreInStep table.geometry.members (image first) (image second) last last
   in_step_by first second live live' None is sealed = tt
   in_step_by first second live live' (Some seal) is sealed = inl (refl, equal_bodies first second seal live live' is sealed)

@@ -34,7 +34,8 @@ module _ (spellings : Spellings) (devices : ℕ) (table : Table) (image : Slots)
     on_live = live;
     sealed = subst (IsLastSealed table.id table.geometry (image journal)) is (one.sealed journal live);
     greatest = λ other found there greatest.
-        let same : found ≡ seal = same_seal (sealed_is_one spellings table.id table.geometry (image other) (Some found) one.last greatest (one.sealed other there)) in
+        let same : found ≡ seal = same_seal (sealed_is_one spellings table.id table.geometry (image other) (Some found) one.last greatest
+        (one.sealed other there)) in
         subst (λ (s : Seal). s.number ≤ seal.number) (sym same) (omega arith);
     lowest = λ other found there greatest equal. lowest other there;
   }

@@ -29,14 +29,16 @@ flags_differ e = cc
 none_some : (one : Lost) → ¬ (None ≡ Some one)
 none_some one e = cc
 
-module _ (spellings : Spellings) (honest : Type 0) (fair : honest) (old new : ArrayView) (ended : Type 0) (goes_on : GoesOn old new) (stays : StaysButForFailures honest old new ended) (open_still : ¬ ended)
+module _ (spellings : Spellings) (honest : Type 0) (fair : honest) (old new : ArrayView) (ended : Type 0) (goes_on : GoesOn old new)
+    (stays : StaysButForFailures honest old new ended) (open_still : ¬ ended)
     (true_old : IsTrueTo old.panel old.history) (true_new : IsTrueTo new.panel new.history) where
   same_set : slots_of new.table ≡ slots_of old.table
   same_set = ap (λ (g : Geometry). g.members + 2) goes_on.not_older.same_geometry
 
   -- a slot that was in sync and is down now is missing
   module _ (lost : Option Lost) (V : List Bytes) (rests : RestsOn old lost V) where
-    missing_now : (slot : ℕ) → slot < slots_of old.table → state_at old.table.states slot ≡ InSync → is_down new.history slot ≡ true → state_at new.table.states slot ≡ Missing
+    missing_now : (slot : ℕ) → slot < slots_of old.table → state_at old.table.states slot ≡ InSync → is_down new.history slot ≡ true
+        → state_at new.table.states slot ≡ Missing
     missing_now slot of_set in_sync down = stays.failure fair open_still slot of_set record {
       was_up = true_old.down slot
           ∙ live_is_up spellings old.panel.devices old.table old.history slot (rests.there slot of_set (λ gone. states_differ (sym gone ∙ in_sync)));
@@ -44,10 +46,12 @@ module _ (spellings : Spellings) (honest : Type 0) (fair : honest) (old new : Ar
     }
 
     -- so it is the one that was marked
-    marked_now : (has : HasLostOne old new) → (slot : ℕ) → slot < slots_of old.table → state_at old.table.states slot ≡ InSync → is_down new.history slot ≡ true → slot ≡ has.slot
+    marked_now : (has : HasLostOne old new) → (slot : ℕ) → slot < slots_of old.table → state_at old.table.states slot ≡ InSync → is_down new.history slot ≡ true
+        → slot ≡ has.slot
     marked_now has slot of_set in_sync down = elim (cases_eq slot has.slot) [
       | inl same ↦ same
-      | inr apart ↦ absurd (states_differ (sym (missing_now slot of_set in_sync down) ∙ state_stays old.table new.table has.slot has.marked slot apart ∙ in_sync))
+      | inr apart ↦ absurd (states_differ (sym (missing_now slot of_set in_sync down) ∙ state_stays old.table new.table has.slot has.marked slot apart
+          ∙ in_sync))
     ]
 
     up_unless : (slot : ℕ) → ¬ (is_down new.history slot ≡ true) → is_down new.history slot ≡ false
@@ -97,12 +101,14 @@ module _ (spellings : Spellings) (honest : Type 0) (fair : honest) (old new : Ar
   marked_is_out : (one : ℕ) → IsOut old.table one → (has : HasLostOne old new) → has.slot ≡ one
   marked_is_out one out has = elim (cases_eq one has.slot) [
     | inl same ↦ sym same
-    | inr apart ↦ new.table.allowed.one_out has.slot one (subst (λ (n : ℕ). has.slot < n) (sym same_set) has.of_set) (subst (λ (n : ℕ). one < n) (sym same_set) out.of_set)
+    | inr apart ↦ new.table.allowed.one_out has.slot one (subst (λ (n : ℕ). has.slot < n) (sym same_set) has.of_set)
+        (subst (λ (n : ℕ). one < n) (sym same_set) out.of_set)
         (λ in_sync. states_differ (sym (missing_then old.table new.table has.slot has.marked has.of_set) ∙ in_sync))
         (λ in_sync. out.out (sym (state_stays old.table new.table has.slot has.marked one apart) ∙ in_sync))
   ]
 
-  from_out : (V : List Bytes) (lost : Lost) → RestsOn old (Some lost) V → IsOut old.table lost.slot → IsSingleFailure (slots_of old.table) (Some lost) new.history
+  from_out : (V : List Bytes) (lost : Lost) → RestsOn old (Some lost) V → IsOut old.table lost.slot
+      → IsSingleFailure (slots_of old.table) (Some lost) new.history
   from_out V lost rests out = (
     Some lost,
     (
@@ -111,7 +117,8 @@ module _ (spellings : Spellings) (honest : Type 0) (fair : honest) (old new : Ar
       λ slot of_set apart.
           let in_sync = others_in_sync lost.slot slot out of_set apart in
           up_unless (Some lost) V rests slot (λ down. elim stays.table [
-            | inl same ↦ states_differ (sym (missing_now (Some lost) V rests slot of_set in_sync down) ∙ ap (λ (t : Table). state_at t.states slot) same ∙ in_sync)
+            | inl same ↦ states_differ (sym (missing_now (Some lost) V rests slot of_set in_sync down) ∙ ap (λ (t : Table). state_at t.states slot) same
+                ∙ in_sync)
             | inr has ↦ apart (marked_now (Some lost) V rests has slot of_set in_sync down ∙ marked_is_out lost.slot out has)
           ]),
     ),
@@ -122,7 +129,8 @@ module _ (spellings : Spellings) (honest : Type 0) (fair : honest) (old new : Ar
     of_set = subst (λ (n : ℕ). one < n) (sym same_set) out.of_set;
     out = λ in_sync. elim stays.table [
       | inl same ↦ out.out (ap (λ (t : Table). state_at t.states one) (sym same) ∙ in_sync)
-      | inr has ↦ states_differ (sym (missing_then old.table new.table has.slot has.marked has.of_set) ∙ ap (state_at new.table.states) (marked_is_out one out has) ∙ in_sync)
+      | inr has ↦ states_differ (sym (missing_then old.table new.table has.slot has.marked has.of_set)
+          ∙ ap (state_at new.table.states) (marked_is_out one out has) ∙ in_sync)
     ];
   }
 

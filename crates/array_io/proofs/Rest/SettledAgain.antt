@@ -71,7 +71,8 @@ module _ (spellings : Spellings) (devices : ℕ) (base table : Table) (lost : Op
       let now = none_lost complete loss.0 (subst (λ (l : Option Lost). IsLostAt (slots_of base) l h loss.0) none loss.1) loss.1 in
       (from.chosen loss.0 loss.1).weakened image slot None may (subst (λ (l : Option Lost). MayBeOut l slot) (sym now) tt) (inl refl)
 
-  resting : (number : ℕ) → HasEntryAtRest devices table number (readable h) → IsSingleFailure (slots_of base) lost h → LeavesSectors h → IsResting base table devices number lost X h
+  resting : (number : ℕ) → HasEntryAtRest devices table number (readable h) → IsSingleFailure (slots_of base) lost h → LeavesSectors h
+      → IsResting base table devices number lost X h
   resting number entry loss leaves = record {
     nothing_pending = from.nothing_pending;
     holds = from.holds;
@@ -86,12 +87,14 @@ module _ (spellings : Spellings) (devices : ℕ) (base table : Table) (lost : Op
   pub settled_again : (number : ℕ) → HasEntryAtRest devices table number (readable h) → IsSingleFailure (slots_of base) lost h → LeavesSectors h
       → (IsComplete table → lost ≡ None) → Rests base table devices number lost X h
   settled_again number entry loss leaves none =
-      rests_by_choice spellings base table devices number lost X h (resting number entry loss leaves) (λ complete. chosen_without_any complete (none complete) loss)
+      rests_by_choice spellings base table devices number lost X h (resting number entry loss leaves)
+      (λ complete. chosen_without_any complete (none complete) loss)
 
   -- or each slot carries the table
   pub settled_again_carried : (number : ℕ) → HasEntryAtRest devices table number (readable h) → IsSingleFailure (slots_of base) lost h → LeavesSectors h
       → (IsComplete table → CarriesAll table (readable h)) → Rests base table devices number lost X h
-  settled_again_carried number entry loss leaves carried = at_rest_is_settled spellings base table devices number lost X h (resting number entry loss leaves) carried
+  settled_again_carried number entry loss leaves carried =
+      at_rest_is_settled spellings base table devices number lost X h (resting number entry loss leaves) carried
 
 -- which slot is lost stays, where the one that was lost is the one that the table lacks
 pub lost_stays : (table : Table) (before after : Option Lost) → IsLostSlot table before → IsLostAfter before table after → after ≡ before
@@ -110,7 +113,8 @@ rests_one panel devices number base table lost V h same_devices rests =
     record {
       lost = rests.lost;
       is_lost = rests.is_lost;
-      rests = subst (λ (n : ℕ). IsSettled n table number h rests.lost V) (sym same_devices) (subst (IsSettled devices table number h rests.lost) same rests.settled);
+      rests = subst (λ (n : ℕ). IsSettled n table number h rests.lost V) (sym same_devices)
+          (subst (IsSettled devices table number h rests.lost) same rests.settled);
     }
   where
     one_of : (V other : List Bytes) → Contains (V ∷ []) other → other ≡ V

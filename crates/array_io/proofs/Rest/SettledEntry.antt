@@ -48,7 +48,8 @@ module _ (spellings : Spellings) (devices : ℕ) (table : Table) (number : ℕ) 
   settled_holds : HoldsIn devices table (V ∷ []) (readable h)
   settled_holds =
       let case = settled.holds (readable h) (readable_left h) in
-      subst (λ (t : Table). HoldsIn devices t (V ∷ []) (readable h)) (sym (settled_table table devices table number h lost V lost (V ∷ []) refl settled case)) case.whole
+      subst (λ (t : Table). HoldsIn devices t (V ∷ []) (readable h)) (sym (settled_table table devices table number h lost V lost (V ∷ []) refl settled case))
+      case.whole
 
   -- one of the two journals is live
   live_one : (journal : ℕ) × IsLiveJournal devices table (readable h) journal

@@ -1,5 +1,6 @@
 -- What may stand in a slot while a table is published: what might stand there before, or that with the new superblock in its place.
-use Rattle.std.proofs.Common.{◌≡◌, ◌≢◌, ◌⊎◌, inl, inr, ℕ, ◌+◌, ◌%◌, ◌<◌, ◌≤◌, Bool, true, false, List, [], length, Option, Some, None, refl, sym, ◌∙◌, ap, subst, arith}
+use Rattle.std.proofs.Common.{◌≡◌, ◌≢◌, ◌⊎◌, inl, inr, ℕ, ◌+◌, ◌%◌, ◌<◌, ◌≤◌, Bool, true, false, List, [], length, Option, Some, None, refl, sym, ◌∙◌, ap}
+use Rattle.std.proofs.Common.{subst, arith}
 use Rattle.std.specs.Prelude.{slice_set}
 use Rattle.std.proofs.lemmas.Bool.{cases_eq, cases_lt}
 use Rattle.std.proofs.lemmas.List.{get_or_past, get_or-set_same, get_or-set_other, length-set}
@@ -134,7 +135,8 @@ replaced_before new last sectors old h publish slot disk may gets up within stan
     λ a. elim (cases_eq a place) [
       | inl is ↦ subst (λ (k : ℕ). MayHold old slot k (sector_of (slice_set disk place value) k)) (sym is)
           (subst (MayHold old slot place) (sym (get_or-set_same disk place value [] within)) (up_seen old slot place up))
-      | inr apart ↦ subst (MayHold old slot a) (sym (get_or-set_other disk place a value [] apart)) (other_sector new last sectors old h publish slot disk may.2 a apart)
+      | inr apart ↦ subst (MayHold old slot a) (sym (get_or-set_other disk place a value [] apart))
+          (other_sector new last sectors old h publish slot disk may.2 a apart)
     ],
   );
   is = inr record {
@@ -153,7 +155,8 @@ replaced_before new last sectors old h publish slot disk may gets up within stan
 
 -- What a moment may leave in a slot stood there before, but for the new superblock at most; or the slot is empty.
 pub slot_or_none : Spellings → (new : Table) (last : Option ℕ) (sectors : ℕ → Bytes) (old h : History) → IsInPublish new last sectors old h → (slot : ℕ)
-    → (GetsIt new last slot → StandsAt new slot (sectors slot)) → (GetsIt new last slot → is_down old slot ≡ false) → (after : Content) → SlotMayHold h slot after
+    → (GetsIt new last slot → StandsAt new slot (sectors slot)) → (GetsIt new last slot → is_down old slot ≡ false) → (after : Content)
+    → SlotMayHold h slot after
     → (after ≡ None) ⊎ WasBefore new last sectors old slot after
 slot_or_none spellings new last sectors old h publish slot spelled up None may = inl refl
 slot_or_none spellings new last sectors old h publish slot spelled up (Some disk) may =
@@ -183,7 +186,8 @@ slot_before spellings new last sectors old h publish slot spelled up after may =
     ]
 
 -- after the superblocks the contents agree
-pub agree_before : (new : Table) (last : Option ℕ) (sectors : ℕ → Bytes) (slot : ℕ) (before after : Content) → IsBefore new last sectors slot before after → AgreeBeyond before after
+pub agree_before : (new : Table) (last : Option ℕ) (sectors : ℕ → Bytes) (slot : ℕ) (before after : Content) → IsBefore new last sectors slot before after
+    → AgreeBeyond before after
 agree_before new last sectors slot before after (inl same) = subst (AgreeBeyond before) same (agree_same before)
 agree_before new last sectors slot before after (inr replaced) = record {
   same = λ at beyond. sym (replaced.others at (λ is. absurd (omega (arith, is, beyond))));

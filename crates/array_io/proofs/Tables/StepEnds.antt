@@ -1,5 +1,7 @@
--- How publishing a table ends that differs in the lost slot alone, whose device comes last: the array is settled by the next table, or that device failed, or neither.
-use Rattle.std.proofs.Common.{◌≡◌, ◌≢◌, inl, inr, ℕ, ◌<◌, ◌≤◌, Bool, true, false, List, [], ◌∷◌, length, Contains, Option, Some, None, Result, Ok, Err, refl, sym, ◌∙◌, ap, subst, arith}
+-- How publishing a table ends that differs in the lost slot alone, whose device comes last: the array is settled by the next table, or that device failed, or
+-- neither.
+use Rattle.std.proofs.Common.{◌≡◌, ◌≢◌, inl, inr, ℕ, ◌<◌, ◌≤◌, Bool, true, false, List, [], ◌∷◌, length, Contains, Option, Some, None, Result, Ok, Err, refl}
+use Rattle.std.proofs.Common.{sym, ◌∙◌, ap, subst, arith}
 use Rattle.std.specs.Prelude.{is_ok}
 use Rattle.std.proofs.lemmas.Bool.{cases_eq}
 use Rattle.std.proofs.lemmas.List.Elements.{Contains-append_left}
@@ -65,7 +67,8 @@ one_fails (call ∷ calls) answered old new failure other (inr (there, rest)) up
 
 -- the publish
 
-module _ (spellings : Spellings) (honest : Type 0) (devices number : ℕ) (table next : Table) (slot : ℕ) (one : Lost) (V : List Bytes) (old_panel new_panel : Panel) (mid new : History)
+module _ (spellings : Spellings) (honest : Type 0) (devices number : ℕ) (table next : Table) (slot : ℕ) (one : Lost) (V : List Bytes)
+    (old_panel new_panel : Panel) (mid new : History)
     (result : Result (Unit {0}) Stop) (published : Publishes honest next (Some slot) old_panel new_panel mid new result)
     (from : TakesFrom devices number table next slot one V published.sectors mid) (is_honest : honest) where
   abbrev sectors : ℕ → Bytes
@@ -86,7 +89,8 @@ module _ (spellings : Spellings) (honest : Type 0) (devices number : ℕ) (table
   publishing : Throughout (IsInPublish next (Some slot) sectors mid) mid new
   publishing = in_publish next (Some slot) sectors (is_ok result) mid new (published.made is_honest)
 
-  is_stepping : (h : History) → IsInPublish next (Some slot) sectors mid h → ChooseEither devices table next one h → IsStepping devices table next slot (Some slot) one (V ∷ []) sectors mid h
+  is_stepping : (h : History) → IsInPublish next (Some slot) sectors mid h → ChooseEither devices table next one h
+      → IsStepping devices table next slot (Some slot) one (V ∷ []) sectors mid h
   is_stepping h publish either = record {
     steps = from.steps;
     own = from.own;
@@ -98,10 +102,12 @@ module _ (spellings : Spellings) (honest : Type 0) (devices number : ℕ) (table
   }
 
   stepping : Throughout (IsStepping devices table next slot (Some slot) one (V ∷ []) sectors mid) mid new
-  stepping = throughout_more (λ h both. is_stepping h both.0 both.1) new (throughout_both new publishing (published.moments is_honest devices table one may_publish))
+  stepping = throughout_more (λ h both. is_stepping h both.0 both.1) new
+      (throughout_both new publishing (published.moments is_honest devices table one may_publish))
 
   holds_at_first : HoldsNow table devices (Some one) (V ∷ []) mid
-  holds_at_first after image lost_at may = subst (λ (l : Option Lost). Holds table devices record { image = image; lost = l } (V ∷ [])) (sym lost_at.1) (from.settled.holds image may)
+  holds_at_first after image lost_at may = subst (λ (l : Option Lost). Holds table devices record { image = image; lost = l } (V ∷ [])) (sym lost_at.1)
+      (from.settled.holds image may)
 
   -- at each moment all cases hold
   pub takes_throughout : HoldsThroughout table devices (Some one) (V ∷ []) mid new
@@ -124,7 +130,8 @@ module _ (spellings : Spellings) (honest : Type 0) (devices number : ℕ) (table
       same_some a b is = cc
 
   -- nothing is pending on devices that are up, where the table is safe on those that are
-  pending_none : ((other : ℕ) → GetsIt next (Some slot) other → is_down new other ≡ false → IsSafeAt new other (place_of next) (sectors other)) → NothingPending new
+  pending_none : ((other : ℕ) → GetsIt next (Some slot) other → is_down new other ≡ false → IsSafeAt new other (place_of next) (sectors other))
+      → NothingPending new
   pending_none safe device at first second up may may' = elim (last.holds device at first may) [
     | inr is_new ↦ both is_new
     | inl before ↦ elim (last.holds device at second may') [
@@ -140,7 +147,8 @@ module _ (spellings : Spellings) (honest : Type 0) (devices number : ℕ) (table
       both is_new = safe_there is_new first may ∙ sym (safe_there is_new second may')
 
   -- where the other devices are up, and have the table for sure
-  module _ (up : OthersAreUp (slots_of table) new slot) (safe : (other : ℕ) → Contains (first_slots next (Some slot)) other → IsSafeAt new other (place_of next) (sectors other)) where
+  module _ (up : OthersAreUp (slots_of table) new slot) (safe : (other : ℕ) → Contains (first_slots next (Some slot)) other
+      → IsSafeAt new other (place_of next) (sectors other)) where
     pub chosen_then : InEachImage devices next new (Some one) (λ image. IsChosen next.id devices image next)
     chosen_then =
         let other = other_first next (Some slot) slot refl in
@@ -161,11 +169,16 @@ module _ (spellings : Spellings) (honest : Type 0) (devices number : ℕ) (table
     others_there = λ other counted apart.
         live_there spellings devices number table next slot one V sectors mid from new last up (readable new) (readable_left new) (reads_chosen up safe) other
         (omega (arith, counted.of_set, same_slots spellings devices table next slot (Some slot) sectors from.steps)) apart;
-    counted = record { of_set = omega (arith, from.steps.step.of_set, same_slots spellings devices table next slot (Some slot) sectors from.steps); there = from.there };
+    counted = record {
+      of_set = omega (arith, from.steps.step.of_set, same_slots spellings devices table next slot (Some slot) sectors from.steps);
+      there =
+          from.there;
+    };
     down = down;
     same_id = from.steps.step.same_id;
     holds = throughout_last new takes_throughout;
-    chosen = λ after lost_at. subst (λ (l : Option Lost). InEachImage devices next new l (λ image. IsChosen next.id devices image next)) (sym lost_at.1) (chosen_then up safe);
+    chosen = λ after lost_at. subst (λ (l : Option Lost). InEachImage devices next new l (λ image. IsChosen next.id devices image next)) (sym lost_at.1)
+        (chosen_then up safe);
   }
     where
       safe : (other : ℕ) → Contains (first_slots next (Some slot)) other → IsSafeAt new other (place_of next) (sectors other)
@@ -200,16 +213,18 @@ module _ (spellings : Spellings) (honest : Type 0) (devices number : ℕ) (table
     slot_up = same_down slot ∙ from.up
 
     reads_after : IsAfter spellings devices number table next slot one V sectors mid from (readable new)
-    reads_after = elim (after_or_none spellings devices number table next slot one V sectors mid from new last up_then (readable new) (readable_left new) now_chosen) [
-      | inl none ↦ absurd (not_none (sym (readable_up new slot slot_up) ∙ none))
-      | inr is ↦ is
-    ]
+    reads_after = elim (after_or_none spellings devices number table next slot one V sectors mid from new last up_then (readable new) (readable_left new)
+        now_chosen) [
+          | inl none ↦ absurd (not_none (sym (readable_up new slot slot_up) ∙ none))
+          | inr is ↦ is
+        ]
       where
         not_none : Some (seen new slot) ≡ None → ⊥
         not_none is = cc
 
     -- what reads give of a device that got the table
-    stands_then : (other : ℕ) → GetsIt next (Some slot) other → is_down new other ≡ false → sector_of (disk_of (readable new other)) (place_of next) ≡ sectors other
+    stands_then : (other : ℕ) → GetsIt next (Some slot) other → is_down new other ≡ false
+        → sector_of (disk_of (readable new other)) (place_of next) ≡ sectors other
     stands_then other gets up = ap (λ (c : Content). sector_of (disk_of c) (place_of next)) (readable_up new other up)
         ∙ safe_then other gets (sector_of (seen new other) (place_of next)) (up_seen new other (place_of next) up)
 
@@ -237,10 +252,13 @@ module _ (spellings : Spellings) (honest : Type 0) (devices number : ℕ) (table
           let of_old : other < slots_of table = omega (arith, of_set, same_slots spellings devices table next slot (Some slot) sectors from.steps) in
           elim (cases_eq other slot) [
             | inl same ↦ subst (λ (k : ℕ). StandsAt next k (sector_of (disk_of (readable new k)) (place_of next))) (sym same)
-                (subst (StandsAt next slot) (sym (stands_then slot (gets_last next slot) slot_up)) (spelled_there spellings devices table next slot (Some slot) sectors from.steps slot (gets_last next slot)))
+                (subst (StandsAt next slot) (sym (stands_then slot (gets_last next slot) slot_up))
+                (spelled_there spellings devices table next slot (Some slot) sectors from.steps slot (gets_last next slot)))
             | inr apart ↦
-                let gets : GetsIt next (Some slot) other = Contains-append_left (first_slots next (Some slot)) (slot ∷ []) other (gets_other other of_old apart) in
-                subst (StandsAt next other) (sym (stands_then other gets (up_then other of_old apart))) (spelled_there spellings devices table next slot (Some slot) sectors from.steps other gets)
+                let gets : GetsIt next (Some slot) other =
+                Contains-append_left (first_slots next (Some slot)) (slot ∷ []) other (gets_other other of_old apart) in
+                subst (StandsAt next other) (sym (stands_then other gets (up_then other of_old apart)))
+                (spelled_there spellings devices table next slot (Some slot) sectors from.steps other gets)
           ];
     }
 
@@ -249,7 +267,14 @@ module _ (spellings : Spellings) (honest : Type 0) (devices number : ℕ) (table
     takes_rests leaves = at_rest_is_settled spellings table next devices number (Some one) (V ∷ []) new record {
       nothing_pending = pending_none (λ other gets up. safe_then other gets);
       holds = throughout_last new takes_throughout;
-      single_failure = (Some one, (subst (λ (k : ℕ). k < slots_of table) (sym from.own) from.steps.step.of_set, refl, λ other of_set apart. up_then other of_set (λ same. apart (same ∙ sym from.own))));
+      single_failure = (
+        Some one,
+        (
+          subst (λ (k : ℕ). k < slots_of table) (sym from.own) from.steps.step.of_set,
+          refl,
+          λ other of_set apart. up_then other of_set (λ same. apart (same ∙ sym from.own)),
+        ),
+      );
       chosen = subst (λ (i : List ℕ). IsChosen i devices (readable new) next) from.steps.step.same_id now_chosen;
       there = there_then;
       entry = entry_after spellings devices number table next slot one V sectors mid from (readable new) reads_after;

@@ -32,7 +32,8 @@ pub record StepsSlot (devices : ℕ) (old_table new_table : Table) (slot : ℕ) 
   pub spelled : (other : ℕ) → other < slots_of new_table → state_at new_table.states other ≢ Missing → StandsAt new_table other (sectors other)
 
 -- no incarnation is lower
-pub step_incarnation : (old new : Table) (slot : ℕ) → IsStepAt old new slot → (other : ℕ) → incarnation_at old.incarnations other ≤ incarnation_at new.incarnations other
+pub step_incarnation : (old new : Table) (slot : ℕ) → IsStepAt old new slot → (other : ℕ)
+    → incarnation_at old.incarnations other ≤ incarnation_at new.incarnations other
 step_incarnation old new slot step other = elim (cases_eq other slot) [
   | inl same ↦ subst (λ (k : ℕ). incarnation_at old.incarnations k ≤ incarnation_at new.incarnations k) (sym same) step.incarnation
   | inr apart ↦ omega (arith, step.incarnations other apart)
@@ -138,7 +139,8 @@ module _ (spellings : Spellings) (devices : ℕ) (old_table new_table : Table) (
     ];
     no_higher = λ place superblock counts. elim (cases place superblock counts) [
       | inl new ↦
-          let same : incarnation_at superblock.table.incarnations other ≡ incarnation_at new_table.incarnations other = ap (λ (t : Table). incarnation_at t.incarnations other) new in
+          let same : incarnation_at superblock.table.incarnations other ≡ incarnation_at new_table.incarnations other =
+          ap (λ (t : Table). incarnation_at t.incarnations other) new in
           omega (arith, same)
       | inr was ↦ omega (arith, holds.none_higher other place superblock was, step_incarnation old_table new_table slot steps.step other)
     ];
@@ -147,7 +149,8 @@ module _ (spellings : Spellings) (devices : ℕ) (old_table new_table : Table) (
       cases : (place : ℕ) (superblock : Superblock) → Counts new_table.id devices other after place superblock
           → (superblock.table ≡ new_table) ⊎ Counts old_table.id devices other (image other) place superblock
       cases place superblock counts =
-          elim (counted_before spellings new_table last sectors other (image other) after (spelled_there other) is new_table.id devices place superblock counts) [
+          elim (counted_before spellings new_table last sectors other (image other) after (spelled_there other) is new_table.id devices place superblock
+          counts) [
             | inl new ↦ inl new
             | inr was ↦ inr (of_old other place (image other) superblock was)
           ]
@@ -169,7 +172,8 @@ module _ (spellings : Spellings) (devices : ℕ) (old_table new_table : Table) (
     live_at : (other : ℕ) → other < slots_of old_table → other ≢ slot → IsLive devices old_table other (before other)
         → IsLive devices new_table other (after other)
     live_at other of_set apart live =
-        live_then other (before other) (after other) of_set apart (around.each other apart) (λ place superblock counts. around.chosen.greatest other place superblock counts) live
+        live_then other (before other) (after other) of_set apart (around.each other apart)
+        (λ place superblock counts. around.chosen.greatest other place superblock counts) live
 
     slot_is_out : ¬ IsLive devices old_table slot (before slot)
     slot_is_out live = none_is_out spellings devices old_table slot (subst (IsLive devices old_table slot) around.empty live)
@@ -197,7 +201,8 @@ module _ (spellings : Spellings) (devices : ℕ) (old_table new_table : Table) (
     only_slot_out : (other : ℕ) → other < slots_of old_table → ¬ IsInFull devices new_table other (after other) → other ≡ slot
     only_slot_out other of_set out = elim (cases_eq other slot) [
       | inl same ↦ same
-      | inr apart ↦ absurd (others_in_full other of_set apart (λ full. out record { live = live_at other of_set apart full.live; in_sync = in_sync_then other of_set apart }))
+      | inr apart ↦ absurd (others_in_full other of_set apart
+          (λ full. out record { live = live_at other of_set apart full.live; in_sync = in_sync_then other of_set apart }))
     ]
 
     known_at : (other : ℕ) → IsKnown devices new_table other (after other)

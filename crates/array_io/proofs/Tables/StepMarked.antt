@@ -61,19 +61,24 @@ step_counts_no_more table next missing slot step marked = record {
     apart other there same = there (ap (λ (k : ℕ). state_at missing.states k) same
         ∙ missing_then next missing slot marked (omega (arith, step.of_set, ap (λ (g : Geometry). g.members) step.same_geometry)))
 
-module _ (spellings : Spellings) (honest : Type 0) (devices number : ℕ) (table next missing : Table) (slot : ℕ) (one : Lost) (V : List Bytes) (old_panel new_panel final_panel : Panel)
-    (mid new final : History) (result : Result (Unit {0}) Stop) (answer : Answer) (published : Publishes honest next (Some slot) old_panel new_panel mid new result)
+module _ (spellings : Spellings) (honest : Type 0) (devices number : ℕ) (table next missing : Table) (slot : ℕ) (one : Lost) (V : List Bytes)
+    (old_panel new_panel final_panel : Panel)
+    (mid new final : History) (result : Result (Unit {0}) Stop) (answer : Answer)
+    (published : Publishes honest next (Some slot) old_panel new_panel mid new result)
     (from : TakesFrom devices number table next slot one V published.sectors mid) (is_honest : honest)
     (failed : result ≡ Err (Down slot)) (down : is_down new slot ≡ true) (marks : MarksOn honest slot new_panel final_panel next missing new final answer) where
   failure : HasFailedOnce devices table next (Some one) (V ∷ []) slot new
   failure = takes_failed spellings honest devices number table next slot one V old_panel new_panel mid new result published from is_honest failed down
 
-  marked_then : HoldsThroughout table devices (Some one) (V ∷ []) new final × (answer ≡ Ok tt → MarkedOn devices table next missing (Some one) (V ∷ []) slot new final)
-  marked_then = failed_marked spellings honest devices table next missing (Some one) (V ∷ []) slot new_panel final_panel new final answer failure is_honest marks
+  marked_then : HoldsThroughout table devices (Some one) (V ∷ []) new final
+      × (answer ≡ Ok tt → MarkedOn devices table next missing (Some one) (V ∷ []) slot new final)
+  marked_then = failed_marked spellings honest devices table next missing (Some one) (V ∷ []) slot new_panel final_panel new final answer failure is_honest
+      marks
 
   -- at each moment all cases hold
   pub left_throughout : HoldsThroughout table devices (Some one) (V ∷ []) mid final
-  left_throughout = throughout_on new (takes_throughout spellings honest devices number table next slot one V old_panel new_panel mid new result published from is_honest) final marked_then.0
+  left_throughout = throughout_on new (takes_throughout spellings honest devices number table next slot one V old_panel new_panel mid new result published from
+      is_honest) final marked_then.0
 
   module _ (ok : answer ≡ Ok tt) (leaves : LeavesSectors final) where
     marked : MarkedOn devices table next missing (Some one) (V ∷ []) slot new final
@@ -84,7 +89,8 @@ module _ (spellings : Spellings) (honest : Type 0) (devices number : ℕ) (table
 
     single_failure : IsSingleFailure (slots_of table) (Some one) final
     single_failure = single_failure_stays (slots_of table) (Some one) new final marked.down
-        (failed_is_single_failure spellings devices table next (Some one) (V ∷ []) slot new failure (step_slots table next slot from.steps.step) marked.others_in_sync from.own)
+        (failed_is_single_failure spellings devices table next (Some one) (V ∷ []) slot new failure (step_slots table next slot from.steps.step)
+        marked.others_in_sync from.own)
 
     writes : WritesFrom devices table missing (Some one) (V ∷ []) final
     writes = marked.from single_failure
@@ -95,11 +101,14 @@ module _ (spellings : Spellings) (honest : Type 0) (devices number : ℕ) (table
       beyond = λ other at counted beyond.
           let up = live_is_up spellings devices missing final other (writes.there other counted.of_set counted.there) in
           let up_then = sym (marked.down other) ∙ up in
-          marked.beyond other at up beyond ∙ elim ((last spellings honest devices number table next slot one V old_panel new_panel mid new result published from is_honest).holds
+          marked.beyond other at up beyond ∙ elim ((last spellings honest devices number table next slot one V old_panel new_panel mid new result published from
+          is_honest).holds
           other at (sector_of (seen new other) at) (up_seen new other at up_then)) [
             | inl before ↦
-                let up_first = was_up spellings honest devices number table next slot one V old_panel new_panel mid new result published from is_honest other up_then in
-                from.settled.nothing_pending other at (sector_of (seen new other) at) (sector_of (seen mid other) at) up_first before (up_seen mid other at up_first)
+                let up_first = was_up spellings honest devices number table next slot one V old_panel new_panel mid new result published from is_honest other
+                up_then in
+                from.settled.nothing_pending other at (sector_of (seen new other) at) (sector_of (seen mid other) at) up_first before
+                (up_seen mid other at up_first)
             | inr is_new ↦ let low : place_of next < SUPERBLOCK_PLACES = omega arith in absurd (omega (arith, beyond, is_new.in_place, low))
           ];
     }
@@ -107,7 +116,8 @@ module _ (spellings : Spellings) (honest : Type 0) (devices number : ℕ) (table
     entry : HasEntryAtRest devices missing number (readable final)
     entry = entry_carried spellings devices table table missing (Some one) (V ∷ []) number mid final
         (entry_of_settled spellings devices table number mid (Some one) V from.settled from.leaves) from.settled.there
-        (step_counts_no_more table next missing slot from.steps.step marked.marked) writes single_failure reads_same (whole_left final (readable final) leaves (readable_left final))
+        (step_counts_no_more table next missing slot from.steps.step marked.marked) writes single_failure reads_same
+        (whole_left final (readable final) leaves (readable_left final))
 
     -- the array is settled without the slot
     pub left_rests : Rests table missing devices number (Some one) (V ∷ []) final

@@ -1,6 +1,7 @@
 -- A settled array's next table, which differs in the lost slot alone, is published with that slot's device last: every case keeps holding, and the array
 -- is settled by the next table then.
-use Rattle.std.proofs.Common.{◌≡◌, ◌≢◌, ◌⊎◌, inl, inr, ℕ, ◌+◌, ◌<◌, ◌≤◌, true, false, List, [], ◌∷◌, length, Option, Some, None, refl, sym, ◌∙◌, ap, subst, arith}
+use Rattle.std.proofs.Common.{◌≡◌, ◌≢◌, ◌⊎◌, inl, inr, ℕ, ◌+◌, ◌<◌, ◌≤◌, true, false, List, [], ◌∷◌, length, Option, Some, None, refl, sym, ◌∙◌, ap, subst}
+use Rattle.std.proofs.Common.{arith}
 use Rattle.std.proofs.lemmas.Bool.{cases_eq}
 use Rattle.layout_map.specs.declared.geometry.Geometry.{Geometry}
 use Rattle.sector_model.specs.History.{Bytes, History, IsSector, MayLeave, Slots, disk_of, is_down, sector_of}
@@ -62,7 +63,8 @@ pub record TakesFrom (devices number : ℕ) (table next : Table) (slot : ℕ) (o
       → HaveEqualBodies table.geometry.members (readable mid journal) (readable mid slot) seal
 
 -- a sector that may have got the new superblock is whole
-whole_before : Spellings → (new : Table) (last : Option ℕ) (sectors : ℕ → Bytes) (slot : ℕ) (before after : Content) → (GetsIt new last slot → StandsAt new slot (sectors slot))
+whole_before : Spellings → (new : Table) (last : Option ℕ) (sectors : ℕ → Bytes) (slot : ℕ) (before after : Content)
+    → (GetsIt new last slot → StandsAt new slot (sectors slot))
     → IsBefore new last sectors slot before after → ((a : ℕ) → a < length (disk_of before) → IsSector (sector_of (disk_of before) a))
     → (a : ℕ) → a < length (disk_of after) → IsSector (sector_of (disk_of after) a)
 whole_before spellings new last sectors slot before after spelled (inl same) whole a below =
@@ -98,12 +100,14 @@ module _ (spellings : Spellings) (devices number : ℕ) (table next : Table) (sl
   -- the other slots are live by the next table
   pub live_next : (image : Slots) → IsAfter image → (other : ℕ) → other < slots_of table → other ≢ slot → IsLive devices next other (image other)
   live_next image is other of_set apart =
-      live_then spellings devices table next slot (Some slot) sectors from.steps other (readable mid other) (image other) of_set apart (is.each other of_set apart)
+      live_then spellings devices table next slot (Some slot) sectors from.steps other (readable mid other) (image other) of_set apart
+      (is.each other of_set apart)
       (λ place superblock counts. is.chosen.greatest other place superblock counts) (live_before other of_set apart)
 
   agree : (image : Slots) → IsAfter image → (other : ℕ) → other < slots_of table → AgreeBeyond (readable mid other) (image other)
   agree image is other of_set = elim (cases_eq other slot) [
-    | inl same ↦ subst (λ (k : ℕ). AgreeBeyond (readable mid k) (image k)) (sym same) (agree_before next (Some slot) sectors slot (readable mid slot) (image slot) is.here)
+    | inl same ↦ subst (λ (k : ℕ). AgreeBeyond (readable mid k) (image k)) (sym same)
+        (agree_before next (Some slot) sectors slot (readable mid slot) (image slot) is.here)
     | inr apart ↦ agree_before next (Some slot) sectors other (readable mid other) (image other) (is.each other of_set apart)
   ]
 
@@ -138,12 +142,22 @@ module _ (spellings : Spellings) (devices number : ℕ) (table next : Table) (sl
     | inl is ↦ record {
       journal = table.geometry.members + 1;
       apart = λ same. omega (arith, same, is);
-      is_live = record { beyond_members = omega arith; of_set = omega arith; live = live_before (table.geometry.members + 1) (omega arith) (λ same. omega (arith, same, is)) };
+      is_live = record {
+        beyond_members = omega arith;
+        of_set = omega arith;
+        live =
+            live_before (table.geometry.members + 1) (omega arith) (λ same. omega (arith, same, is));
+      };
     }
     | inr differs ↦ record {
       journal = table.geometry.members;
       apart = λ same. differs (sym same);
-      is_live = record { beyond_members = omega arith; of_set = omega arith; live = live_before table.geometry.members (omega arith) (λ same. differs (sym same)) };
+      is_live = record {
+        beyond_members = omega arith;
+        of_set = omega arith;
+        live =
+            live_before table.geometry.members (omega arith) (λ same. differs (sym same));
+      };
     }
   ]
 
@@ -156,12 +170,14 @@ module _ (spellings : Spellings) (devices number : ℕ) (table next : Table) (sl
 
     sealed_after : (journal : ℕ) → IsLiveJournal devices next image journal → IsLastSealed next.id next.geometry (image journal) entry.last
     sealed_after journal on = sealed_next (image journal) entry.last
-        (sealed_beyond table.id table.geometry (readable mid journal) (image journal) (agree image is journal (of_table journal on.of_set)) entry.last (elim (cases_eq journal slot) [
+        (sealed_beyond table.id table.geometry (readable mid journal) (image journal) (agree image is journal (of_table journal on.of_set)) entry.last
+        (elim (cases_eq journal slot) [
           | inr apart ↦ entry.sealed journal (was_live journal on apart)
           | inl same ↦
               let other = other_journal in
               subst (λ (k : ℕ). IsLastSealed table.id table.geometry (readable mid k) entry.last) (sym same)
-              (from.sealed (omega (arith, on.beyond_members, members_same, same)) other.journal entry.last other.is_live (entry.sealed other.journal other.is_live))
+              (from.sealed (omega (arith, on.beyond_members, members_same, same)) other.journal entry.last other.is_live
+              (entry.sealed other.journal other.is_live))
         ]))
 
     body_before : (journal : ℕ) → IsLiveJournal devices next image journal → (seal : Seal) → entry.last ≡ Some seal → (row member : ℕ) (sector : Bytes)
@@ -172,7 +188,8 @@ module _ (spellings : Spellings) (devices number : ℕ) (table next : Table) (sl
       | inl same ↦
           let other = other_journal in
           let beyond : table.geometry.members ≤ slot = omega (arith, on.beyond_members, members_same, same) in
-          let sealed = subst (λ (l : Option Seal). IsLastSealed table.id table.geometry (readable mid other.journal) l) last (entry.sealed other.journal other.is_live) in
+          let sealed = subst (λ (l : Option Seal). IsLastSealed table.id table.geometry (readable mid other.journal) l) last
+          (entry.sealed other.journal other.is_live) in
           entry.bodies other.journal seal other.is_live last row member sector below within
           (from.bodies beyond other.journal seal other.is_live sealed row member within
           ∙ ap (λ (k : ℕ). sector_in table.geometry.members (readable mid k) seal row member) (sym same) ∙ has)
@@ -195,7 +212,8 @@ module _ (spellings : Spellings) (devices number : ℕ) (table next : Table) (sl
 
     sound_after : AreSound (rows_by next image) (row_count next)
     sound_after = subst (λ (n : ℕ). AreSound (rows_by next image) n) (sym (same_count table next step.same_geometry))
-        (sound_alike table (rows_by table (readable mid)) (rows_by next image) refl members_same (rows_stay table next slot (readable mid) image (counts_more image is)) from.settled.sound)
+        (sound_alike table (rows_by table (readable mid)) (rows_by next image) refl members_same
+        (rows_stay table next slot (readable mid) image (counts_more image is)) from.settled.sound)
 
     listed_after : logical_list next.geometry (rows_by next image) ≡ V
     listed_after = ap (λ (g : Geometry). logical_list g (rows_by next image)) step.same_geometry
@@ -222,7 +240,8 @@ module _ (spellings : Spellings) (devices number : ℕ) (table next : Table) (sl
       )
 
   -- at a moment of the publish
-  module _ (h : History) (publish : IsInPublish next (Some slot) sectors mid h) (up : OthersAreUp (slots_of table) h slot) (image : Slots) (may : MayLeave h image)
+  module _ (h : History) (publish : IsInPublish next (Some slot) sectors mid h) (up : OthersAreUp (slots_of table) h slot) (image : Slots)
+      (may : MayLeave h image)
       (chosen : IsChosen next.id devices image next) where
     spelled : (other : ℕ) → GetsIt next (Some slot) other → StandsAt next other (sectors other)
     spelled = spelled_there spellings devices table next slot (Some slot) sectors from.steps
@@ -231,19 +250,22 @@ module _ (spellings : Spellings) (devices number : ℕ) (table next : Table) (sl
     was other apart = slot_before spellings next (Some slot) sectors mid h publish other (spelled other)
         (λ gets. up other (gets_of_set spellings devices table next slot (Some slot) sectors from.steps other gets) apart) (image other) (may other)
 
-    whole_was : (other : ℕ) → WasBefore next (Some slot) sectors mid other (image other) → (a : ℕ) → a < length (disk_of (image other)) → IsSector (sector_of (disk_of (image other)) a)
+    whole_was : (other : ℕ) → WasBefore next (Some slot) sectors mid other (image other) → (a : ℕ) → a < length (disk_of (image other))
+        → IsSector (sector_of (disk_of (image other)) a)
     whole_was other was = whole_before spellings next (Some slot) sectors other was.before (image other) (spelled other) was.is
         (λ a below. slot_whole mid other a was.before from.leaves was.may below)
 
     read : (other : ℕ) → is_down mid other ≡ false → WasBefore next (Some slot) sectors mid other (image other)
         → IsBefore next (Some slot) sectors other (readable mid other) (image other)
-    read other there was = subst (λ (c : Content). IsBefore next (Some slot) sectors other c (image other)) (content_left mid other was.before from.settled.nothing_pending was.may there) was.is
+    read other there was = subst (λ (c : Content). IsBefore next (Some slot) sectors other c (image other))
+        (content_left mid other was.before from.settled.nothing_pending was.may there) was.is
 
     -- the other slots are live
     pub live_there : (other : ℕ) → other < slots_of table → other ≢ slot → IsLive devices next other (image other)
     live_there other of_set apart =
         live_then spellings devices table next slot (Some slot) sectors from.steps other (readable mid other) (image other) of_set apart
-        (read other (up_at_first other of_set apart) (was other apart)) (λ place superblock counts. chosen.greatest other place superblock counts) (live_before other of_set apart)
+        (read other (up_at_first other of_set apart) (was other apart)) (λ place superblock counts. chosen.greatest other place superblock counts)
+        (live_before other of_set apart)
 
     -- such an image, unless the slot is empty
     pub after_or_none : (image slot ≡ None) ⊎ IsAfter image

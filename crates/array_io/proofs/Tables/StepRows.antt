@@ -58,7 +58,8 @@ module _ (table next : Table) (slot : ℕ) (reads image : Slots) (is : MoreCount
         trusts = λ other other_within apart. trusted_now row other other_within apart ∙ sym (trusted_before row other other_within apart);
         owns = λ other other_within apart. own_same row other other_within;
       }
-      (λ other other_within apart. subst (λ (b : Bool). IsSome (if b then Some ((rows_by table reads).own row other) else None)) (sym (trusted_before row other other_within apart)) refl)
+      (λ other other_within apart. subst (λ (b : Bool). IsSome (if b then Some ((rows_by table reads).own row other) else None))
+      (sym (trusted_before row other other_within apart)) refl)
       (λ none. counts) (λ none. own_same row slot within ∙ is.own row within below counts)
 
   -- a row in which it doesn't
@@ -84,13 +85,15 @@ module _ (table next : Table) (slot : ℕ) (reads image : Slots) (is : MoreCount
       was_not r now false was = was
 
   -- so all values stay
-  pub values_stay : (row member : ℕ) → row < row_count table → member < table.geometry.members → value (rows_by next image) row member ≡ value (rows_by table reads) row member
+  pub values_stay : (row member : ℕ) → row < row_count table → member < table.geometry.members
+      → value (rows_by next image) row member ≡ value (rows_by table reads) row member
   values_stay row member below within = elim (cases_lt slot table.geometry.members) [
     | inr beyond ↦ value_uncounted row (λ inside. absurd (omega (arith, beyond, inside))) member within
     | inl inside ↦ by_test (counts_in next slot row) refl inside
   ]
     where
-      by_test : (b : Bool) → counts_in next slot row ≡ b → slot < table.geometry.members → value (rows_by next image) row member ≡ value (rows_by table reads) row member
+      by_test : (b : Bool) → counts_in next slot row ≡ b → slot < table.geometry.members
+          → value (rows_by next image) row member ≡ value (rows_by table reads) row member
       by_test true counts inside = value_counted row below inside counts member within
       by_test false counts inside = value_uncounted row (λ again. counts) member within
 

@@ -18,13 +18,15 @@ use Rattle.array_io.specs.Laws.Core.{AreJournalsInStep, HasRows, IsKnown}
 use Rattle.array_io.specs.Believed.Holds.{AllStale, HoldsIn, IsLiveJournal}
 use Rattle.array_io.specs.Believed.Moments.{HoldsNow, HoldsThroughout}
 use Rattle.array_io.specs.Believed.Settled.{NoneComesBack}
-use Rattle.array_io.proofs.Images.CaseAfter.{IsOfCase, NothingPut, StepsCase, StoodBefore, StoodFor, StoodThere, none_back_counts, of_case_chosen, of_case_holds, of_case_with, stands_not_live, steps_hold, unchanged}
+use Rattle.array_io.proofs.Images.CaseAfter.{IsOfCase, NothingPut, StepsCase, StoodBefore, StoodFor, StoodThere, none_back_counts, of_case_chosen}
+use Rattle.array_io.proofs.Images.CaseAfter.{of_case_holds, of_case_with, stands_not_live, steps_hold, unchanged}
 use Rattle.array_io.proofs.Laws.FromCore.{stale_known}
 use Rattle.array_io.proofs.Images.LossBefore.{HasGone, WasLost}
 use Rattle.array_io.proofs.Tables.PublishImages.{IsBefore, WasBefore, new_counts, slot_before, slot_or_none}
 use Rattle.array_io.proofs.Images.Put.{put_elsewhere, put_there}
 use Rattle.array_io.proofs.Images.Spellings.{Spellings}
-use Rattle.array_io.proofs.Tables.StepHolds.{AreAround, StepsSlot, gets_of_set, holds_by_rows, holds_then, known_then, of_old, room_then, spelled_there, step_not_older}
+use Rattle.array_io.proofs.Tables.StepHolds.{AreAround, StepsSlot, gets_of_set, holds_by_rows, holds_then, known_then, of_old, room_then, spelled_there}
+use Rattle.array_io.proofs.Tables.StepHolds.{step_not_older}
 
 -- what stands in the slot is not live by the new table, or the image's rows are as they have to be with it
 abbrev pub SlotSays : (devices : ℕ) (table : Table) (X : List (List Bytes)) (slot : ℕ) → Slots → Type 0
@@ -33,7 +35,8 @@ SlotSays devices table X slot image = ¬ IsLive devices table slot (image slot)
 
 -- A moment `h` of a publish, begun at `old`: a crash leaves what it might have left before, or new superblocks; the images of each case choose one of
 -- the two tables; where they choose the new one, what stands in the slot says what the others do; and no device that is away comes back by it.
-pub record IsStepping (devices : ℕ) (old_table new_table : Table) (slot : ℕ) (last : Option ℕ) (lost : Lost) (X : List (List Bytes)) (sectors : ℕ → Bytes) (old h : History) : Type 0 where
+pub record IsStepping (devices : ℕ) (old_table new_table : Table) (slot : ℕ) (last : Option ℕ) (lost : Lost) (X : List (List Bytes)) (sectors : ℕ → Bytes)
+    (old h : History) : Type 0 where
   pub steps : StepsSlot devices old_table new_table slot last sectors
   pub own : lost.slot ≡ slot
   pub up : last ≡ Some slot → is_down old slot ≡ false
@@ -43,7 +46,8 @@ pub record IsStepping (devices : ℕ) (old_table new_table : Table) (slot : ℕ)
       → SlotSays devices new_table X slot image
   pub away : state_at new_table.states slot ≢ Missing → AllStale devices new_table slot lost.away
 
-module _ (spellings : Spellings) (devices : ℕ) (old_table new_table : Table) (slot : ℕ) (last : Option ℕ) (lost : Lost) (X : List (List Bytes)) (sectors : ℕ → Bytes)
+module _ (spellings : Spellings) (devices : ℕ) (old_table new_table : Table) (slot : ℕ) (last : Option ℕ) (lost : Lost) (X : List (List Bytes))
+    (sectors : ℕ → Bytes)
     (old h : History) (is : IsStepping devices old_table new_table slot last lost X sectors old h) where
   steps : StepsSlot devices old_table new_table slot last sectors
   steps = is.steps
@@ -55,7 +59,8 @@ module _ (spellings : Spellings) (devices : ℕ) (old_table new_table : Table) (
       let stands = spelled_there spellings devices old_table new_table slot last sectors steps other gets in
       let least = chosen.greatest other (place_of new_table) stands.superblock
       (of_old spellings devices old_table new_table slot last sectors steps other (place_of new_table) (image other) stands.superblock
-      (new_counts devices new_table other (sectors other) (image other) (room_then spellings devices old_table new_table slot last sectors steps) stands there)) in
+      (new_counts devices new_table other (sectors other) (image other) (room_then spellings devices old_table new_table slot last sectors steps) stands there))
+      in
       let same : stands.superblock.table.generation ≡ new_table.generation = ap (λ (t : Table). t.generation) stands.carries in
       omega (arith, least, same, is.steps.step.generation)
 
@@ -90,13 +95,15 @@ module _ (spellings : Spellings) (devices : ℕ) (old_table new_table : Table) (
         by_state false there = inr record { of_set = is.steps.step.of_set; up = there; down = subst (SlotMayHold h slot) none (may slot); none = none }
 
     slot_was : (SlotMayHold old slot (image slot) ⊎ HasGone old_table old h slot (image slot)) ⊎ WasBefore new_table last sectors old slot (image slot)
-    slot_was = elim (slot_or_none spellings new_table last sectors old h is.in_publish slot (spelled slot) (λ gets. is.up (is.steps.gets_last gets)) (image slot) (may slot)) [
-      | inl none ↦ inl (none_or_gone none)
-      | inr one ↦ inr one
-    ]
+    slot_was = elim (slot_or_none spellings new_table last sectors old h is.in_publish slot (spelled slot) (λ gets. is.up (is.steps.gets_last gets))
+        (image slot) (may slot)) [
+          | inl none ↦ inl (none_or_gone none)
+          | inr one ↦ inr one
+        ]
 
     -- where the old table is chosen, no new superblock stands there
-    left_by : IsChosen old_table.id devices image old_table → (other : ℕ) → WasBefore new_table last sectors old other (image other) → SlotMayHold old other (image other)
+    left_by : IsChosen old_table.id devices image old_table → (other : ℕ) → WasBefore new_table last sectors old other (image other)
+        → SlotMayHold old other (image other)
     left_by chosen_old other one = elim one.is [
       | inl same ↦ subst (SlotMayHold old other) same one.may
       | inr replaced ↦ absurd (not_old image chosen_old other replaced.gets replaced.stands)
@@ -158,10 +165,11 @@ module _ (spellings : Spellings) (devices : ℕ) (old_table new_table : Table) (
       around = record {
         holds = without;
         empty = put_there there slot None;
-        each = λ other apart. subst (λ (c : Content). IsBefore new_table last sectors other c (now other)) (sym (put_elsewhere there slot None other apart)) (elim (put other) [
-          | inl is_before ↦ is_before
-          | inr stale ↦ absurd (apart stale.0)
-        ]);
+        each = λ other apart. subst (λ (c : Content). IsBefore new_table last sectors other c (now other)) (sym (put_elsewhere there slot None other apart))
+            (elim (put other) [
+              | inl is_before ↦ is_before
+              | inr stale ↦ absurd (apart stale.0)
+            ]);
         chosen = of_case_chosen devices new_table (record { image = image; lost = Some lost }) all now of_new;
         known = known;
       }
@@ -212,7 +220,8 @@ module _ (spellings : Spellings) (devices : ℕ) (old_table new_table : Table) (
         )
 
 -- where all cases held before the call, each choosing the old table, they hold at each moment of it
-pub stepping_holds : Spellings → (devices : ℕ) (old_table new_table : Table) (slot : ℕ) (last : Option ℕ) (lost : Lost) (X : List (List Bytes)) (sectors : ℕ → Bytes) (old h : History)
+pub stepping_holds : Spellings → (devices : ℕ) (old_table new_table : Table) (slot : ℕ) (last : Option ℕ) (lost : Lost) (X : List (List Bytes))
+    (sectors : ℕ → Bytes) (old h : History)
     → IsStepping devices old_table new_table slot last lost X sectors old h
     → InEachImage devices old_table old (Some lost) (λ image. IsChosen old_table.id devices image old_table)
     → HoldsNow old_table devices (Some lost) X old → HoldsNow old_table devices (Some lost) X h
@@ -220,10 +229,12 @@ stepping_holds spellings devices old_table new_table slot last lost X sectors ol
     steps_hold devices old_table old_table new_table (Some lost) X X (StepPuts spellings devices old_table new_table slot last lost X sectors old h is) old h
     (record { same_id = refl; holds = now; chosen = λ before there at left. chosen.whole there left }) is.in_publish.stays_down (λ after image lost_at may.
     subst (λ (l : Option Lost). Steps spellings devices old_table new_table slot last lost X sectors old h is l image) (sym lost_at.1)
-    (by_either spellings devices old_table new_table slot last lost X sectors old h is (λ other below apart. lost_at.2 other below (λ here. apart (here ∙ is.own))) image may))
+    (by_either spellings devices old_table new_table slot last lost X sectors old h is
+    (λ other below apart. lost_at.2 other below (λ here. apart (here ∙ is.own))) image may))
 
 -- the same of a whole run
-pub stepping_throughout : Spellings → (devices : ℕ) (old_table new_table : Table) (slot : ℕ) (last : Option ℕ) (lost : Lost) (X : List (List Bytes)) (sectors : ℕ → Bytes) (old new : History)
+pub stepping_throughout : Spellings → (devices : ℕ) (old_table new_table : Table) (slot : ℕ) (last : Option ℕ) (lost : Lost) (X : List (List Bytes))
+    (sectors : ℕ → Bytes) (old new : History)
     → Throughout (IsStepping devices old_table new_table slot last lost X sectors old) old new
     → InEachImage devices old_table old (Some lost) (λ image. IsChosen old_table.id devices image old_table)
     → HoldsNow old_table devices (Some lost) X old → HoldsThroughout old_table devices (Some lost) X old new
@@ -231,7 +242,8 @@ stepping_throughout spellings devices old_table new_table slot last lost X secto
     throughout_more (λ h is. stepping_holds spellings devices old_table new_table slot last lost X sectors old h is chosen now) new moments
 
 -- Where another device that is up has the new superblock for sure, each image chooses the new table.
-pub stepping_chosen : Spellings → (devices : ℕ) (old_table new_table : Table) (slot : ℕ) (last : Option ℕ) (lost : Lost) (X : List (List Bytes)) (sectors : ℕ → Bytes) (old h : History)
+pub stepping_chosen : Spellings → (devices : ℕ) (old_table new_table : Table) (slot : ℕ) (last : Option ℕ) (lost : Lost) (X : List (List Bytes))
+    (sectors : ℕ → Bytes) (old h : History)
     → IsStepping devices old_table new_table slot last lost X sectors old h → OthersAreUp (slots_of old_table) h slot
     → (other : ℕ) → GetsIt new_table last other → is_down h other ≡ false → IsSafeAt h other (place_of new_table) (sectors other)
     → InEachImage devices new_table h (Some lost) (λ image. IsChosen new_table.id devices image new_table)
@@ -249,7 +261,8 @@ stepping_chosen spellings devices old_table new_table slot last lost X sectors o
 
     all_choose : (image : Slots) → MayLeave h image → AllChoose devices new_table record { image = image; lost = Some lost }
     all_choose image may = elim (is.either (Some lost) image
-        (subst (λ (k : ℕ). k < slots_of old_table) (sym is.own) is.steps.step.of_set, refl, λ one below apart. up one below (λ same. apart (same ∙ sym is.own))) may) [
+        (subst (λ (k : ℕ). k < slots_of old_table) (sym is.own) is.steps.step.of_set, refl, λ one below apart. up one below (λ same. apart (same ∙ sym is.own)))
+        may) [
           | inl all ↦ absurd (not_old spellings devices old_table new_table slot last lost X sectors old h is image all.whole other gets (stands_new image may))
           | inr all ↦ all
         ]

@@ -34,7 +34,8 @@ pub record BringsFrom (devices : ℕ) (base table : Table) (lost : Option Lost) 
   pub ready : IsReady devices table sectors old
   pub same_id : table.id ≡ base.id
   pub holds : HoldsNow base devices lost X old
-  pub chosen : (after : Option Lost) → IsLostAt (slots_of base) lost old after → InEachImage devices table old after (λ image. IsChosen table.id devices image table)
+  pub chosen : (after : Option Lost) → IsLostAt (slots_of base) lost old after
+      → InEachImage devices table old after (λ image. IsChosen table.id devices image table)
 
 differ : true ≡ false → ⊥
 differ is = cc
@@ -97,7 +98,8 @@ keeps_brought spellings devices table sectors reads X whole before image put =
 
 -- each case now
 pub holds_at : Spellings → (devices : ℕ) (base table : Table) (lost : Option Lost) (X : List (List Bytes)) (sectors : ℕ → Bytes) (old h : History)
-    → BringsFrom devices base table lost X sectors old → IsBringing table sectors old h → (after : Option Lost) (image : Slots) → IsLostAt (slots_of base) lost h after → MayLeave h image
+    → BringsFrom devices base table lost X sectors old → IsBringing table sectors old h → (after : Option Lost) (image : Slots)
+    → IsLostAt (slots_of base) lost h after → MayLeave h image
     → HoldsBy base devices table X (record { image = image; lost = after })
 holds_at spellings devices base table lost X sectors old h from is after image lost_at may =
     put_holds_at spellings devices base table lost X X (IsBrought devices table sectors) old h
@@ -130,12 +132,14 @@ bringing_throughout spellings devices base table lost X sectors old new from mom
 -- Where no device failed meanwhile
 
 -- what reads give is what they gave, but for these
-pub readable_brought : Spellings → (devices : ℕ) (table : Table) (sectors : ℕ → Bytes) (old h : History) → IsReady devices table sectors old → IsBringing table sectors old h
+pub readable_brought : Spellings → (devices : ℕ) (table : Table) (sectors : ℕ → Bytes) (old h : History) → IsReady devices table sectors old
+    → IsBringing table sectors old h
     → ((d : ℕ) → is_down h d ≡ is_down old d) → AreBrought devices table sectors (readable old) (readable h)
 readable_brought spellings devices table sectors old h ready is stay d = by_state (is_down h d) refl
   where
     by_state : (b : Bool) → is_down h d ≡ b → IsBrought devices table sectors d (readable old d) (readable h d)
-    by_state true down = subst (λ (c : Content). IsBrought devices table sectors d c (readable h d)) (readable_down h d down ∙ sym (readable_down old d (sym (stay d) ∙ down)))
+    by_state true down = subst (λ (c : Content). IsBrought devices table sectors d c (readable h d))
+        (readable_down h d down ∙ sym (readable_down old d (sym (stay d) ∙ down)))
         (brought_same devices table sectors d (readable h d))
     by_state false up = put_read table (IsBrought devices table sectors) old h
         (brings devices table sectors old h ready is) d (sym (stay d) ∙ up) up

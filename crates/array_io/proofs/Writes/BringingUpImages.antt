@@ -57,8 +57,10 @@ pub brought_same : (devices : ℕ) (table : Table) (sectors : ℕ → Bytes) (sl
 brought_same devices table sectors slot content = record { long = refl; others = λ at apart. refl; place = inl refl }
 
 -- what counts now carries the table, or counted before
-pub counted_before : Spellings → (devices : ℕ) (table : Table) (sectors : ℕ → Bytes) (slot : ℕ) (before after : Content) → IsBrought devices table sectors slot before after
-    → (id : List ℕ) (place : ℕ) (superblock : Superblock) → Counts id devices slot after place superblock → (superblock.table ≡ table) ⊎ Counts id devices slot before place superblock
+pub counted_before : Spellings → (devices : ℕ) (table : Table) (sectors : ℕ → Bytes) (slot : ℕ) (before after : Content)
+    → IsBrought devices table sectors slot before after
+    → (id : List ℕ) (place : ℕ) (superblock : Superblock) → Counts id devices slot after place superblock → (superblock.table ≡ table)
+    ⊎ Counts id devices slot before place superblock
 counted_before spellings devices table sectors slot before after brought id place superblock counts = elim (cases_eq place (place_of table)) [
   | inr apart ↦ inr (with_sector (brought.others place apart))
   | inl is ↦ elim brought.place [
@@ -91,7 +93,8 @@ own_counts devices table slot sector content room stands is = record {
 }
 
 -- what counted before in a place that has the same counts now
-counted_after : (devices : ℕ) (id : List ℕ) (slot : ℕ) (before after : Content) (place : ℕ) (superblock : Superblock) → sector_of (disk_of after) place ≡ sector_of (disk_of before) place
+counted_after : (devices : ℕ) (id : List ℕ) (slot : ℕ) (before after : Content) (place : ℕ) (superblock : Superblock)
+    → sector_of (disk_of after) place ≡ sector_of (disk_of before) place
     → Counts id devices slot before place superblock → Counts id devices slot after place superblock
 counted_after devices id slot before after place superblock same counts = record {
   stands = same ∙ counts.stands;
@@ -102,13 +105,15 @@ counted_after devices id slot before after place superblock same counts = record
 }
 
 -- what stands after the superblocks is the same
-pub brought_beyond : (devices : ℕ) (table : Table) (sectors : ℕ → Bytes) (slot : ℕ) (before after : Content) → IsBrought devices table sectors slot before after → AgreeBeyond before after
+pub brought_beyond : (devices : ℕ) (table : Table) (sectors : ℕ → Bytes) (slot : ℕ) (before after : Content) → IsBrought devices table sectors slot before after
+    → AgreeBeyond before after
 brought_beyond devices table sectors slot before after brought = record {
   same = λ at beyond. sym (brought.others at (λ is. absurd (omega (arith, is, beyond))));
 }
 
 -- it says no more to the table
-brought_known : Spellings → (devices : ℕ) (table : Table) (sectors : ℕ → Bytes) (slot : ℕ) (before after : Content) → IsBrought devices table sectors slot before after
+brought_known : Spellings → (devices : ℕ) (table : Table) (sectors : ℕ → Bytes) (slot : ℕ) (before after : Content)
+    → IsBrought devices table sectors slot before after
     → IsKnown devices table slot before → IsKnown devices table slot after
 brought_known spellings devices table sectors slot before after brought known = record {
   no_newer = λ place superblock counts. elim (was place superblock counts) [
@@ -125,11 +130,13 @@ brought_known spellings devices table sectors slot before after brought known = 
   ];
 }
   where
-    was : (place : ℕ) (superblock : Superblock) → Counts table.id devices slot after place superblock → (superblock.table ≡ table) ⊎ Counts table.id devices slot before place superblock
+    was : (place : ℕ) (superblock : Superblock) → Counts table.id devices slot after place superblock → (superblock.table ≡ table)
+        ⊎ Counts table.id devices slot before place superblock
     was = counted_before spellings devices table sectors slot before after brought table.id
 
 -- where it was as new as the table, it is
-brought_new : (devices : ℕ) (table : Table) (sectors : ℕ → Bytes) (slot : ℕ) (before after : Content) → slots_of table ≤ devices → IsBrought devices table sectors slot before after
+brought_new : (devices : ℕ) (table : Table) (sectors : ℕ → Bytes) (slot : ℕ) (before after : Content) → slots_of table ≤ devices
+    → IsBrought devices table sectors slot before after
     → IsAsNew devices table slot before → IsAsNew devices table slot after
 brought_new devices table sectors slot before after room brought new = elim (cases_eq new.place (place_of table)) [
   | inr apart ↦ kept (brought.others new.place apart)
@@ -154,13 +161,15 @@ brought_new devices table sectors slot before after room brought new = elim (cas
 
 -- the same sectors in both places: what counts is the same
 both_places : (table : Table) (before after : Content) → ((at : ℕ) → at ≢ place_of table → sector_of (disk_of after) at ≡ sector_of (disk_of before) at)
-    → sector_of (disk_of after) (place_of table) ≡ sector_of (disk_of before) (place_of table) → (at : ℕ) → sector_of (disk_of after) at ≡ sector_of (disk_of before) at
+    → sector_of (disk_of after) (place_of table) ≡ sector_of (disk_of before) (place_of table) → (at : ℕ)
+    → sector_of (disk_of after) at ≡ sector_of (disk_of before) at
 both_places table before after others same at = elim (cases_eq at (place_of table)) [
   | inl is ↦ subst (λ (p : ℕ). sector_of (disk_of after) p ≡ sector_of (disk_of before) p) (sym is) same
   | inr apart ↦ others at apart
 ]
 
-same_incarnation : (devices : ℕ) (id : List ℕ) (slot incarnation : ℕ) (before after : Content) → ((at : ℕ) → sector_of (disk_of after) at ≡ sector_of (disk_of before) at)
+same_incarnation : (devices : ℕ) (id : List ℕ) (slot incarnation : ℕ) (before after : Content)
+    → ((at : ℕ) → sector_of (disk_of after) at ≡ sector_of (disk_of before) at)
     → HasIncarnation id devices slot before incarnation → HasIncarnation id devices slot after incarnation
 same_incarnation devices id slot incarnation before after same has = record {
   place = has.place;
@@ -171,26 +180,30 @@ same_incarnation devices id slot incarnation before after same has = record {
 }
 
 -- what was live is live, and nothing else
-pub brought_live : Spellings → (devices : ℕ) (table : Table) (sectors : ℕ → Bytes) (slot : ℕ) (before after : Content) → slots_of table ≤ devices → IsKnown devices table slot before
+pub brought_live : Spellings → (devices : ℕ) (table : Table) (sectors : ℕ → Bytes) (slot : ℕ) (before after : Content) → slots_of table ≤ devices
+    → IsKnown devices table slot before
     → IsBrought devices table sectors slot before after → IsLive devices table slot before → IsLive devices table slot after
 brought_live spellings devices table sectors slot before after room known brought live = record {
   long_enough = omega (arith, live.long_enough, brought.long);
   not_missing = live.not_missing;
   incarnation = elim brought.place [
-    | inl same ↦ same_incarnation devices table.id slot (incarnation_at table.incarnations slot) before after (both_places table before after brought.others same) live.incarnation
+    | inl same ↦ same_incarnation devices table.id slot (incarnation_at table.incarnations slot) before after
+        (both_places table before after brought.others same) live.incarnation
     | inr replaced ↦ record {
       place = place_of table;
       newest = replaced.stands.superblock;
       counted = own_counts devices table slot (sectors slot) after room replaced.stands replaced.is;
       greatest = λ at superblock counts.
-          let most : superblock.table.generation ≤ table.generation = (brought_known spellings devices table sectors slot before after brought known).no_newer at superblock counts in
+          let most : superblock.table.generation ≤ table.generation =
+          (brought_known spellings devices table sectors slot before after brought known).no_newer at superblock counts in
           omega (arith, most, ap (λ (t : Table). t.generation) replaced.stands.carries);
       own = ap (λ (t : Table). incarnation_at t.incarnations slot) replaced.stands.carries;
     }
   ];
 }
 
-pub brought_was_live : (devices : ℕ) (table : Table) (sectors : ℕ → Bytes) (slot : ℕ) (before after : Content) → IsBrought devices table sectors slot before after
+pub brought_was_live : (devices : ℕ) (table : Table) (sectors : ℕ → Bytes) (slot : ℕ) (before after : Content)
+    → IsBrought devices table sectors slot before after
     → IsLive devices table slot after → IsLive devices table slot before
 brought_was_live devices table sectors slot before after brought live = elim brought.place [
   | inl same ↦ record {
@@ -207,7 +220,8 @@ brought_was_live devices table sectors slot before after brought live = elim bro
 abbrev pub AreBrought : ℕ → Table → (ℕ → Bytes) → (before after : Slots) → Type 0
 AreBrought devices table sectors before after = (slot : ℕ) → IsBrought devices table sectors slot (before slot) (after slot)
 
-holds_known : (devices : ℕ) (table : Table) (X : List (List Bytes)) (image : Slots) → HoldsIn devices table X image → (slot : ℕ) → IsKnown devices table slot (image slot)
+holds_known : (devices : ℕ) (table : Table) (X : List (List Bytes)) (image : Slots) → HoldsIn devices table X image → (slot : ℕ)
+    → IsKnown devices table slot (image slot)
 holds_known devices table X image holds slot = record {
   no_newer = λ place superblock counts. holds.chosen.greatest slot place superblock counts;
   as_new = λ place superblock counts equal. holds.one_content slot place superblock counts equal;
@@ -232,12 +246,14 @@ chosen_brought devices table sectors before after room chosen brought known = re
         (record { place = chosen.place; superblock = chosen.best; counts = chosen.counted; equal = ap (λ (t : Table). t.generation) chosen.carried })
 
     lowest : (m : ℕ) × IsAsNew devices table m (after m) × ((k : ℕ) → IsAsNew devices table k (after k) → m ≤ k)
-    lowest = least_one (λ slot. IsAsNew devices table slot (after slot)) (λ slot. as_new_or_not devices table slot (after slot) room (known slot)) chosen.slot there
+    lowest = least_one (λ slot. IsAsNew devices table slot (after slot)) (λ slot. as_new_or_not devices table slot (after slot) room (known slot)) chosen.slot
+        there
 
     new : IsAsNew devices table lowest.0 (after lowest.0)
     new = lowest.1
 
-module _ (spellings : Spellings) (devices : ℕ) (table : Table) (sectors : ℕ → Bytes) (X : List (List Bytes)) (before after : Slots) (holds : HoldsIn devices table X before)
+module _ (spellings : Spellings) (devices : ℕ) (table : Table) (sectors : ℕ → Bytes) (X : List (List Bytes)) (before after : Slots)
+    (holds : HoldsIn devices table X before)
     (brought : AreBrought devices table sectors before after) where
   room_is : slots_of table ≤ devices
   room_is = omega (arith, holds.chosen.counted.has_slots, ap (λ (t : Table). t.geometry.members) holds.chosen.carried)
@@ -246,7 +262,8 @@ module _ (spellings : Spellings) (devices : ℕ) (table : Table) (sectors : ℕ 
   known_is slot = brought_known spellings devices table sectors slot (before slot) (after slot) (brought slot) (holds_known devices table X before holds slot)
 
   live_is : (slot : ℕ) → IsLive devices table slot (before slot) → IsLive devices table slot (after slot)
-  live_is slot = brought_live spellings devices table sectors slot (before slot) (after slot) room_is (holds_known devices table X before holds slot) (brought slot)
+  live_is slot = brought_live spellings devices table sectors slot (before slot) (after slot) room_is (holds_known devices table X before holds slot)
+      (brought slot)
 
   live_was : (slot : ℕ) → IsLive devices table slot (after slot) → IsLive devices table slot (before slot)
   live_was slot = brought_was_live devices table sectors slot (before slot) (after slot) (brought slot)
@@ -269,11 +286,13 @@ module _ (spellings : Spellings) (devices : ℕ) (table : Table) (sectors : ℕ 
   rows_are = rows_beyond devices table table before after X same_is (record { sound = holds.sound; listed = holds.listed })
 
 -- an image that has to be so still is
-pub holds_brought : Spellings → (devices : ℕ) (table : Table) (sectors : ℕ → Bytes) (X : List (List Bytes)) (before after : Slots) → HoldsIn devices table X before
+pub holds_brought : Spellings → (devices : ℕ) (table : Table) (sectors : ℕ → Bytes) (X : List (List Bytes)) (before after : Slots)
+    → HoldsIn devices table X before
     → AreBrought devices table sectors before after → HoldsIn devices table X after
 holds_brought spellings devices table sectors X before after holds brought = record {
   chosen = chosen_brought devices table sectors before after room holds.chosen brought known;
-  one_out = λ first second of_set of_set' out out'. holds.one_out first second of_set of_set' (λ full. out (in_full first full)) (λ full. out' (in_full second full));
+  one_out = λ first second of_set of_set' out out'. holds.one_out first second of_set of_set' (λ full. out (in_full first full))
+      (λ full. out' (in_full second full));
   none_higher = λ slot. (known slot).no_higher;
   one_content = λ slot. (known slot).as_new;
   sound = rows.sound;
@@ -294,6 +313,7 @@ holds_brought spellings devices table sectors X before after holds brought = rec
     rows = rows_are spellings devices table sectors X before after holds brought
 
 -- what was live is live
-pub live_brought : Spellings → (devices : ℕ) (table : Table) (sectors : ℕ → Bytes) (X : List (List Bytes)) (before after : Slots) → HoldsIn devices table X before
+pub live_brought : Spellings → (devices : ℕ) (table : Table) (sectors : ℕ → Bytes) (X : List (List Bytes)) (before after : Slots)
+    → HoldsIn devices table X before
     → AreBrought devices table sectors before after → (slot : ℕ) → IsLive devices table slot (before slot) → IsLive devices table slot (after slot)
 live_brought spellings devices table sectors X before after holds brought = live_is spellings devices table sectors X before after holds brought

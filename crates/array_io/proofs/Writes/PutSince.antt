@@ -1,7 +1,8 @@
 -- While something is put on devices of a set since an earlier moment, every case keeps holding, and the table stays
 -- chosen: over what may stand in a slot for what stood there, an instance of CaseAfter with the same table, from where
 -- nothing is pending and what the table counts on is there.
-use Rattle.std.proofs.Common.{◌≡◌, ◌≢◌, ◌⊎◌, inl, inr, ℕ, Bool, true, false, cond, List, ◌++◌, length, option_to_list, Option, Some, None, refl, sym, ◌∙◌, ap, subst, arith}
+use Rattle.std.proofs.Common.{◌≡◌, ◌≢◌, ◌⊎◌, inl, inr, ℕ, Bool, true, false, cond, List, ◌++◌, length, option_to_list, Option, Some, None, refl, sym, ◌∙◌, ap}
+use Rattle.std.proofs.Common.{subst, arith}
 use Rattle.std.proofs.lemmas.Bool.{cases_lt}
 use Rattle.sector_model.specs.History.{Bytes, History, MayHold, MayLeave, SlotMayHold, Slots, disk_of, is_down, sector_of, seen, start_of}
 use Rattle.sector_model.specs.Readable.{readable}
@@ -18,7 +19,8 @@ use Rattle.array_io.specs.Believed.Moments.{HoldsNow}
 use Rattle.array_io.specs.Believed.Settled.{IsAllThere, NoneComesBack}
 use Rattle.array_io.specs.Steps.Writing.{WritesFrom}
 use Rattle.array_io.proofs.Rest.AtRestImages.{same_left}
-use Rattle.array_io.proofs.Images.CaseAfter.{HoldsFrom, IsOfCase, StepsCase, none_back_counts, none_back_since, of_case_holds, stands_not_live, stands_same, steps_case, steps_hold}
+use Rattle.array_io.proofs.Images.CaseAfter.{HoldsFrom, IsOfCase, StepsCase, none_back_counts, none_back_since, of_case_holds, stands_not_live, stands_same}
+use Rattle.array_io.proofs.Images.CaseAfter.{steps_case, steps_hold}
 use Rattle.array_io.proofs.Images.Counting.{none_is_out}
 use Rattle.array_io.proofs.Images.LossBefore.{HasGone, HoldsBy, away_is_stale, before_of}
 use Rattle.array_io.proofs.Images.Put.{put_elsewhere, put_there}

@@ -34,7 +34,8 @@ use Rattle.array_io.proofs.Rest.SettledEntry.{entry_of_settled}
 use Rattle.array_io.proofs.Images.Spellings.{Spellings}
 
 -- from rest
-pub writable_at_rest : Spellings → (devices number : ℕ) (table : Table) (lost : Option Lost) (V : List Bytes) (h : History) → IsSettled devices table number h lost V → LeavesSectors h
+pub writable_at_rest : Spellings → (devices number : ℕ) (table : Table) (lost : Option Lost) (V : List Bytes) (h : History)
+    → IsSettled devices table number h lost V → LeavesSectors h
     → IsWritable devices number table table lost V h
 writable_at_rest spellings devices number table lost V h settled sectors = record {
   from = writes_from_settled spellings devices table number h lost V settled;
@@ -60,7 +61,8 @@ none_lost table None out complete = refl
 none_lost table (Some one) out complete = absurd ((out one refl).out (complete.in_sync one.slot (out one refl).of_set))
 
 -- and back to rest
-pub writable_rests : Spellings → (panel : Panel) (devices number : ℕ) (base table : Table) (lost : Option Lost) (V : List Bytes) (h : History) → panel.devices ≡ devices
+pub writable_rests : Spellings → (panel : Panel) (devices number : ℕ) (base table : Table) (lost : Option Lost) (V : List Bytes) (h : History)
+    → panel.devices ≡ devices
     → IsWritable devices number base table lost V h → LeavesSectors h → RestsAfter lost (view_of panel h table number) V
 writable_rests spellings panel devices number base table lost V h same_devices is sectors =
     rests_one panel devices number base table lost V h same_devices
@@ -68,15 +70,18 @@ writable_rests spellings panel devices number base table lost V h same_devices i
 
 -- reads that took no device down change nothing
 pub same_readable : (old new : History) → HasRead old new → ((d : ℕ) → is_down new d ≡ is_down old d) → readable new ≡ readable old
-same_readable old new read down = fun_ext (λ d. ap (λ (b : Bool). cond b None (Some (seen new d))) (down d) ∙ ap (λ (s : List Bytes). cond (is_down old d) None (Some s)) (seen_read read d))
+same_readable old new read down = fun_ext (λ d. ap (λ (b : Bool). cond b None (Some (seen new d))) (down d)
+    ∙ ap (λ (s : List Bytes). cond (is_down old d) None (Some s)) (seen_read read d))
 
-pub writable_read : Spellings → (devices number : ℕ) (base table : Table) (lost : Option Lost) (V : List Bytes) (old new : History) → IsWritable devices number base table lost V old
+pub writable_read : Spellings → (devices number : ℕ) (base table : Table) (lost : Option Lost) (V : List Bytes) (old new : History)
+    → IsWritable devices number base table lost V old
     → HasRead old new → ((d : ℕ) → is_down new d ≡ is_down old d) → IsWritable devices number base table lost V new
 writable_read spellings devices number base table lost V old new is read down =
     let writing : IsWriting table Nothing old new = throughout_last new (reads_write table Nothing old new read (λ d not. down d)) in
     record {
       from = writes_on spellings devices base table lost (V ∷ []) (V ∷ []) Nothing old new is.from (nothing_keeps devices table (readable old) (V ∷ [])) writing
-          (λ d at first second up may may'. is.from.nothing_pending d at first second (sym (down d) ∙ up) (held writing d at first may) (held writing d at second may'))
+          (λ d at first second up may may'. is.from.nothing_pending d at first second (sym (down d) ∙ up) (held writing d at first may)
+          (held writing d at second may'))
           (λ slot counted. down slot ∙ live_is_up spellings devices table old slot (is.from.there slot counted.of_set counted.there));
       entry = subst (HasEntryAtRest devices table number) (sym (same_readable old new read down)) is.entry;
       single_failure = single_failure_stays (slots_of base) lost old new down is.single_failure;
@@ -104,9 +109,11 @@ pub writable_marked : Spellings → (devices number : ℕ) (base table new_table
     → MarkedOn devices base table new_table lost (V ∷ []) slot mid new → HasWholeSectors (readable new) → IsWritable devices number base new_table lost V new
 writable_marked spellings devices number base table new_table lost V slot old mid new is read counted failure marked whole = record {
   from = from_new;
-  entry = entry_carried spellings devices base table new_table lost (V ∷ []) number old new is.entry is.from.there (marked_goes_on table new_table slot marked.marked counted.of_set marked.others_in_sync)
+  entry = entry_carried spellings devices base table new_table lost (V ∷ []) number old new is.entry is.from.there
+      (marked_goes_on table new_table slot marked.marked counted.of_set marked.others_in_sync)
       from_new one_new (record {
-        beyond = λ other at there beyond. marked.beyond other at (live_is_up spellings devices new_table new other (from_new.there other there.of_set there.there)) beyond
+        beyond = λ other at there beyond. marked.beyond other at
+            (live_is_up spellings devices new_table new other (from_new.there other there.of_set there.there)) beyond
             ∙ ap (λ (s : List Bytes). sector_of s at) (seen_read read other);
       }) whole;
   single_failure = one_new;
@@ -118,7 +125,8 @@ writable_marked spellings devices number base table new_table lost V slot old mi
 }
   where
     same_base : slots_of table ≡ slots_of base
-    same_base = ap (λ (g : Geometry). g.members + 2) (written_not_older spellings devices base table lost (V ∷ []) old is.from is.single_failure.0 is.single_failure.1).same_geometry
+    same_base = ap (λ (g : Geometry). g.members + 2) (written_not_older spellings devices base table lost (V ∷ []) old is.from is.single_failure.0
+        is.single_failure.1).same_geometry
 
     same_new : slots_of new_table ≡ slots_of table
     same_new = ap (λ (g : Geometry). g.members + 2) marked.marked.same_geometry

@@ -50,14 +50,16 @@ keeps_written devices table puts reads X X' keeps whole before image put =
     holds_written devices table puts reads X X' whole before image (keeps whole before image put) put
 
 -- what reads give of a device that is up is written
-pub writing_read : Spellings → (devices : ℕ) (table : Table) (puts : Contents) (old h : History) → NothingPending old → IsAllThere devices table old → IsWriting table puts old h
+pub writing_read : Spellings → (devices : ℕ) (table : Table) (puts : Contents) (old h : History) → NothingPending old → IsAllThere devices table old
+    → IsWriting table puts old h
     → (slot : ℕ) → CountsOn table slot → is_down h slot ≡ false → IsWritten puts slot (readable old slot) (readable h slot)
 writing_read spellings devices table puts old h pending there is slot counted up =
     put_read table (IsWritten puts) old h (writes table puts old h pending is) slot
     (counted_up spellings devices table old there slot counted) up
 
 -- and it is live
-pub writing_live : Spellings → (devices : ℕ) (table : Table) (puts : Contents) (old h : History) → NothingPending old → IsAllThere devices table old → IsWriting table puts old h
+pub writing_live : Spellings → (devices : ℕ) (table : Table) (puts : Contents) (old h : History) → NothingPending old → IsAllThere devices table old
+    → IsWriting table puts old h
     → (slot : ℕ) → CountsOn table slot → is_down h slot ≡ false → IsLive devices table slot (readable h slot)
 writing_live spellings devices table puts old h pending there is slot counted up =
     live_front devices table slot (readable old slot) (readable h slot)
@@ -65,7 +67,8 @@ writing_live spellings devices table puts old h pending there is slot counted up
     (there slot counted.of_set counted.there)
 
 -- where no such device is down, all is there
-pub writing_there : Spellings → (devices : ℕ) (table : Table) (puts : Contents) (old h : History) → NothingPending old → IsAllThere devices table old → IsWriting table puts old h
+pub writing_there : Spellings → (devices : ℕ) (table : Table) (puts : Contents) (old h : History) → NothingPending old → IsAllThere devices table old
+    → IsWriting table puts old h
     → ((slot : ℕ) → CountsOn table slot → is_down h slot ≡ false) → IsAllThere devices table h
 writing_there spellings devices table puts old h pending there is up slot of_set not_missing =
     let counted : CountsOn table slot = record { of_set = of_set; there = not_missing } in
@@ -88,7 +91,8 @@ writing_chosen spellings devices base table lost X X' puts old h from keeps is =
 
 -- throughout
 pub writing_throughout : Spellings → (devices : ℕ) (base table : Table) (lost : Option Lost) (X X' : List (List Bytes)) (puts : Contents) (old new : History)
-    → WritesFrom devices base table lost X old → KeepsRows devices table puts (readable old) X X' → Throughout (IsWriting table puts old) old new → HoldsThroughout base devices lost X' old new
+    → WritesFrom devices base table lost X old → KeepsRows devices table puts (readable old) X X' → Throughout (IsWriting table puts old) old new
+    → HoldsThroughout base devices lost X' old new
 writing_throughout spellings devices base table lost X X' puts old new from keeps moments =
     throughout_more (λ h is. writing_holds spellings devices base table lost X X' puts old h from keeps is) new moments
 
@@ -104,7 +108,8 @@ writing_none table puts old = record {
 }
 
 -- one stretch of writing after another
-pub writing_on : (table : Table) (puts : Contents) (old mid new : History) → IsWriting table puts old mid → IsWriting table puts mid new → IsWriting table puts old new
+pub writing_on : (table : Table) (puts : Contents) (old mid new : History) → IsWriting table puts old mid → IsWriting table puts mid new
+    → IsWriting table puts old new
 writing_on table puts old mid new first second = record {
   holds = λ device at value may. elim (second.holds device at value may) [
     | inl was ↦ first.holds device at value was

@@ -104,7 +104,8 @@ pub holds_written : (devices : ℕ) (table : Table) (puts : Contents) (reads : S
     → IsWrittenFrom devices table puts reads X whole before image → HoldsIn devices table X' image
 holds_written devices table puts reads X X' whole before image rows from = record {
   chosen = chosen_front table.id devices table before image front from.holds.chosen;
-  one_out = λ first second of_set of_set' out out'. from.holds.one_out first second of_set of_set' (λ full. out (full_now first full)) (λ full. out' (full_now second full));
+  one_out = λ first second of_set of_set' out out'. from.holds.one_out first second of_set of_set' (λ full. out (full_now first full))
+      (λ full. out' (full_now second full));
   none_higher = λ slot place superblock counts. from.holds.none_higher slot place superblock (was slot place superblock counts);
   one_content = λ slot place superblock counts. from.holds.one_content slot place superblock (was slot place superblock counts);
   sound = rows.0.sound;
@@ -115,14 +116,16 @@ holds_written devices table puts reads X X' whole before image rows from = recor
     front : (slot : ℕ) → HaveSameFront (before slot) (image slot)
     front slot = written_front puts slot (before slot) (image slot) (from.put slot)
 
-    was : (slot place : ℕ) (superblock : Superblock) → Counts table.id devices slot (image slot) place superblock → Counts table.id devices slot (before slot) place superblock
+    was : (slot place : ℕ) (superblock : Superblock) → Counts table.id devices slot (image slot) place superblock
+        → Counts table.id devices slot (before slot) place superblock
     was slot = counts_back table.id devices slot (before slot) (image slot) (front slot)
 
     full_now : (slot : ℕ) → IsInFull devices table slot (before slot) → IsInFull devices table slot (image slot)
     full_now slot = full_front devices table slot (before slot) (image slot) (front slot)
 
 -- the same slots are live in an image that was written
-pub written_alive : (devices : ℕ) (table : Table) (puts : Contents) (before image : Slots) → AreWritten puts before image → HaveLiveAlike devices table image before
+pub written_alive : (devices : ℕ) (table : Table) (puts : Contents) (before image : Slots) → AreWritten puts before image
+    → HaveLiveAlike devices table image before
 written_alive devices table puts before image written = record {
   live = λ slot live. live_front devices table slot (image slot) (before slot)
       (front_back (before slot) (image slot) (written_front puts slot (before slot) (image slot) (written slot))) live;

@@ -12,7 +12,8 @@ use Rattle.array_io.proofs.Writes.PutSince.{IsPutFrom}
 -- what stands in a slot stood there before, or after the superblocks what may be put there
 pub record IsWritten (puts : Contents) (slot : ℕ) (before after : Content) : Type 0 where
   pub long : length (disk_of after) ≡ length (disk_of before)
-  pub each : (at : ℕ) → (sector_of (disk_of after) at ≡ sector_of (disk_of before) at) ⊎ ((SUPERBLOCK_PLACES ≤ at) × puts slot at (sector_of (disk_of after) at))
+  pub each : (at : ℕ) → (sector_of (disk_of after) at ≡ sector_of (disk_of before) at)
+      ⊎ ((SUPERBLOCK_PLACES ≤ at) × puts slot at (sector_of (disk_of after) at))
 
 -- An image that was written, with what stood before it.
 abbrev pub IsWrittenFrom : (devices : ℕ) (table : Table) (puts : Contents) (reads : Slots) (X : List (List Bytes)) (whole before image : Slots) → Type 0

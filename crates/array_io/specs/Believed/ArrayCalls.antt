@@ -43,7 +43,8 @@ pub record Reads (honest : Type 0) (logical : ℕ) (old new : ArrayView) (to : B
 pub record MayCommit (table : Table) (sectors : List (ℕ × Bytes)) : Type 0 where
   pub least : 1 ≤ length sectors
   pub most : length sectors ≤ ENTRY_ROWS
-  pub of_set : (i : ℕ) → i < length sectors → (slice_index_or sectors i (0, [])).0 < data_sectors_of table.geometry.members table.geometry.chunk table.geometry.stripes
+  pub of_set : (i : ℕ) → i < length sectors → (slice_index_or sectors i (0, [])).0 < data_sectors_of table.geometry.members table.geometry.chunk
+      table.geometry.stripes
   pub apart : (i j : ℕ) → i < j → j < length sectors → (slice_index_or sectors i (0, [])).0 ≢ (slice_index_or sectors j (0, [])).0
 
 -- `commit(sectors)`: all of the sectors or none at each moment, and all at Ok. 15; 16 also where the entry's number stands at 2^62.
@@ -62,7 +63,8 @@ IsWithout old slot new = ((state_at old.states slot ≡ Missing) × (new ≡ old
 
 -- each weakened image chooses the array's table
 abbrev pub AllChooseIts : ArrayView → Option Lost → Type 0
-AllChooseIts array lost = InEachImage array.panel.devices array.table array.history lost (λ image. IsChosen array.table.id array.panel.devices image array.table)
+AllChooseIts array lost = InEachImage array.panel.devices array.table array.history lost
+    (λ image. IsChosen array.table.id array.panel.devices image array.table)
 
 -- the condition of `mark_missing`: every other slot is in sync, or the device is down
 abbrev pub MayMark : ArrayView → ℕ → Type 0

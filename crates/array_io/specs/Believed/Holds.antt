@@ -44,7 +44,8 @@ AreRowsOf devices table image rows = AreRowsBy devices table (IsLiveJournal devi
 
 -- the bodies beside two seals of equal numbers are equal
 abbrev pub HaveEqualBodies : ℕ → Content → Content → Seal → Type 0
-HaveEqualBodies members first second seal = (row member : ℕ) → member < members → sector_in members first seal row member ≡ sector_in members second seal row member
+HaveEqualBodies members first second seal = (row member : ℕ) → member < members
+    → sector_in members first seal row member ≡ sector_in members second seal row member
 
 -- the last entries of two journals are the same, or one is the next after the other
 abbrev pub AreInStep : ℕ → Content → Content → Option Seal → Option Seal → Type 0

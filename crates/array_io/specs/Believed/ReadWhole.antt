@@ -28,7 +28,8 @@ list_read array = logical_list array.table.geometry (rows_by array.table (readab
 
 -- the same of the logical sectors
 abbrev pub SectorsStay : (old new : ArrayView) → Type 0
-SectorsStay old new = (sector : ℕ) → length (slice_index_or (list_read old) sector []) ≡ 512 → slice_index_or (list_read new) sector [] ≡ slice_index_or (list_read old) sector []
+SectorsStay old new = (sector : ℕ) → length (slice_index_or (list_read old) sector []) ≡ 512
+    → slice_index_or (list_read new) sector [] ≡ slice_index_or (list_read old) sector []
 
 pub record ReadsWhole (sector : ℕ) (old new : ArrayView) (to : Bytes) : Type 0 where
   pub given : length (slice_index_or (list_read old) sector []) ≡ 512 → to ≡ slice_index_or (list_read old) sector []

@@ -65,7 +65,8 @@ pub record HasLostOne (old new : ArrayView) : Type 0 where
   pub is_down : new.panel.down slot ≡ true
   pub marked : IsMarked old.table slot new.table
 
--- The table is as before, but that one slot may be missing because its device is down; what failed, on an honest bank, in a call that did not end the array is missing.
+-- The table is as before, but that one slot may be missing because its device is down; what failed, on an honest bank, in a call that did not end the array is
+-- missing.
 pub record StaysButForFailures (honest : Type 0) (old new : ArrayView) (ended : Type 0) : Type 0 where
   pub table : (new.table ≡ old.table) ⊎ HasLostOne old new
   pub failure : honest → ¬ ended → (slot : ℕ) → slot < slots_of old.table → DeviceFailed slot old.panel new.panel → state_at new.table.states slot ≡ Missing

@@ -22,7 +22,8 @@ ARunBegins = (base : Table) (devices : ℕ) (image : Slots) (lost : Option Lost)
 
 -- what is stale under a table is stale under each later one
 abbrev pub StaleGoesOn : Type 0
-StaleGoesOn = (devices : ℕ) (old new : Table) (slot : ℕ) (content : Content) → IsNotOlder old new → IsStale devices old slot content → IsStale devices new slot content
+StaleGoesOn = (devices : ℕ) (old new : Table) (slot : ℕ) (content : Content) → IsNotOlder old new → IsStale devices old slot content
+    → IsStale devices new slot content
 
 -- Where a set is complete again, whatever of the lost slot was away is stale: the array is settled with none lost, and what reads give holds also
 -- with the slot lost that was lost before.

@@ -26,7 +26,8 @@ pub record IsBringing (table : Table) (sectors : ℕ → Bytes) (old h : History
   pub stays_down : (device : ℕ) → is_down old device ≡ true → is_down h device ≡ true
   pub others_stay : (device : ℕ) → ¬ CountsOn table device → is_down h device ≡ is_down old device
   -- reads give what they gave, or the table's own superblock in its place
-  pub reads : (device at : ℕ) → (sector_of (seen h device) at ≡ sector_of (seen old device) at) ⊎ IsOwnThere table sectors device at (sector_of (seen h device) at)
+  pub reads : (device at : ℕ) → (sector_of (seen h device) at ≡ sector_of (seen old device) at)
+      ⊎ IsOwnThere table sectors device at (sector_of (seen h device) at)
 
 -- each slot of the set carries the table
 pub record CarriesAll (table : Table) (image : Slots) : Type 0 where

@@ -67,8 +67,10 @@ pub record IsPublishedAnew (old new : ArrayView) : Type 0 where
   pub missing : state_at new.table.states slot ≡ Missing
   pub published : IsPublishedOn old.table.id old.panel.devices new.table new.history
 
--- What steps promise, for whatever the call began with (`from`): where the run is as `before` says, `holds` is so at each moment, and at Ok the run is as `after` says.
-pub record StepsOf (honest : Type 0) {From : Type 0} (holds : From → History → Type 0) (before after : From → Table → History → Type 0) (old new : ArrayView) (answer : Answer) : Type 0 where
+-- What steps promise, for whatever the call began with (`from`): where the run is as `before` says, `holds` is so at each moment, and at Ok the run is as
+-- `after` says.
+pub record StepsOf (honest : Type 0) {From : Type 0} (holds : From → History → Type 0) (before after : From → Table → History → Type 0) (old new : ArrayView)
+    (answer : Answer) : Type 0 where
   pub goes_on : GoesOn old new
   pub stays : StaysButForFailures honest old new (HasEnded answer)
   pub number : new.number ≡ old.number

@@ -119,9 +119,11 @@ row_with members entry i values = map (sector_with entry i values) (range_with_l
 
 -- the i-th row with what the entry holds of it, and the list's sectors elsewhere, is sound
 abbrev pub HasSoundRow : Geometry → (logical : List Bytes) → Entry → (i row : ℕ) → Type 0
-HasSoundRow geometry logical entry i row = (values : List Bytes) → IsListedRow geometry logical row values → IsSoundRow (row_with geometry.members entry i values)
+HasSoundRow geometry logical entry i row = (values : List Bytes) → IsListedRow geometry logical row values
+    → IsSoundRow (row_with geometry.members entry i values)
 
--- The rows of the given sectors are formed in the entry from a list: it holds the new data and the parity, and with the other data as the list has it each row is sound.
+-- The rows of the given sectors are formed in the entry from a list: it holds the new data and the parity, and with the other data as the list has it each row
+-- is sound.
 pub record FormsListed (geometry : Geometry) (sectors : Given) (logical : List Bytes) (entry : Entry) : Type 0 where
   pub rows : AreRowsOf geometry sectors (numbers_of entry)
   pub held : HoldsChanged geometry sectors entry

@@ -51,13 +51,14 @@ answer_of (Err (stop.Down device)) = Err TwoLost
 answer_of (Err stop.Worn) = Err Worn
 
 -- the slot was marked, all others being in sync, and the new table was published
-pub record IsMarkedOn (honest : Type 0) (slot : ℕ) (old_panel new_panel : Panel) (old_table new_table : Table) (old new : History) (answer : Answer) : Type 0 where
-  pub counted : state_at old_table.states slot ≢ Missing
-  pub others : (other : ℕ) → other < slots_of old_table → other ≢ slot → state_at old_table.states other ≡ InSync
-  pub marked : IsMarked old_table slot new_table
-  pub result : Result (Unit {0}) Stop
-  pub publishes : Publishes honest new_table None old_panel new_panel old new result
-  pub answered : answer ≡ answer_of result
+pub record IsMarkedOn (honest : Type 0) (slot : ℕ) (old_panel new_panel : Panel) (old_table new_table : Table) (old new : History) (answer : Answer) : Type 0
+  where
+    pub counted : state_at old_table.states slot ≢ Missing
+    pub others : (other : ℕ) → other < slots_of old_table → other ≢ slot → state_at old_table.states other ≡ InSync
+    pub marked : IsMarked old_table slot new_table
+    pub result : Result (Unit {0}) Stop
+    pub publishes : Publishes honest new_table None old_panel new_panel old new result
+    pub answered : answer ≡ answer_of result
 
 -- `mark_slot(bank, table, slot)`: nothing is done, or the slot is marked and the new table published. 15, 16.
 abbrev pub MarksOn : (honest : Type 0) (slot : ℕ) (old_panel new_panel : Panel) (old_table new_table : Table) (old new : History) → Answer → Type 0

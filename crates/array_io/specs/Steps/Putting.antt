@@ -71,7 +71,8 @@ IsBodyLong members seal body = length body ≡ held_before members seal.form (le
 abbrev pub in_body : (members : ℕ) → Seal → (body : List Bytes) → (i member : ℕ) → Bytes
 in_body members seal body i member = slice_index_or body (rank members seal.form i member) []
 
--- The entry is formed: from sound rows in which no entry counts, and which the members have but where the entry holds a sector, with sectors that make of their list this one of
+-- The entry is formed: from sound rows in which no entry counts, and which the members have but where the entry holds a sector, with sectors that make of their
+-- list this one of
 -- the lists. Of each of its rows the new sectors of all members are given; those that it holds are in its body, and the others are as they were.
 pub record IsFormedOn (list_then : List Bytes) (seal : Seal) (body : List Bytes) (from : PutsFrom) (table : Table) (h : History) : Type 0 where
   pub rows : Rows
@@ -91,7 +92,8 @@ pub record IsFormedOn (list_then : List Bytes) (seal : Seal) (body : List Bytes)
       → rows.trusted row member ≡ true
   pub own : (row member : ℕ) → row < row_count table → member < table.geometry.members → trusts (state_at table.states member) row table.position ≡ true
       → place_by_seal table.geometry.members seal row member ≡ None → sector_of (seen h member) (FIRST_ROW + row) ≡ rows.own row member
-  pub whole_sectors : (row member : ℕ) → row < row_count table → member < table.geometry.members → rows.trusted row member ≡ true → length (rows.own row member) ≡ 512
+  pub whole_sectors : (row member : ℕ) → row < row_count table → member < table.geometry.members → rows.trusted row member ≡ true
+      → length (rows.own row member) ≡ 512
 
 -- a journal on which the table counts has it
 pub record HasSource (journals : ℕ → Progress) (table : Table) : Type 0 where
@@ -116,12 +118,14 @@ pub record IsComing (origin : Origin) (seal : Seal) (body : List Bytes) (journal
   pub on_journals : (journal : ℕ) → table.geometry.members ≤ journal → CountsOn table journal → IsAt (journals journal) table h journal seal body
   pub may_stand : HasOrigin origin seal body journals from table h
 
--- The entry is safe on each journal on which the table counts, and what it holds stands on the members before the n-th, where their own sectors count by the table.
+-- The entry is safe on each journal on which the table counts, and what it holds stands on the members before the n-th, where their own sectors count by the
+-- table.
 pub record IsPutBefore (n : ℕ) (seal : Seal) (body : List Bytes) (from : PutsFrom) (table : Table) (h : History) : Type 0 where
   pub writes : MayWrite from table h
   pub long : IsBodyLong table.geometry.members seal body
   pub on_journals : (journal : ℕ) → table.geometry.members ≤ journal → CountsOn table journal → HasThisEntry table.id table.geometry (seen h journal) seal body
-  pub on_members : (member i : ℕ) → member < n → member < table.geometry.members → i < length seal.rows.items → holds table.geometry.members seal.form i member ≡ true
+  pub on_members : (member i : ℕ) → member < n → member < table.geometry.members → i < length seal.rows.items
+      → holds table.geometry.members seal.form i member ≡ true
       → trusts (state_at table.states member) (row_at seal.rows.items i) table.position ≡ true
       → sector_of (seen h member) (FIRST_ROW + row_at seal.rows.items i) ≡ in_body table.geometry.members seal body i member
 

@@ -46,7 +46,8 @@ pub record IsRowOn (table : Table) (of : HeldRows) (member device at : ℕ) (val
 -- and the rows rise, and are rows of the set.
 pub record CanPutRows (table : Table) (rows : List ℕ) (panel : Panel) : Type 0 where
   pub of_bank : slots_of table ≤ panel.devices
-  pub fit : (member : ℕ) → member < table.geometry.members → state_at table.states member ≢ Missing → panel.down member ≡ false → FIRST_ROW + row_count table ≤ panel.sectors member
+  pub fit : (member : ℕ) → member < table.geometry.members → state_at table.states member ≢ Missing → panel.down member ≡ false
+      → FIRST_ROW + row_count table ≤ panel.sectors member
   pub below : (i : ℕ) → i < length rows → row_at rows i < row_count table
   pub rising : IsStrictlyIncreasing rows
 
@@ -80,8 +81,10 @@ pub record PutsMember (honest : Type 0) (table : Table) (of : HeldRows) (member 
   -- nothing else is put, no other device is called, and reads give what they gave, where none of these rows stands
   pub moments : honest → Throughout (IsWriting table (IsRowOn table of member) old) old new
   pub off : honest → StaysOff (λ d. d ≡ member) old new
-  pub elsewhere : honest → (at : ℕ) → ((value : Bytes) → ¬ IsRowOn table of member member at value) → sector_of (seen new member) at ≡ sector_of (seen old member) at
+  pub elsewhere : honest → (at : ℕ) → ((value : Bytes) → ¬ IsRowOn table of member member at value)
+      → sector_of (seen new member) at ≡ sector_of (seen old member) at
   -- at Ok no device failed, reads give the rows that are put on it, and a crash leaves on it what reads give, if it did so before
   pub none_failed : honest → result ≡ Ok tt → (device : ℕ) → is_down new device ≡ is_down old device
-  pub written : honest → result ≡ Ok tt → (i : ℕ) → i < length of.rows → is_put table of member i ≡ true → sector_of (seen new member) (FIRST_ROW + row_at of.rows i) ≡ of.values i member
+  pub written : honest → result ≡ Ok tt → (i : ℕ) → i < length of.rows → is_put table of member i ≡ true
+      → sector_of (seen new member) (FIRST_ROW + row_at of.rows i) ≡ of.values i member
   pub flushed : honest → result ≡ Ok tt → LeavesSeen old member → LeavesSeen new member

@@ -22,10 +22,12 @@ use Rattle.array_io.specs.Believed.Views.{ArrayView}
 use Rattle.array_io.specs.Steps.CallSteps.{CallsOne, StepsOf}
 use Rattle.array_io.specs.Steps.MarkingOn.{MarksOn}
 use Rattle.array_io.specs.Steps.PuttingRows.{HeldRows, PutsMember}
-use Rattle.array_io.specs.Steps.Putting.{Awaited, HasBody, HasSeal, HoldsAll, IfSingleFailure, IsComing, IsPut, IsPutBefore, Origin, Progress, PutsFrom, reached}
+use Rattle.array_io.specs.Steps.Putting.{Awaited, HasBody, HasSeal, HoldsAll, IfSingleFailure, IsComing, IsPut, IsPutBefore, Origin, Progress, PutsFrom}
+use Rattle.array_io.specs.Steps.Putting.{reached}
 
 -- these calls of one device were made, up to the first that is not answered
-pub record PutsCalls (honest : Type 0) (device : ℕ) (calls : List Call) (old_panel new_panel : Panel) (old new : History) (result : Result (Unit {0}) Stop) : Type 0 where
+pub record PutsCalls (honest : Type 0) (device : ℕ) (calls : List Call) (old_panel new_panel : Panel) (old new : History)
+    (result : Result (Unit {0}) Stop) : Type 0 where
   pub calls_one : CallsOne honest device old_panel new_panel old new result
   pub made : honest → Made calls (is_ok result) old new
 
@@ -35,11 +37,16 @@ pub record IsUntouched (old_panel new_panel : Panel) (old_table new_table : Tabl
   pub same_table : new_table ≡ old_table
   pub same_history : new ≡ old
 
--- Calls of one device that ended so are taken over: as answered, or as the end of the count, or the slot whose device failed is marked missing, or that is refused.
-abbrev pub EndsOrFailsSlot : (honest : Type 0) (slot : ℕ) (old_panel new_panel : Panel) (old_table new_table : Table) (old new : History) → Result (Unit {0}) Stop → Answer → Type 0
-EndsOrFailsSlot honest slot old_panel new_panel old_table new_table old new (Ok done) answer = (answer ≡ Ok tt) × IsUntouched old_panel new_panel old_table new_table old new
-EndsOrFailsSlot honest slot old_panel new_panel old_table new_table old new (Err stop.Worn) answer = (answer ≡ Err Worn) × IsUntouched old_panel new_panel old_table new_table old new
-EndsOrFailsSlot honest slot old_panel new_panel old_table new_table old new (Err (stop.Down device)) answer = MarksOn honest slot old_panel new_panel old_table new_table old new answer
+-- Calls of one device that ended so are taken over: as answered, or as the end of the count, or the slot whose device failed is marked missing, or that is
+-- refused.
+abbrev pub EndsOrFailsSlot : (honest : Type 0) (slot : ℕ) (old_panel new_panel : Panel) (old_table new_table : Table) (old new : History)
+    → Result (Unit {0}) Stop → Answer → Type 0
+EndsOrFailsSlot honest slot old_panel new_panel old_table new_table old new (Ok done) answer = (answer ≡ Ok tt)
+    × IsUntouched old_panel new_panel old_table new_table old new
+EndsOrFailsSlot honest slot old_panel new_panel old_table new_table old new (Err stop.Worn) answer = (answer ≡ Err Worn)
+    × IsUntouched old_panel new_panel old_table new_table old new
+EndsOrFailsSlot honest slot old_panel new_panel old_table new_table old new (Err (stop.Down device)) answer =
+    MarksOn honest slot old_panel new_panel old_table new_table old new answer
 
 -- the rows of an entry, and the sectors of them that it holds
 abbrev pub rows_held : Entry → HeldRows
@@ -59,18 +66,22 @@ FitsPart part.Seal table seal entry slot = table.geometry.members ≤ slot
 FitsPart part.Rows table seal entry slot = (slot < table.geometry.members) × HasItsRows table seal entry
 
 -- The calls of one device by which a part is put there, the last of them a flush.
-abbrev pub PutsPart : (honest : Type 0) → Part → Table → Seal → Entry → (slot : ℕ) (old_panel new_panel : Panel) (old new : History) → Result (Unit {0}) Stop → Type 0
+abbrev pub PutsPart : (honest : Type 0) → Part → Table → Seal → Entry → (slot : ℕ) (old_panel new_panel : Panel) (old new : History) → Result (Unit {0}) Stop
+    → Type 0
 PutsPart honest part.Body table seal entry slot old_panel new_panel old new result =
-    PutsCalls honest slot (writes_from slot (body_start seal.number) (body_of table.geometry.members entry) ++ Flush slot ∷ []) old_panel new_panel old new result
+    PutsCalls honest slot (writes_from slot (body_start seal.number) (body_of table.geometry.members entry) ++ Flush slot ∷ []) old_panel new_panel old new
+    result
 PutsPart honest part.Seal table seal entry slot old_panel new_panel old new result =
     PutsCalls honest slot (Write slot (seal_place seal.number) (seal_sector seal) ∷ Flush slot ∷ []) old_panel new_panel old new result
-PutsPart honest part.Rows table seal entry slot old_panel new_panel old new result = PutsMember honest table (rows_held entry) slot old_panel new_panel old new result
+PutsPart honest part.Rows table seal entry slot old_panel new_panel old new result =
+    PutsMember honest table (rows_held entry) slot old_panel new_panel old new result
 
 -- steps from one state to another, each if one slot is lost at most
 abbrev pub Brings : (honest : Type 0) (before after : PutsFrom → Table → History → Type 0) → ArrayView → ArrayView → Answer → Type 0
 Brings honest before after old new answer = StepsOf honest HoldsAll (IfSingleFailure before) (IfSingleFailure after) old new answer
 
--- A part of the entry comes onto the slot, or what is said of it is free: the body of a journal that awaits it, the seal of one that has the body, the rows of the next member.
+-- A part of the entry comes onto the slot, or what is said of it is free: the body of a journal that awaits it, the seal of one that has the body, the rows of
+-- the next member.
 abbrev pub StepsPart : (honest : Type 0) → Part → Seal → (body : List Bytes) (slot : ℕ) → ArrayView → ArrayView → Answer → Type 0
 StepsPart honest part.Body seal body slot old new answer = (origin : Origin) (journals : ℕ → Progress) → journals slot ≡ Awaited
     → Brings honest (IsComing origin seal body journals) (IsComing origin seal body (reached journals slot HasBody)) old new answer
@@ -96,7 +107,8 @@ StepsJournal honest seal body journal old new answer = (origin : Origin) (journa
 
 -- The entry comes onto both journals, of which this is the first.
 abbrev pub StepsJournals : (honest : Type 0) → Seal → (body : List Bytes) (first : ℕ) → ArrayView → ArrayView → Answer → Type 0
-StepsJournals honest seal body first old new answer = (origin : Origin) → Brings honest (IsComing origin seal body (λ k. Awaited)) (IsComing origin seal body (both_sealed first)) old new answer
+StepsJournals honest seal body first old new answer = (origin : Origin)
+    → Brings honest (IsComing origin seal body (λ k. Awaited)) (IsComing origin seal body (both_sealed first)) old new answer
 
 -- The rows of an entry that is safe on the journals come onto the members, and then it says what those hold.
 abbrev pub StepsMembers : (honest : Type 0) → Seal → (body : List Bytes) → ArrayView → ArrayView → Answer → Type 0

@@ -46,7 +46,8 @@ pub record IsReadWorn (honest : Type 0) (old_panel new_panel : Panel) (old new :
   pub stays : honest → (device : ℕ) → is_down new device ≡ is_down old device
 
 -- The value is read (`true`), or a device failed and its slot is marked missing (`false`), or that is refused, or no further call can be counted.
-abbrev pub ReadsOrFailsSlot : (honest : Type 0) (table new_table : Table) (member row : ℕ) (old_panel new_panel : Panel) (old new : History) (to : Bytes) → Result Bool Refusal → Type 0
+abbrev pub ReadsOrFailsSlot : (honest : Type 0) (table new_table : Table) (member row : ℕ) (old_panel new_panel : Panel) (old new : History) (to : Bytes)
+    → Result Bool Refusal → Type 0
 ReadsOrFailsSlot honest table new_table member row old_panel new_panel old new to result =
     ((result ≡ Ok true) × (new_table ≡ table) × IsValueRead honest table member row old_panel new_panel old new to)
     ⊎ ((result ≡ Ok false) × IsFailureMarked honest table new_table old_panel new_panel old new (Ok tt))
@@ -70,4 +71,5 @@ Between devices number from table h = IsWritable devices number from.base table 
 -- steps that keep the list, for every number of the last entry
 abbrev pub KeepsOn : (honest : Type 0) (table new_table : Table) (old_panel new_panel : Panel) (old new : History) → Answer → Type 0
 KeepsOn honest table new_table old_panel new_panel old new answer = (devices number : ℕ)
-    → StepsOf honest (KeepsList devices) (Between devices number) (Between devices number) (view_of old_panel old table number) (view_of new_panel new new_table number) answer
+    → StepsOf honest (KeepsList devices) (Between devices number) (Between devices number) (view_of old_panel old table number)
+    (view_of new_panel new new_table number) answer

@@ -9,7 +9,8 @@ use Rattle.superblock.specs.NextTables.{IsOut, slots_of}
 use Rattle.array_io.specs.Steps.EntryAtRest.{HasEntryAtRest}
 use Rattle.array_io.specs.Steps.Writing.{WritesFrom}
 
--- What a call of an array keeps between its steps, while the list stays V: every case holds for V, nothing is pending, and the last entry, whose number this is, says
+-- What a call of an array keeps between its steps, while the list stays V: every case holds for V, nothing is pending, and the last entry, whose number this
+-- is, says
 -- what the members hold; one slot is lost at most, which the table lacks. `base` is the table at the call's start, and `lost` what was lost then.
 pub record IsWritable (devices number : ℕ) (base table : Table) (lost : Option Lost) (V : List Bytes) (h : History) : Type 0 where
   pub from : WritesFrom devices base table lost (V ∷ []) h

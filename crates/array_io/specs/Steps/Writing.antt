@@ -29,7 +29,8 @@ pub record WritesFrom (devices : ℕ) (base table : Table) (lost : Option Lost) 
   pub there : IsAllThere devices table old
   pub same_id : table.id ≡ base.id
   pub holds : HoldsNow base devices lost X old
-  pub chosen : (after : Option Lost) → IsLostAt (slots_of base) lost old after → InEachImage devices table old after (λ image. IsChosen table.id devices image table)
+  pub chosen : (after : Option Lost) → IsLostAt (slots_of base) lost old after
+      → InEachImage devices table old after (λ image. IsChosen table.id devices image table)
 
 -- One device failed while the set was written, that of a slot on which the table counts: the other slots that it counts on are there, nothing is pending on
 -- devices that are up, all cases that a crash may leave hold for X, and their images choose the table.
@@ -40,4 +41,5 @@ pub record HasFailedOnce (devices : ℕ) (base table : Table) (lost : Option Los
   pub down : is_down mid slot ≡ true
   pub same_id : table.id ≡ base.id
   pub holds : HoldsNow base devices lost X mid
-  pub chosen : (after : Option Lost) → IsLostAt (slots_of base) lost mid after → InEachImage devices table mid after (λ image. IsChosen table.id devices image table)
+  pub chosen : (after : Option Lost) → IsLostAt (slots_of base) lost mid after
+      → InEachImage devices table mid after (λ image. IsChosen table.id devices image table)

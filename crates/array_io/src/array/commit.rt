@@ -15,12 +15,13 @@ use stripe_journal::{Entry, Seal};
 use superblock::Table;
 
 impl<B: Bank> Array<B> {
-    /// Writes these logical sectors, 1 to 32 distinct ones below the set's data sectors (conditions): at each moment a crash
-    /// leaves all of them as they were or all as given, and after `Ok` as given. They are one entry of the journal, which holds of
-    /// each row the sectors that change, the given ones and the parity: each of these is written once to each journal and
-    /// once to its member, each seal once, and each device that was written is flushed once after its body, once after its
-    /// seal, or once after its rows. Of each row the old values of what changes are read, or the other data where those are
-    /// fewer sectors, each once. A slot whose device goes down is marked missing, and the sectors are written without it.
+    /// Writes these logical sectors, 1 to 32 distinct ones below the set's data sectors (conditions): at each moment a
+    /// crash leaves all of them as they were or all as given, and after `Ok` as given. They are one entry of the
+    /// journal, which holds of each row the sectors that change, the given ones and the parity: each of these is
+    /// written once to each journal and once to its member, each seal once, and each device that was written is flushed
+    /// once after its body, once after its seal, or once after its rows. Of each row the old values of what changes are
+    /// read, or the other data where those are fewer sectors, each once. A slot whose device goes down is marked
+    /// missing, and the sectors are written without it.
     ///
     /// Refused with `TwoLost` where a second slot is lost, and with `Worn` where the count of device calls, the table's
     /// generation or the number of the last entry stands at 2^62. The sectors may then have been written, all or none.

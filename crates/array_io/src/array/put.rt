@@ -10,7 +10,8 @@ ghost use Rattle.superblock.specs.NextTables.{slots_of};
 ghost use Rattle.array_io.specs.Believed.OpenArray.{array_on};
 ghost use Rattle.array_io.specs.Believed.Views.{HasItsSlots};
 ghost use Rattle.array_io.specs.Steps.Bringing.{CountsOn};
-ghost use Rattle.array_io.specs.Steps.PuttingSteps.{EndsOrFailsSlot, FitsPart, HasItsRows, PutsCalls, PutsPart, StepsJournal, StepsJournals, StepsMembers, StepsPart};
+ghost use Rattle.array_io.specs.Steps.PuttingSteps.{EndsOrFailsSlot, FitsPart, HasItsRows, PutsCalls, PutsPart};
+ghost use Rattle.array_io.specs.Steps.PuttingSteps.{StepsJournal, StepsJournals, StepsMembers, StepsPart};
 
 use super::mark_slot;
 use crate::member_rows::put_member;
@@ -30,8 +31,9 @@ pub(crate) enum Part {
     Rows,
 }
 
-/// Puts an entry on both journals of a set that lack it: its body on each, and, once it is safe there, its seal. A journal whose
-/// device goes down is marked missing, and one that the table calls missing is passed over. Refused as `part_or_fail_slot` is.
+/// Puts an entry on both journals of a set that lack it: its body on each, and, once it is safe there, its seal. A
+/// journal whose device goes down is marked missing, and one that the table calls missing is passed over. Refused as
+/// `part_or_fail_slot` is.
 ///
 /// The set's slots are as `part_or_fail_slot` asks (condition).
 pub(crate) fn put_on_journals<B: Bank>(
@@ -44,7 +46,8 @@ pub(crate) fn put_on_journals<B: Bank>(
     ensures honest { B.honest bank.old ↔ B.honest bank.new }
     ensures its_slots { HasItsSlots table.new (B.panel bank.new) }
     ensures geometry { table.new.geometry ≡ table.old.geometry }
-    ensures steps { (number : ℕ) → StepsJournals (B.honest bank.old) seal.now (body_of table.old.geometry.members entry.now) table.old.geometry.members
+    ensures steps { (number : ℕ) → StepsJournals (B.honest bank.old) seal.now
+        (body_of table.old.geometry.members entry.now) table.old.geometry.members
         (array_on B.Bank bank.old table.old number) (array_on B.Bank bank.new table.new number) result }
 {
     let first = table.geometry.members;
@@ -54,8 +57,9 @@ pub(crate) fn put_on_journals<B: Bank>(
     part_or_fail_slot(bank, table, seal, entry, first + 1, Part::Seal)
 }
 
-/// Puts an entry on one journal that lacks it, while the other one has it: its body, and, once it is safe there, its seal. Where its
-/// device goes down, or the table calls it missing, it goes as with `part_or_fail_slot`, and that says how this is refused.
+/// Puts an entry on one journal that lacks it, while the other one has it: its body, and, once it is safe there, its
+/// seal. Where its device goes down, or the table calls it missing, it goes as with `part_or_fail_slot`, and that says
+/// how this is refused.
 ///
 /// The slot is a journal of the set, and the set's slots are as `part_or_fail_slot` asks (conditions).
 pub fn put_on_journal<B: Bank>(
@@ -71,18 +75,20 @@ pub fn put_on_journal<B: Bank>(
     ensures honest { B.honest bank.old ↔ B.honest bank.new }
     ensures its_slots { HasItsSlots table.new (B.panel bank.new) }
     ensures geometry { table.new.geometry ≡ table.old.geometry }
-    ensures steps { (number : ℕ) → StepsJournal (B.honest bank.old) seal.now (body_of table.old.geometry.members entry.now) journal
+    ensures steps { (number : ℕ) → StepsJournal (B.honest bank.old) seal.now
+        (body_of table.old.geometry.members entry.now) journal
         (array_on B.Bank bank.old table.old number) (array_on B.Bank bank.new table.new number) result }
 {
     part_or_fail_slot(bank, table, seal, entry, journal, Part::Body)?;
     part_or_fail_slot(bank, table, seal, entry, journal, Part::Seal)
 }
 
-/// Puts the rows of an entry that is safe on the journals on each member in turn: of a commit, and of the last entry when a set is
-/// assembled. A member whose device goes down is marked missing, and one that the table calls missing is passed over. Refused as
-/// `part_or_fail_slot` is.
+/// Puts the rows of an entry that is safe on the journals on each member in turn: of a commit, and of the last entry
+/// when a set is assembled. A member whose device goes down is marked missing, and one that the table calls missing is
+/// passed over. Refused as `part_or_fail_slot` is.
 ///
-/// The entry's rows are those of the seal, and rows of the set, and the set's slots are as `part_or_fail_slot` asks (conditions).
+/// The entry's rows are those of the seal, and rows of the set, and the set's slots are as `part_or_fail_slot` asks
+/// (conditions).
 pub fn put_on_members<B: Bank>(
     bank: &mut B,
     table: &mut Table,
@@ -93,7 +99,8 @@ pub fn put_on_members<B: Bank>(
     requires its_rows { HasItsRows table.old seal.now entry.now }
     ensures honest { B.honest bank.old ↔ B.honest bank.new }
     ensures its_slots { HasItsSlots table.new (B.panel bank.new) }
-    ensures steps { (number : ℕ) → StepsMembers (B.honest bank.old) seal.now (body_of table.old.geometry.members entry.now)
+    ensures steps { (number : ℕ) → StepsMembers (B.honest bank.old) seal.now
+        (body_of table.old.geometry.members entry.now)
         (array_on B.Bank bank.old table.old number) (array_on B.Bank bank.new table.new number) result }
 {
     for member in 0..table.geometry.members {
@@ -102,11 +109,13 @@ pub fn put_on_members<B: Bank>(
     Ok(())
 }
 
-/// Puts a part of an entry on a slot, or marks the slot missing where its device goes down. Nothing is done where the table calls
-/// it missing already. Refused as `mark_slot` is, and with `Worn` where the count of device calls stands at 2^62.
+/// Puts a part of an entry on a slot, or marks the slot missing where its device goes down. Nothing is done where the
+/// table calls it missing already. Refused as `mark_slot` is, and with `Worn` where the count of device calls stands at
+/// 2^62.
 ///
-/// The slot is a journal, or for the rows a member; the entry's rows are then those of the seal, and rows of the set. The set's slots
-/// are slots of the bank, each long enough where it is up, and where the table does not call it missing (conditions).
+/// The slot is a journal, or for the rows a member; the entry's rows are then those of the seal, and rows of the set.
+/// The set's slots are slots of the bank, each long enough where it is up, and where the table does not call it missing
+/// (conditions).
 pub(crate) fn part_or_fail_slot<B: Bank>(
     bank: &mut B,
     table: &mut Table,
@@ -121,7 +130,8 @@ pub(crate) fn part_or_fail_slot<B: Bank>(
     ensures honest { B.honest bank.old ↔ B.honest bank.new }
     ensures its_slots { HasItsSlots table.new (B.panel bank.new) }
     ensures geometry { table.new.geometry ≡ table.old.geometry }
-    ensures step { (number : ℕ) → StepsPart (B.honest bank.old) part seal.now (body_of table.old.geometry.members entry.now) slot
+    ensures step { (number : ℕ) → StepsPart (B.honest bank.old) part seal.now
+        (body_of table.old.geometry.members entry.now) slot
         (array_on B.Bank bank.old table.old number) (array_on B.Bank bank.new table.new number) result }
 {
     let state = table.states[slot as usize];
@@ -132,8 +142,9 @@ pub(crate) fn part_or_fail_slot<B: Bank>(
     done_or_fail_slot(bank, table, slot, done)
 }
 
-// Puts a part of an entry on a slot, and makes it safe there by one flush. `Stop::Down` names the slot, `Stop::Worn` says that the
-// count of device calls stands at 2^62. The table does not call the slot missing; else the conditions are as of `part_or_fail_slot`.
+// Puts a part of an entry on a slot, and makes it safe there by one flush. `Stop::Down` names the slot, `Stop::Worn`
+// says that the count of device calls stands at 2^62. The table does not call the slot missing; else the conditions are
+// as of `part_or_fail_slot`.
 fn put_part<B: Bank>(
     bank: &mut B,
     table: &Table,
@@ -147,7 +158,8 @@ fn put_part<B: Bank>(
     requires fits { FitsPart part table.now seal.now entry.now slot }
     ensures panel { IsLater (B.panel bank.old) (B.panel bank.new) }
     ensures honest { B.honest bank.old ↔ B.honest bank.new }
-    ensures puts { PutsPart (B.honest bank.old) part table.now seal.now entry.now slot (B.panel bank.old) (B.panel bank.new) (B.history bank.old) (B.history bank.new) result }
+    ensures puts { PutsPart (B.honest bank.old) part table.now seal.now entry.now slot (B.panel bank.old)
+        (B.panel bank.new) (B.history bank.old) (B.history bank.new) result }
 {
     match part {
         Part::Body => put_body(bank, slot, seal, entry, &table.geometry),
@@ -156,8 +168,8 @@ fn put_part<B: Bank>(
     }
 }
 
-/// Takes over how calls of one slot's device ended: where it went down, its slot is marked missing, or that is refused as
-/// `mark_slot` is; `Worn` where no further call could be counted.
+/// Takes over how calls of one slot's device ended: where it went down, its slot is marked missing, or that is refused
+/// as `mark_slot` is; `Worn` where no further call could be counted.
 ///
 /// The slot is one of the set, and the set's slots are as `part_or_fail_slot` asks (conditions).
 pub fn done_or_fail_slot<B: Bank>(
@@ -194,7 +206,9 @@ fn put_body<B: Bank>(
     requires device { journal < (B.panel bank.old).devices }
     requires within { (B.panel bank.old).down journal ≡ false → JOURNAL_SECTORS ≤ (B.panel bank.old).sectors journal }
     ensures honest { B.honest bank.old ↔ B.honest bank.new }
-    ensures puts { PutsCalls (B.honest bank.old) journal (writes_from journal (body_start seal.now.number) (body_of geometry.now.members entry.now) ++ Flush journal ∷ [])
+    ensures puts { PutsCalls (B.honest bank.old) journal
+        (writes_from journal (body_start seal.now.number) (body_of geometry.now.members entry.now) ++ Flush journal
+        ∷ [])
         (B.panel bank.old) (B.panel bank.new) (B.history bank.old) (B.history bank.new) result }
 {
     write_body(bank, journal, seal.number, entry, geometry)?;
@@ -206,7 +220,8 @@ fn put_seal<B: Bank>(bank: &mut B, journal: u8, seal: &Seal) -> Result<(), Stop>
     requires device { journal < (B.panel bank.old).devices }
     requires within { (B.panel bank.old).down journal ≡ false → JOURNAL_SECTORS ≤ (B.panel bank.old).sectors journal }
     ensures honest { B.honest bank.old ↔ B.honest bank.new }
-    ensures puts { PutsCalls (B.honest bank.old) journal (Write journal (seal_place seal.now.number) (seal_sector seal.now) ∷ Flush journal ∷ [])
+    ensures puts { PutsCalls (B.honest bank.old) journal
+        (Write journal (seal_place seal.now.number) (seal_sector seal.now) ∷ Flush journal ∷ [])
         (B.panel bank.old) (B.panel bank.new) (B.history bank.old) (B.history bank.new) result }
 {
     write_seal(bank, journal, seal)?;

@@ -19,13 +19,14 @@ use superblock::Table;
 
 impl<B: Bank> Array<B> {
     /// Reads a logical sector of the set, one below its data sectors (condition): the sector of the member on which it
-    /// lies, or where that is missing, or has not been rebuilt so far, the XOR of the row's other sectors. A member whose
-    /// device goes down is marked missing, and its part is read without it.
+    /// lies, or where that is missing, or has not been rebuilt so far, the XOR of the row's other sectors. A member
+    /// whose device goes down is marked missing, and its part is read without it.
     ///
     /// Refused with `TwoLost` where a second slot is lost, and with `Worn` where the count of device calls, or the
     /// table's generation, stands at 2^62; `to` may then hold anything.
     pub fn read(&mut self, logical: u64, to: &mut Sector) -> Result<(), Refusal>
-        requires { logical < data_sectors_of self.old.table.geometry.members self.old.table.geometry.chunk self.old.table.geometry.stripes }
+        requires { logical < data_sectors_of self.old.table.geometry.members self.old.table.geometry.chunk
+            self.old.table.geometry.stripes }
         ensures honest { IsHonest self.old ↔ IsHonest self.new }
         ensures reads { Reads (IsHonest self.old) logical (array_view self.old) (array_view self.new) to.new result }
         ensures whole { IsHonest self.old → OnOk result (NoDeviceFailed (B.panel self.old.bank) (B.panel self.new.bank)
@@ -37,8 +38,8 @@ impl<B: Bank> Array<B> {
 }
 
 /// Reads a member's value in a row. A device that goes down meanwhile is marked missing, and the value is read without
-/// it. Refused with `TwoLost` where a second slot is lost, and with `Worn` as `value_or_fail_slot` is; `to` may then hold
-/// anything. The conditions are those of `value_or_fail_slot`.
+/// it. Refused with `TwoLost` where a second slot is lost, and with `Worn` as `value_or_fail_slot` is; `to` may then
+/// hold anything. The conditions are those of `value_or_fail_slot`.
 pub(crate) fn read_value<B: Bank>(
     bank: &mut B,
     table: &mut Table,
@@ -51,8 +52,10 @@ pub(crate) fn read_value<B: Bank>(
     requires row { row < rows_of table.old.geometry.chunk table.old.geometry.stripes }
     ensures honest { B.honest bank.old ↔ B.honest bank.new }
     ensures its_slots { HasItsSlots table.new (B.panel bank.new) }
-    ensures steps { KeepsOn (B.honest bank.old) table.old table.new (B.panel bank.old) (B.panel bank.new) (B.history bank.old) (B.history bank.new) result }
-    ensures gives { B.honest bank.old → OnOk result (to.new ≡ value (rows_by table.new (readable (B.history bank.new))) row member) }
+    ensures steps { KeepsOn (B.honest bank.old) table.old table.new (B.panel bank.old) (B.panel bank.new)
+        (B.history bank.old) (B.history bank.new) result }
+    ensures gives { B.honest bank.old → OnOk result
+        (to.new ≡ value (rows_by table.new (readable (B.history bank.new))) row member) }
     ensures whole { B.honest bank.old → OnOk result (NoDeviceFailed (B.panel bank.old) (B.panel bank.new)
         → ReadsValue table.old table.new member row (B.history bank.old) (B.history bank.new) to.new) }
 {
@@ -88,7 +91,8 @@ pub fn value_or_fail_slot<B: Bank>(
     requires row { row < rows_of table.old.geometry.chunk table.old.geometry.stripes }
     ensures honest { B.honest bank.old ↔ B.honest bank.new }
     ensures its_slots { HasItsSlots table.new (B.panel bank.new) }
-    ensures reads { ReadsOrFailsSlot (B.honest bank.old) table.old table.new member row (B.panel bank.old) (B.panel bank.new)
+    ensures reads { ReadsOrFailsSlot (B.honest bank.old) table.old table.new member row (B.panel bank.old)
+        (B.panel bank.new)
         (B.history bank.old) (B.history bank.new) to.new result }
 {
     match read_member(bank, &live_of(table), member, row, to) {

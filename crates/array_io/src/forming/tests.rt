@@ -1,6 +1,7 @@
-//! The rows of given sectors, formed in an entry. In the set of 3 members, chunk 8 and 32 stripes, logical sectors 72 and
-//! 64 are the data of row 32, on members 0 and 2, and 73 and 65 that of row 33; the parity is on member 1. In the set of 4
-//! members, logical sectors 96, 104 and 112 are the data of row 32, on members 0 to 2; the parity is on member 3.
+//! The rows of given sectors, formed in an entry. In the set of 3 members, chunk 8 and 32 stripes, logical sectors 72
+//! and 64 are the data of row 32, on members 0 and 2, and 73 and 65 that of row 33; the parity is on member 1. In the
+//! set of 4 members, logical sectors 96, 104 and 112 are the data of row 32, on members 0 to 2; the parity is on member
+//! 3.
 ghost use Rattle.std.specs.Prelude.{◌↔◌, IsTrue};
 ghost use Rattle.array_io.specs.Believed.ArrayCalls.{MayCommit};
 ghost use Rattle.array_io.specs.Steps.FormingRows.{HasLogical};
@@ -420,8 +421,8 @@ fn second_member_down_in_a_row_without_one(rt: HostRuntime) {
     check(&rt, &SECOND_DOWN);
 }
 
-// A set, of which this member has the parity of row 32: the bytes of which its members are full there, and the row's logical
-// sectors, each with the byte that it gets.
+// A set, of which this member has the parity of row 32: the bytes of which its members are full there, and the row's
+// logical sectors, each with the byte that it gets.
 struct Set {
     members: u8,
     parity: u8,
@@ -500,8 +501,8 @@ fn check_parity(rt: &impl Abort, entry: &Entry, parity: u8, byte: u8) {
     assert!(rt; is_so);
 }
 
-// Forms row 32 of the set, without a member, from so many of its sectors. That takes so many reads, and the parity is full of this
-// byte then.
+// Forms row 32 of the set, without a member, from so many of its sectors. That takes so many reads, and the parity is
+// full of this byte then.
 fn check_reads(
     rt: &(impl Abort + AllocGlobal),
     set: &Set,

@@ -17,8 +17,8 @@ pub struct Reading {
     pub last: Option<LastEntry>,
 }
 
-/// Reads an image by a table. With what it answers the image's rows are known: each image in memory has its rows, so what
-/// is said of all ways to them is said of one at least.
+/// Reads an image by a table. With what it answers the image's rows are known: each image in memory has its rows, so
+/// what is said of all ways to them is said of one at least.
 #[tactic(auto, using(crate::proofs::Oracles::Readings::rows_are_read))]
 pub fn reading_of(image: &Image, table: &Table) -> Reading
     ensures { AreRowsOf (vec_len image.now.slots) table.now (slots_of image.now.slots.items)
@@ -33,7 +33,8 @@ pub fn reading_of(image: &Image, table: &Table) -> Reading
 // Which members are live.
 #[tactic(auto, using(crate::proofs::Oracles::Readings::none_live, crate::proofs::Oracles::Readings::one_more_live))]
 fn live_members(image: &Image, table: &Table) -> [bool; 8]
-    ensures { AreLive (vec_len image.now.slots) table.now (slots_of image.now.slots.items) table.now.geometry.members result }
+    ensures { AreLive (vec_len image.now.slots) table.now (slots_of image.now.slots.items) table.now.geometry.members
+        result }
 {
     let mut live = [false; 8];
     for member in 0..table.geometry.members as usize {

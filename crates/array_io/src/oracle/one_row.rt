@@ -64,7 +64,8 @@ pub fn is_row_sound_in(image: &Image, table: &Table, row: u64) -> bool
 
 /// Puts the value of a logical sector of an image, by this table, into `to`.
 pub fn logical_in(image: &Image, table: &Table, logical: u64, to: &mut Sector)
-    requires { logical < data_sectors_of table.now.geometry.members table.now.geometry.chunk table.now.geometry.stripes }
+    requires { logical < data_sectors_of table.now.geometry.members table.now.geometry.chunk
+        table.now.geometry.stripes }
     ensures { (rows : Rows) → AreRowsOf (vec_len image.now.slots) table.now (slots_of image.now.slots.items) rows
         → to.new ≡ logical_value table.now.geometry rows logical }
 {
@@ -82,7 +83,8 @@ fn entry_sector_in(
 ) -> Option<Sector>
     requires last { HasLastEntry (vec_len image.now.slots) table.now (slots_of image.now.slots.items) last.now }
     requires member { member < table.now.geometry.members }
-    ensures { result ≡ sector_of_last table.now.geometry.members (slots_of image.now.slots.items) (entry_of last.now) row member }
+    ensures { result ≡ sector_of_last table.now.geometry.members (slots_of image.now.slots.items) (entry_of last.now)
+        row member }
 {
     match last {
         Some(last) => {

@@ -13,7 +13,8 @@ use superblock::{State, Table};
 /// Whether a member's own sector counts in a row by this table: the member is live and, when it is rebuilding, the row
 /// is below the table's position.
 pub fn is_trusted_in(image: &Image, table: &Table, row: u64, member: usize) -> bool
-    ensures { IsTrue result ↔ IsTrusted (vec_len image.now.slots) table.now (slots_of image.now.slots.items) row member }
+    ensures { IsTrue result ↔ IsTrusted (vec_len image.now.slots) table.now (slots_of image.now.slots.items) row
+        member }
 {
     if !is_live_at(image, table, member) {
         return false;

@@ -1,5 +1,5 @@
-//! Crashes in the device calls that bring an entry from one journal to the other and then to the members, as after a crash
-//! between two seals.
+//! Crashes in the device calls that bring an entry from one journal to the other and then to the members, as after a
+//! crash between two seals.
 use super::calls::{Asked, Call, check};
 use super::commit::{ALL_NEW, EITHER};
 use super::crashes::{Logical, Wanted};

@@ -1,5 +1,5 @@
-//! The images that crashes in the middle of device calls may leave, each of them also without a slot, and what they have to
-//! be: what is asked of each is what a case that holds asks, in some rows and logical sectors.
+//! The images that crashes in the middle of device calls may leave, each of them also without a slot, and what they
+//! have to be: what is asked of each is what a case that holds asks, in some rows and logical sectors.
 use crate::oracle::{is_live_at, is_row_sound_in, logical_in};
 use crate::testing::{BLANK, ID, all, put};
 use sector_model::{Bank, Choice, Image, MemBank, Sector};
@@ -23,8 +23,8 @@ const NEW: List = &[(0, 0), (64, 0x22), (65, 0x77), (72, 0x05), (511, 0)];
 // The rows that are looked at: the one that is committed, that of the entry before, and two others.
 const ROWS: &[u64] = &[0, 32, 33, 255];
 
-// Every seventeenth logical sector of rows 0 to 63: eight are in a chunk, and two chunks in a stripe. On member 1 the bytes of
-// the rows count from 01, on member 2 from 80, and on member 0 each is the XOR of the two.
+// Every seventeenth logical sector of rows 0 to 63: eight are in a chunk, and two chunks in a stripe. On member 1 the
+// bytes of the rows count from 01, on member 2 from 80, and on member 0 each is the XOR of the two.
 const REBUILT: List = &[
     (0, 0x81),
     (17, 0x89),
@@ -46,8 +46,8 @@ pub(crate) enum Logical {
     Rebuilt,
 }
 
-/// What is asked of images, whole and without any one of the slots of which `out` is true: that some rows are sound, and
-/// that their logical sectors are these.
+/// What is asked of images, whole and without any one of the slots of which `out` is true: that some rows are sound,
+/// and that their logical sectors are these.
 pub(crate) struct Wanted {
     pub out: [bool; 5],
     pub logical: Logical,
@@ -68,7 +68,8 @@ pub(crate) fn image_at(
     image.expect(rt, "memory")
 }
 
-/// The number of calls of the first crash that may leave a case which is not as wanted. `None` where there is no such crash.
+/// The number of calls of the first crash that may leave a case which is not as wanted. `None` where there is no such
+/// crash.
 pub(crate) fn first_bad_crash(
     rt: &(impl Abort + AllocGlobal),
     bank: &MemBank,
@@ -165,7 +166,8 @@ fn has_one_out_at_most(image: &Image, table: &Table) -> bool {
     true
 }
 
-// Whether no device has an incarnation of its slot above the table's, and those with the table's generation have the table.
+// Whether no device has an incarnation of its slot above the table's, and those with the table's generation have the
+// table.
 fn have_no_later_device(image: &Image, table: &Table) -> bool {
     let devices = image.slots.len();
     for slot in 0..devices {

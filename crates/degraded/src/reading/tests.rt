@@ -63,7 +63,8 @@ fn rebuilding_at(member: u8, position: Option<u64>) -> Option<(u8, u64)>
 // The row is one of each of three members that is up.
 fn check_row<B: Bank>(rt: &impl Abort, bank: &B, row: u64)
     requires { row < 5 }
-    ensures { (member : ℕ) → member < 3 → (B.panel bank.now).down member ≡ false → 8 + row < (B.panel bank.now).sectors member }
+    ensures { (member : ℕ) → member < 3 → (B.panel bank.now).down member ≡ false
+        → 8 + row < (B.panel bank.now).sectors member }
 {
     assert!(rt; bank.devices() >= 3);
     for member in 0..3 {

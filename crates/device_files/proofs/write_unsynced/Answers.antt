@@ -26,7 +26,8 @@ returns-in_err-write_text-2 g c =
 pub returns : goal.returns
 returns g c =
     let last = c.write_text-3 in
-    subst (λ (folder : List ℕ). WritesText (g.E.Write.contents c.args.err.now) (g.E.Write.contents last.new.writer) (unsynced_line folder) last.result) c.as_bytes.ensures.value
+    subst (λ (folder : List ℕ). WritesText (g.E.Write.contents c.args.err.now) (g.E.Write.contents last.new.writer) (unsynced_line folder) last.result)
+    c.as_bytes.ensures.value
     (writes_after last.result _ _ _ (codes "cannot sync ") _ c.in_ok-write_text.ensures.ok
     (writes_after last.result _ _ _ c.as_bytes.result.now (10 ∷ []) c.in_ok-write_text-2.ensures.ok
     (record { ok = last.ensures.ok; part = last.ensures.part; kind = last.ensures.kind })))

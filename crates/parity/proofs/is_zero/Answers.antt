@@ -37,7 +37,8 @@ loop-k-preserved c =
             let at : 64 * k + i ≡ j = omega (arith, after) in
             ap (λ n. get_or bytes n 0) (sym at) ∙ omega (arith, le_or_r (get_or union i 0) (get_or bytes (64 * k + i) 0), lane i within, none i within)
       ];
-      union = λ each i below. lane i below ∙ ap₂ bit_or (so_far.union (λ j before. each j (omega (arith, before))) i below) (each (64 * k + i) (omega (arith, below)));
+      union = λ each i below. lane i below ∙ ap₂ bit_or (so_far.union (λ j before. each j (omega (arith, before))) i below)
+          (each (64 * k + i) (omega (arith, below)));
     }
 
 pub returns : goal.returns
@@ -47,7 +48,9 @@ returns c =
     let so_far = c.loop-k.invariant in (
       λ is_true.
           let zeros = zeros_from_union 0 union (eqb-true (fold_l bit_or 0 union) 0 is_true) in
-          zero_sector_is bytes c.told-sector (λ j within. so_far.zeros (λ i below. zeros.1 i (omega (arith, so_far.long, below))) j (omega (arith, within, c.loop-k-test.false))),
+          zero_sector_is bytes c.told-sector (λ j within. so_far.zeros (λ i below. zeros.1 i (omega (arith, so_far.long, below))) j
+          (omega (arith, within, c.loop-k-test.false))),
       λ same. eq-eqb (fold_l bit_or 0 union) 0 (union_of_zeros union (λ i within.
-          so_far.union (λ j below. ap (λ s. get_or s j 0) same ∙ get_or-zero_sector j (omega (arith, below, c.loop-k.auto.k-end))) i (omega (arith, so_far.long, within)))),
+          so_far.union (λ j below. ap (λ s. get_or s j 0) same ∙ get_or-zero_sector j (omega (arith, below, c.loop-k.auto.k-end))) i
+          (omega (arith, so_far.long, within)))),
     )

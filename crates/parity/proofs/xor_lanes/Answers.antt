@@ -23,7 +23,8 @@ loop-i-preserved c =
       done =
           sector_in-take-set c.loop-i.to k c.xor.result (omega (arith, so_far.eight, c.loop-i-test.true))
           ∙ ap₂ (λ s t. s ++ t) so_far.done (c.xor.ensures.value ∙ ap₂ (zip2 bit_xor) same c.part.ensures)
-          ∙ sym (zip2-append (sector_in (take k old)) (take (64 * k) from) (so_far.long ∙ sym (length-take-le (64 * k) from (omega (arith, c.told-from, c.loop-i-test.true)))) vector part)
+          ∙ sym (zip2-append (sector_in (take k old)) (take (64 * k) from)
+          (so_far.long ∙ sym (length-take-le (64 * k) from (omega (arith, c.told-from, c.loop-i-test.true)))) vector part)
           ∙ ap₂ (zip2 bit_xor) (sym one_more) (sym (take_more_chunk from k));
       rest = λ i later. get_or-set_other c.loop-i.to k i c.xor.result [] (λ at. absurd (omega (arith, later, at))) ∙ so_far.rest i (omega (arith, later));
     }
@@ -35,7 +36,8 @@ returns c =
     let so_far = c.loop-i.invariant in
     let k = c.loop-i.i in
     let whole = take_all k old (omega (arith, c.told-to, c.loop-i-test.false)) in
-    let long : length (sector_in old) ≡ 512 = ap (λ s. length (sector_in s)) (sym whole) ∙ omega (arith, so_far.long, c.loop-i-test.false, c.loop-i.auto.i-end) in
+    let long : length (sector_in old) ≡ 512 = ap (λ s. length (sector_in s)) (sym whole)
+    ∙ omega (arith, so_far.long, c.loop-i-test.false, c.loop-i.auto.i-end) in
     ap sector_in (sym (take_all k c.loop-i.to (omega (arith, so_far.eight, c.loop-i-test.false))))
     ∙ so_far.done
     ∙ ap₂ (zip2 bit_xor) (ap sector_in whole) (take_all (64 * k) from (omega (arith, c.told-from, c.loop-i-test.false)))

@@ -9,8 +9,8 @@ use recovery::newest_at;
 use sector_model::{Bank, Refusal};
 
 /// Refuses a bank where a slot from this one on has a superblock of this id that counts: `OtherSet` names the lowest.
-/// Such a slot is of another set with the id, whose table, where it is the later one, would be taken for that of the set
-/// that is made.
+/// Such a slot is of another set with the id, whose table, where it is the later one, would be taken for that of the
+/// set that is made.
 ///
 /// A device that is down, that goes down here or that is too short has none. `Worn` where the count of device calls
 /// stands at 2^62.
@@ -19,8 +19,10 @@ pub(super) fn refuse_other<B: Bank>(
     id: &[u8; 16],
     first: u8,
 ) -> Result<(), FolderFault>
-    ensures none { OnOk result (InspectsBeyond (B.honest bank.old) id.now first (bank_seen B.Bank bank.old) (bank_seen B.Bank bank.new) (Ok None)) }
-    ensures fault { IfErr result (RefusesOther (B.honest bank.old) id.now first (bank_seen B.Bank bank.old) (bank_seen B.Bank bank.new)) }
+    ensures none { OnOk result (InspectsBeyond (B.honest bank.old) id.now first (bank_seen B.Bank bank.old)
+        (bank_seen B.Bank bank.new) (Ok None)) }
+    ensures fault { IfErr result (RefusesOther (B.honest bank.old) id.now first (bank_seen B.Bank bank.old)
+        (bank_seen B.Bank bank.new)) }
 {
     match other_set(bank, id, first)? {
         Some(slot) => Err(FolderFault::OtherSet(slot)),
@@ -31,7 +33,8 @@ pub(super) fn refuse_other<B: Bank>(
 // The lowest slot from this one on in which a superblock of this id counts, if there is one.
 fn other_set<B: Bank>(bank: &mut B, id: &[u8; 16], first: u8) -> Result<Option<u8>, Refusal>
     ensures found { IfOk result (λ other. IfSome other (λ slot. (first ≤ slot) × (slot < (B.panel bank.old).devices))) }
-    ensures inspections { InspectsBeyond (B.honest bank.old) id.now first (bank_seen B.Bank bank.old) (bank_seen B.Bank bank.new) result }
+    ensures inspections { InspectsBeyond (B.honest bank.old) id.now first (bank_seen B.Bank bank.old)
+        (bank_seen B.Bank bank.new) result }
     ensures err { IfErr result (λ refusal. refusal ≡ Worn) }
 {
     for slot in first..bank.devices() {

@@ -44,8 +44,8 @@ fn files_that_are_there_are_never_cut(rt: HostRuntime) {
     );
 }
 
-// The journal in slot 4 and slot 0 are absent, slot 1 is too short, and a link to a file in no folder stands in the place of
-// slot 3.
+// The journal in slot 4 and slot 0 are absent, slot 1 is too short, and a link to a file in no folder stands in the
+// place of slot 3.
 static A_FILE_THAT_CANNOT_BE_MADE: &[Step] = &[
     Put("dev1.img", SHORT, (2_000, 1)),
     Put("dev2.img", LONG, (0, 0)),

@@ -237,7 +237,8 @@ fn slots_that_the_set_has_not(rt: HostRuntime) {
 const BAD_TABLE: &str = "refused 18 BadTable\n";
 
 // The volumes' table, whose first byte is that of row 0 on member 0 and has its parity on member 2, has no version that
-// there is. It is looked at once slot 1 has a file: one that was created is removed again, and one that was emptied stays.
+// there is. It is looked at once slot 1 has a file: one that was created is removed again, and one that was emptied
+// stays.
 static A_SET_THAT_IS_REFUSED: &[Step] = &[
     Line(MAKE, UNREAD, 0, MADE),
     Put("dev0.img", MEMBER_BYTES, (4_096, 2)),

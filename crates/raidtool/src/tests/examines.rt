@@ -35,11 +35,16 @@ would assemble: complete
 const FRESH_JSON: &str =
     "{\"chunk\":8,\"generation\":1,\"id\":\"000102030405060708090a0b0c0d0e0f\",\
 \"left\":0,\"members\":3,\"outlook\":\"would assemble: complete\",\"position\":0,\"rows\":256,\"slots\":[\
-{\"entry\":null,\"generation\":1,\"incarnation\":1,\"presence\":\"there\",\"role\":\"member\",\"slot\":0,\"standing\":\"live\"},\
-{\"entry\":null,\"generation\":1,\"incarnation\":1,\"presence\":\"there\",\"role\":\"member\",\"slot\":1,\"standing\":\"live\"},\
-{\"entry\":null,\"generation\":1,\"incarnation\":1,\"presence\":\"there\",\"role\":\"member\",\"slot\":2,\"standing\":\"live\"},\
-{\"entry\":0,\"generation\":1,\"incarnation\":1,\"presence\":\"there\",\"role\":\"journal\",\"slot\":3,\"standing\":\"live\"},\
-{\"entry\":0,\"generation\":1,\"incarnation\":1,\"presence\":\"there\",\"role\":\"journal\",\"slot\":4,\"standing\":\"live\"}],\
+{\"entry\":null,\"generation\":1,\"incarnation\":1,\"presence\":\"there\",\
+\"role\":\"member\",\"slot\":0,\"standing\":\"live\"},\
+{\"entry\":null,\"generation\":1,\"incarnation\":1,\"presence\":\"there\",\
+\"role\":\"member\",\"slot\":1,\"standing\":\"live\"},\
+{\"entry\":null,\"generation\":1,\"incarnation\":1,\"presence\":\"there\",\
+\"role\":\"member\",\"slot\":2,\"standing\":\"live\"},\
+{\"entry\":0,\"generation\":1,\"incarnation\":1,\"presence\":\"there\",\
+\"role\":\"journal\",\"slot\":3,\"standing\":\"live\"},\
+{\"entry\":0,\"generation\":1,\"incarnation\":1,\"presence\":\"there\",\
+\"role\":\"journal\",\"slot\":4,\"standing\":\"live\"}],\
 \"stripes\":32}\n";
 
 // The 64 blocks of a volume are zeroed by two entries, a third one has the table, and a fourth one the block that is

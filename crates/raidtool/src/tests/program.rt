@@ -308,8 +308,8 @@ fn short_files(rt: HostRuntime) {
 
 const BAD_TABLE: &str = "refused 18 BadTable\n";
 
-// Logical sector 3 is row 3 of member 0, which is sector 11 and begins at byte 5,632. It says that extent 0 is of the first record, and then of the
-// second, which is unused.
+// Logical sector 3 is row 3 of member 0, which is sector 11 and begins at byte 5,632. It says that extent 0 is of the
+// first record, and then of the second, which is unused.
 static FORGED_TABLE: &[Step] = &[
     Line(MAKE, UNREAD, 0, MADE),
     Line(RUN, "create a 64\nwrite a 0 11*512\n", 0, "ok\nok\n"),
@@ -474,10 +474,10 @@ fn a_set_in_memory(rt: HostRuntime) {
     over_folder(&rt, rt.process(), "memory", A_SET_IN_MEMORY);
 }
 
-// A commit makes 3 writes of each sector that it holds, on two journals and on its member, and 2 of seals; it flushes each journal twice, and each
-// member that it writes. With 32 blocks that fill 16 rows these are 153, and with one block 14. The set is made by 797, its volume by 326: two commits
-// of 16 rows with zeros, and one of 2 rows with the table, of 20. 123 writes of 16 rows and four of a block leave 2 of the 20,000, which is too few for
-// a fifth.
+// A commit makes 3 writes of each sector that it holds, on two journals and on its member, and 2 of seals; it flushes
+// each journal twice, and each member that it writes. With 32 blocks that fill 16 rows these are 153, and with one
+// block 14. The set is made by 797, its volume by 326: two commits of 16 rows with zeros, and one of 2 rows with the
+// table, of 20. 123 writes of 16 rows and four of a block leave 2 of the 20,000, which is too few for a fifth.
 #[test]
 fn memory_ends_after_20_000_writes_and_flushes(rt: HostRuntime) {
     let block_line = joined(&rt, &[(b"write a 0", 1), (b" 5a*512", 32), (b"\n", 1)]);

@@ -1,4 +1,5 @@
-//! When replies leave the program: what was sent at each moment at which it asks for more of its script, and by how many writes.
+//! When replies leave the program: what was sent at each moment at which it asks for more of its script, and by how
+//! many writes.
 use crate::console::{Output, Replies, Script};
 use crate::ended;
 use crate::testing::streams::{Full, WHOLE};
@@ -176,7 +177,8 @@ fn replies_to_reads_leave_together(rt: HostRuntime) {
     sends(&rt, &mut store, PARTS, None, (Ok(()), true), (all, 6));
 }
 
-// The second write has the replies to the second part's first lines: the line after them is not done, and nothing more leaves, though a further write would.
+// The second write has the replies to the second part's first lines: the line after them is not done, and nothing more
+// leaves, though a further write would.
 #[test]
 fn replies_that_can_not_leave_end_the_script(rt: HostRuntime) {
     let mut store = fresh_store(&rt);
@@ -210,7 +212,8 @@ fn a_rename_after_replies_that_can_not_leave(rt: HostRuntime) {
     answers(&rt, &mut store, b"list\n", b"a 4\n");
 }
 
-// Replies as long as the buffer leave at once. The second write fails: nothing is taken or tried then, though a further write would leave.
+// Replies as long as the buffer leave at once. The second write fails: nothing is taken or tried then, though a further
+// write would leave.
 fn write_past_a_fault(rt: &(impl Abort + AllocGlobal), sent: &RefCell<Sent>) {
     let replies = Replies::new(rt.alloc(), Sender { sent }).expect(rt, "memory");
     let mut out = Output { replies: &replies };

@@ -173,8 +173,8 @@ fn opened<S: Files>(rt: &S, path: &str) -> io::Result<S::File> {
     OpenOptions::new().read(true).write(true).open(rt, path)
 }
 
-// Serves a script over such files, and is killed after so many calls. How many of them are left, which is none where it was
-// killed.
+// Serves a script over such files, and is killed after so many calls. How many of them are left, which is none where it
+// was killed.
 fn served<Host>(rt: &Host, folder: &PathBuf, script: &str, calls: u64, is_made_safe: bool) -> u64
 where
     Host: Files + AllocGlobal + Abort,
@@ -265,8 +265,8 @@ const READS: &[u8] = b"33*512\n44*512\n";
 
 const REPLACE_4: &str = "replace|@|--id|H|--slot|4";
 
-// Whether what was acknowledged is there when the device of slot 4 is lost with the power: once it is replaced each row is
-// sound, and then the device of slot 0 may be lost.
+// Whether what was acknowledged is there when the device of slot 4 is lost with the power: once it is replaced each row
+// is sound, and then the device of slot 0 may be lost.
 fn is_kept<Host>(rt: &Host, folder: &PathBuf) -> bool
 where
     Host: Files + Meter + AllocGlobal + Abort,
@@ -281,8 +281,8 @@ where
     is_there && is_replaced && is_sound && is_there_without
 }
 
-// The calls of a write up to that of its first seal: the start puts the last entry on two members again and syncs these,
-// then a body of two sectors is written on each journal and synced, and the seal is written.
+// The calls of a write up to that of its first seal: the start puts the last entry on two members again and syncs
+// these, then a body of two sectors is written on each journal and synced, and the seal is written.
 const TO_THE_SEAL: u64 = 2 * 2 + 2 * 3 + 1;
 
 // More calls than a start makes.
@@ -315,7 +315,8 @@ where
     copy_all(rt, folder, ".safe", ".killed.safe");
 }
 
-// After how many calls of the next start a power cut loses something that was acknowledged, and how many calls it makes.
+// After how many calls of the next start a power cut loses something that was acknowledged, and how many calls it
+// makes.
 fn losses<Host>(rt: &Host, folder: &PathBuf, is_made_safe: bool) -> (u64, u64)
 where
     Host: Files + Meter + AllocGlobal + Abort + Clone + Drop,
@@ -337,8 +338,8 @@ where
     (lost, MANY)
 }
 
-// A start that goes on from what it finds without making it safe loses a block that was acknowledged; one that makes it safe
-// first loses none, wherever the power cut comes.
+// A start that goes on from what it finds without making it safe loses a block that was acknowledged; one that makes it
+// safe first loses none, wherever the power cut comes.
 #[test]
 fn a_power_cut_after_a_kill(rt: HostRuntime) {
     let folder = empty_folder(&rt, rt.process(), "unsynced");

@@ -46,9 +46,9 @@ const AFTER_JSON: &str = "{\"chunk\":8,\"extents\":7,\"free\":6,\"generation\":1
 {\"incarnation\":1,\"role\":\"journal\",\"slot\":4,\"state\":\"in-sync\"}],\
 \"stripes\":32,\"table\":2,\"volumes\":1}\n";
 
-// With chunk 8 the first two logical chunks lie in rows 0 to 7 of members 0 and 1. So sectors 0 and 1 are rows 0 and 1 of
-// member 0, which are sectors 8 and 9 there. Of the record of `a` in version 2 the length is the first byte of sector 1,
-// the name follows, and its 64 blocks stand at byte 64. A second upgrade changes no byte of any device.
+// With chunk 8 the first two logical chunks lie in rows 0 to 7 of members 0 and 1. So sectors 0 and 1 are rows 0 and 1
+// of member 0, which are sectors 8 and 9 there. Of the record of `a` in version 2 the length is the first byte of
+// sector 1, the name follows, and its 64 blocks stand at byte 64. A second upgrade changes no byte of any device.
 static A_SET_THAT_IS_UPGRADED: &[Step] = &[
     Line(MAKE, UNREAD, 0, MADE),
     Line(RUN, "create a 64\nwrite a 63 5a*512\n", 0, "ok\nok\n"),

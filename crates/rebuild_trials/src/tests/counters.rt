@@ -76,8 +76,8 @@ const NOT_MISSING: Answer = Err(Refusal::NotMissing);
 
 const NOT_USABLE: Answer = Err(Refusal::NotUsable);
 
-// Checks a slot that could be replaced but for a counter of these. What is refused for another reason is refused so, and the
-// list is what it was.
+// Checks a slot that could be replaced but for a counter of these. What is refused for another reason is refused so,
+// and the list is what it was.
 fn check_worn(rt: &(impl Abort + AllocGlobal), case: &Case, counters: Counters) {
     let mut known = with_counters(rt, case, counters);
     let asked = [

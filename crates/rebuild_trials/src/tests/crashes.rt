@@ -1,5 +1,5 @@
-//! Crashes in the device calls of replacing a device, and of a step of a rebuild: the logical list stays, with the device there,
-//! and with another one in its place, or none.
+//! Crashes in the device calls of replacing a device, and of a step of a rebuild: the logical list stays, with the
+//! device there, and with another one in its place, or none.
 use super::device_calls::calls_of;
 use super::replaced::check_entries;
 use super::{
@@ -28,8 +28,8 @@ enum Left {
     Gone,
 }
 
-// A case whose call was made: the bank after it, and the number of its first device call, of the first that publishes its
-// table, and of the next one after it. What its table told before and after.
+// A case whose call was made: the bank after it, and the number of its first device call, of the first that publishes
+// its table, and of the next one after it. What its table told before and after.
 #[derive(Drop)]
 struct Called {
     known: Known,
@@ -67,7 +67,8 @@ fn call_made(rt: &(impl Abort + AllocGlobal), case: &Case) -> Called {
     }
 }
 
-// Whether the set that is assembled after a crash, with the device there, has the new table. None where the choice decides.
+// Whether the set that is assembled after a crash, with the device there, has the new table. None where the choice
+// decides.
 fn is_new(case: &Case, done: &Called, call: u64, choice: Choice) -> Option<bool> {
     let (least, most) = match case.job {
         // A slot that was missing is so until its own device, which is the last, has the table.
@@ -141,8 +142,8 @@ fn check_journal(rt: &(impl Abort + AllocGlobal), case: &Case, image: &Image) {
     }
 }
 
-// Checks a crash: the list is what it was, and the table the old one or the new one where the device is there; else the slot is
-// missing.
+// Checks a crash: the list is what it was, and the table the old one or the new one where the device is there; else the
+// slot is missing.
 fn check_crash(
     rt: &(impl Abort + AllocGlobal),
     case: &Case,
@@ -203,8 +204,8 @@ fn check_goes_on(
     check_whole(rt, (number, 9), &array, list);
 }
 
-// Checks the crashes at a device call of a case: with the device there by each choice, and with each other that may be left in
-// its slot by each choice in turn. From one of them the set goes on.
+// Checks the crashes at a device call of a case: with the device there by each choice, and with each other that may be
+// left in its slot by each choice in turn. From one of them the set goes on.
 fn check_call(rt: &(impl Abort + AllocGlobal), case: &Case, done: &Called, call: u64) {
     for choice in [Choice::Oldest, Choice::Newest] {
         check_crash(rt, case, done, (call, choice), Left::There);
@@ -228,7 +229,8 @@ fn check_call(rt: &(impl Abort + AllocGlobal), case: &Case, done: &Called, call:
     );
 }
 
-// Checks the crash at a device call by one choice with the device there, and by one with another that may be left in its slot.
+// Checks the crash at a device call by one choice with the device there, and by one with another that may be left in
+// its slot.
 fn check_call_in_turn(rt: &(impl Abort + AllocGlobal), case: &Case, done: &Called, call: u64) {
     let array = check_crash(rt, case, done, (call, in_turn(call)), Left::There);
     check_goes_on(rt, case, call, array, &done.known.list);
@@ -240,7 +242,8 @@ fn check_call_in_turn(rt: &(impl Abort + AllocGlobal), case: &Case, done: &Calle
     check_crash(rt, case, done, (call, in_turn(call.wrapping_add(1))), left);
 }
 
-// Checks the crashes before the first device call of a case, and after each that is no read: of a set of 3 members by each choice.
+// Checks the crashes before the first device call of a case, and after each that is no read: of a set of 3 members by
+// each choice.
 fn check_crashes(rt: &(impl Abort + AllocGlobal), case: &Case) {
     let done = call_made(rt, case);
     assert!(rt; done.from < done.published);

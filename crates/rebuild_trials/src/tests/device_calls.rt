@@ -154,9 +154,9 @@ fn calls_of_replacing_a_member(rt: HostRuntime) {
     }
 }
 
-// Both places and both seals are cleared and flushed, the other journal's two seals are read, and a table is published. Where
-// there is an entry, here of two rows with one given sector each, its body of two sectors a row is copied and flushed, and
-// then its seal.
+// Both places and both seals are cleared and flushed, the other journal's two seals are read, and a table is published.
+// Where there is an entry, here of two rows with one given sector each, its body of two sectors a row is copied and
+// flushed, and then its seal.
 #[test]
 fn calls_of_replacing_a_journal(rt: HostRuntime) {
     for (shape, _) in SETS {

@@ -47,8 +47,9 @@ fn call_with(
     answer
 }
 
-// What the table tells after the slot's own device failed: it is missing, and the others are in sync. Where it failed as the
-// last one that gets the table of the call, that table came before; and where its slot had been missing, nothing else came.
+// What the table tells after the slot's own device failed: it is missing, and the others are in sync. Where it failed
+// as the last one that gets the table of the call, that table came before; and where its slot had been missing, nothing
+// else came.
 fn told_without(rt: &impl Abort, case: &Case, old: Told, is_last: bool) -> Told {
     let further = match (case.job, is_last) {
         (Job::Replace, false) => (0, 0),
@@ -72,8 +73,8 @@ fn check_missing(
     check_list(rt, number, &mut again, list);
 }
 
-// Checks what is left where the own device failed: the slot is missing, in memory and when the set is assembled again, and the
-// list is what it was.
+// Checks what is left where the own device failed: the slot is missing, in memory and when the set is assembled again,
+// and the list is what it was.
 fn check_own(
     rt: &(impl Abort + AllocGlobal),
     case: &Case,
@@ -104,8 +105,8 @@ fn check_either(rt: &impl Abort, case: &Case, number: u64, array: &Array<MemBank
     }
 }
 
-// Checks what is left where another device failed: with that device, also without the own one, the list is what it was, and
-// without it two are lost, but where all the others already have the table in which the own one is in sync again.
+// Checks what is left where another device failed: with that device, also without the own one, the list is what it was,
+// and without it two are lost, but where all the others already have the table in which the own one is in sync again.
 fn check_other(
     rt: &(impl Abort + AllocGlobal),
     case: &Case,

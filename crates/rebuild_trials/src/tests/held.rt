@@ -1,4 +1,5 @@
-//! Commits to sets that lack a slot or rebuild a member: their entries hold what changes, also where the member of it is out.
+//! Commits to sets that lack a slot or rebuild a member: their entries hold what changes, also where the member of it
+//! is out.
 use super::rebuilt::shows;
 use super::{
     Case, Device, ID, Job, Known, OF_3, OF_4, OF_5, OF_8, SET_A, Shape, assembled, before,
@@ -39,8 +40,8 @@ fn check_first_member_write(rt: &(impl Abort + AllocGlobal), known: &Known, choi
     check_list(rt, (call, 1), &mut assembled(rt, image), &known.list);
 }
 
-// Logical sectors 64 and 72 are the data of row 32, on members 2 and 0, and member 1 has the parity. The commit of 72 reads
-// member 2, writes two sectors and a seal to each journal, and ends with a write and a flush of member 1.
+// Logical sectors 64 and 72 are the data of row 32, on members 2 and 0, and member 1 has the parity. The commit of 72
+// reads member 2, writes two sectors and a seal to each journal, and ends with a write and a flush of member 1.
 #[test]
 fn held_while_degraded(rt: HostRuntime) {
     let mut known = made(&rt, ID, SET_A);
@@ -107,8 +108,8 @@ fn out_in(table: &Table, row: u64) -> Option<usize> {
     None
 }
 
-// Counts what a commit of these logical sectors makes in a row. The old values of the given ones and of the parity are read, or
-// the other data where those are fewer; where a member is out, what does without its sector.
+// Counts what a commit of these logical sectors makes in a row. The old values of the given ones and of the parity are
+// read, or the other data where those are fewer; where a member is out, what does without its sector.
 fn count_row(rt: &impl Abort, table: &Table, numbers: &[u64], row: u64, makes: &mut Makes) {
     let geometry = &table.geometry;
     let mut held = [false; 10];
@@ -146,9 +147,9 @@ fn count_row(rt: &impl Abort, table: &Table, numbers: &[u64], row: u64, makes: &
     }
 }
 
-// How many reads a commit of these logical sectors makes, and how many writes and flushes: each journal that is there gets the
-// sectors that are held and a seal, and is flushed twice, and each member gets its own of them, and is flushed where there are
-// any.
+// How many reads a commit of these logical sectors makes, and how many writes and flushes: each journal that is there
+// gets the sectors that are held and a seal, and is flushed twice, and each member gets its own of them, and is flushed
+// where there are any.
 fn counts_of(rt: &impl Abort, table: &Table, numbers: &[u64]) -> [u64; 2] {
     let mut makes = Makes {
         reads: 0,
@@ -276,8 +277,8 @@ fn check_crash(
     check_whole_again(rt, case.slot, array, list);
 }
 
-// Checks the crashes at each call of a commit to a set that lacks a slot. The calls of members are the last, so many, and those
-// of seals before them are four, or two where a journal is missing.
+// Checks the crashes at each call of a commit to a set that lacks a slot. The calls of members are the last, so many,
+// and those of seals before them are four, or two where a journal is missing.
 fn check_crashes(
     rt: &(impl Abort + AllocGlobal),
     case: &Case,
@@ -305,9 +306,9 @@ fn check_crashes(
     }
 }
 
-// Of 3 members logical sector 4 is in row 4 on member 0, with the parity on member 2. Of 4 members 20 is in row 4 on member 2,
-// with the parity on 3. Of 5 members 64 and 72 are in row 16 on members 3 and 4, with the parity on 2. Of 8 members 64 is in
-// row 8 on member 0, with the parity on 6.
+// Of 3 members logical sector 4 is in row 4 on member 0, with the parity on member 2. Of 4 members 20 is in row 4 on
+// member 2, with the parity on 3. Of 5 members 64 and 72 are in row 16 on members 3 and 4, with the parity on 2. Of 8
+// members 64 is in row 8 on member 0, with the parity on 6.
 #[test]
 fn crashes_in_commits_that_lack_a_slot(rt: HostRuntime) {
     check_crashes(&rt, &lacking(OF_3, 0, None), &[4], 2, 4);

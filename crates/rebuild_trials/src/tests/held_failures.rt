@@ -1,5 +1,5 @@
-//! A device goes down in a commit to a set that rebuilds a member: the rows below its position have their sectors on it, and
-//! those above have not.
+//! A device goes down in a commit to a set that rebuilds a member: the rows below its position have their sectors on
+//! it, and those above have not.
 use super::rebuilt::shows;
 use super::{
     Case, Device, Job, Known, OF_3, answer_of_write, assembled, before, check_list, check_states,
@@ -29,7 +29,8 @@ const BOTH: &[u64] = &[
     88, 89, 90, 91, 92, 93, 94, 95,
 ];
 
-// The first of each: rows 32 to 39 have it on member 2 and the parity on member 1, rows 40 to 47 on member 1 and on member 0.
+// The first of each: rows 32 to 39 have it on member 2 and the parity on member 1, rows 40 to 47 on member 1 and on
+// member 0.
 const FIRST: &[u64] = &[
     64, 65, 66, 67, 68, 69, 70, 71, 80, 81, 82, 83, 84, 85, 86, 87,
 ];
@@ -42,7 +43,8 @@ struct Left<'a> {
     new: &'a [u8],
 }
 
-// Asks that a set shows the new list, where the commit was answered with Ok, and else the new or the old. Gives that one.
+// Asks that a set shows the new list, where the commit was answered with Ok, and else the new or the old. Gives that
+// one.
 fn list_shown<'a>(
     rt: &impl Abort,
     number: (u64, u64),
@@ -55,8 +57,8 @@ fn list_shown<'a>(
     list
 }
 
-// Goes on with a set that was assembled: it shows a list, and does when its member is rebuilt, so it is replaced before if it
-// is missing.
+// Goes on with a set that was assembled: it shows a list, and does when its member is rebuilt, so it is replaced before
+// if it is missing.
 fn check_goes_on(
     rt: &(impl Abort + AllocGlobal),
     slot: u8,
@@ -100,8 +102,8 @@ fn check_left(
     let _ = list_shown(rt, number, &mut without, left);
 }
 
-// Checks the commit in which a slot goes down at its first call from one on. Tells whether it did, and how many calls there
-// were.
+// Checks the commit in which a slot goes down at its first call from one on. Tells whether it did, and how many calls
+// there were.
 fn check_failure(
     rt: &(impl Abort + AllocGlobal),
     failures: &Failures,
@@ -164,8 +166,8 @@ fn check_failure(
 // Calls that go one after the other to one slot: the slot, and how many.
 type Calls = (u8, u64);
 
-// Checks the failures of each slot at each of its calls in a commit to a set that rebuilds a member, and none: it makes these
-// calls. A slot that goes down at another's call does so at its own next one.
+// Checks the failures of each slot at each of its calls in a commit to a set that rebuilds a member, and none: it makes
+// these calls. A slot that goes down at another's call does so at its own next one.
 fn check_failures(rt: &(impl Abort + AllocGlobal), member: u8, numbers: &[u64], calls: &[Calls]) {
     let case = Case {
         shape: OF_3,
@@ -195,8 +197,8 @@ fn check_failures(rt: &(impl Abort + AllocGlobal), member: u8, numbers: &[u64], 
     }
 }
 
-// Member 0 has the other data of the rows below its position, and the parity of those above, which it is not given: for these
-// member 2 is read. Each journal gets 32 sectors.
+// Member 0 has the other data of the rows below its position, and the parity of those above, which it is not given: for
+// these member 2 is read. Each journal gets 32 sectors.
 #[test]
 fn each_slot_down_over_rebuilding_member_0(rt: HostRuntime) {
     const CALLS: &[Calls] = &[
@@ -229,8 +231,8 @@ fn each_slot_down_over_rebuilding_member_1(rt: HostRuntime) {
     check_failures(&rt, 1, FIRST, CALLS);
 }
 
-// Member 2 has the other data of the rows above its position: there the old parity, on member 0, and the old data, on member 1,
-// are read.
+// Member 2 has the other data of the rows above its position: there the old parity, on member 0, and the old data, on
+// member 1, are read.
 #[test]
 fn each_slot_down_over_rebuilding_member_2(rt: HostRuntime) {
     const CALLS: &[Calls] = &[

@@ -21,8 +21,9 @@ fn push_row(rt: &(impl Abort + AllocGlobal), known: &Known, row: u64, numbers: &
     }
 }
 
-// Writes the row below a position, the row at it, the one above it and the last, all of them in one commit, and then again the
-// first and the last sector of each of them by itself. A row that is there twice, or not of the set, is left out.
+// Writes the row below a position, the row at it, the one above it and the last, all of them in one commit, and then
+// again the first and the last sector of each of them by itself. A row that is there twice, or not of the set, is left
+// out.
 fn write_around(rt: &(impl Abort + AllocGlobal), known: &mut Known, position: u64, byte: u8) {
     let last = known.array.table.geometry.rows().saturating_sub(1);
     let mut around = Vec::new(rt.alloc());
@@ -44,7 +45,8 @@ fn write_ends(rt: &(impl Abort + AllocGlobal), known: &mut Known, numbers: &[u64
     write(rt, known, &[numbers[count - 1]], byte.wrapping_add(102));
 }
 
-// Rebuilds a member by steps of 5, 1, 7 and none rows and one over the rest, with writes before each step and after the last.
+// Rebuilds a member by steps of 5, 1, 7 and none rows and one over the rest, with writes before each step and after the
+// last.
 fn check_rebuilt(rt: &(impl Abort + AllocGlobal), shape: Shape, slot: u8, device: Device) {
     let mut known = without(rt, &member(shape, slot, device));
     same(rt, replace(&mut known.array, slot), Ok(()));
@@ -96,8 +98,8 @@ pub(crate) fn shows(rt: &impl Abort, array: &mut Array<MemBank>, list: &[u8]) ->
     true
 }
 
-// Checks a crash in a write while a member is rebuilding, with its device there: all of it is shown, or nothing, and so it is on
-// the members when that one has been rebuilt.
+// Checks a crash in a write while a member is rebuilding, with its device there: all of it is shown, or nothing, and so
+// it is on the members when that one has been rebuilt.
 fn check_crash(
     rt: &(impl Abort + AllocGlobal),
     known: &Known,

@@ -66,8 +66,9 @@ fn check_others_stay(
     }
 }
 
-// Checks in which order a device is joined, from this call on, after the two reads of the other journal's seals: its places,
-// and a journal's seals too, are cleared and safe before another device is written, and the places stay clear until each other device has the table in which it has joined.
+// Checks in which order a device is joined, from this call on, after the two reads of the other journal's seals: its
+// places, and a journal's seals too, are cleared and safe before another device is written, and the places stay clear
+// until each other device has the table in which it has joined.
 fn check_order(rt: &(impl Abort + AllocGlobal), case: &Case, array: &Array<MemBank>, from: u64) {
     let bank = &array.bank;
     let end = bank.now();

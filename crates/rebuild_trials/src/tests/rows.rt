@@ -80,8 +80,8 @@ fn check_crash(rt: &(impl Abort + AllocGlobal), known: &Known, call: u64, choice
     check_list(rt, (call, position), &mut array, &known.list);
 }
 
-// The step makes for each of 64 rows two reads and a write, a flush, and five writes and flushes of superblocks. A crash after
-// a read leaves what one before it does.
+// The step makes for each of 64 rows two reads and a write, a flush, and five writes and flushes of superblocks. A
+// crash after a read leaves what one before it does.
 #[test]
 fn stops_in_rebuild(rt: HostRuntime) {
     let mut known = under_writes(&rt);

@@ -1,5 +1,5 @@
-//! What assembling finds after a crash in it, and what it does where devices fail in it, of a set of 3 members, chunk 8 and
-//! 32 stripes; and how many device calls it makes.
+//! What assembling finds after a crash in it, and what it does where devices fail in it, of a set of 3 members, chunk 8
+//! and 32 stripes; and how many device calls it makes.
 use super::tests::{check_published, check_table, opened};
 use crate::testing::{
     AssemblySize, ROOM, SET_A, Shape, answer_failing, assembled, assembled_failing, check_missing,
@@ -10,9 +10,9 @@ use sector_model::{Bank, Choice, Image, MemBank, Refusal};
 use std::process::Abort;
 use superblock::decode;
 
-// Each choice, and the first number of calls, counted from the first write, after which it leaves a superblock of generation 2
-// in the assembly of the set without slot 4. Four calls write these, and the four next ones flush them; `Mixed(1)` takes the
-// newer of two in slot 0.
+// Each choice, and the first number of calls, counted from the first write, after which it leaves a superblock of
+// generation 2 in the assembly of the set without slot 4. Four calls write these, and the four next ones flush them;
+// `Mixed(1)` takes the newer of two in slot 0.
 const CHOICES: [(Choice, u64); 3] = [
     (Choice::Oldest, 5),
     (Choice::Newest, 1),
@@ -151,8 +151,8 @@ fn equal_generations_with_another_table(rt: HostRuntime) {
     check_published(&rt, &crashed(&rt, &bank, calls - 2, Choice::Oldest));
 }
 
-// Checks that a set of this shape that was just made is assembled at generation 1 by reads alone: no write or flush takes room
-// in the log.
+// Checks that a set of this shape that was just made is assembled at generation 1 by reads alone: no write or flush
+// takes room in the log.
 fn check_reads(rt: &(impl Abort + AllocGlobal), shape: Shape) {
     let array = assembled(rt, fresh(rt, shape));
     let size = AssemblySize::whole(shape.0);

@@ -13,8 +13,8 @@ fn fill(rt: &impl Abort, image: &mut Image, slot: usize) {
     put_sector(rt, image, slot, 1, &sector);
 }
 
-// Slot 0 has no superblock that counts. The other four get generation 2 after two reads of each slot, by a write and a flush
-// each, and then the two seals of each journal are read.
+// Slot 0 has no superblock that counts. The other four get generation 2 after two reads of each slot, by a write and a
+// flush each, and then the two seals of each journal are read.
 #[test]
 fn forged_filler(rt: HostRuntime) {
     let mut image = fresh(&rt, SET_A);
@@ -54,8 +54,8 @@ fn held_seal(row: u16) -> Sector {
     sector
 }
 
-// Assembles the set that was just made with a seal in sector 2 of slot 3: whether that is the last entry's. Where it is not,
-// all that is done is to read, and no write or flush takes room in the log.
+// Assembles the set that was just made with a seal in sector 2 of slot 3: whether that is the last entry's. Where it is
+// not, all that is done is to read, and no write or flush takes room in the log.
 fn check_seal(rt: &(impl Abort + AllocGlobal), seal: &Sector, counts: bool) {
     let mut image = fresh(rt, SET_A);
     put_sector(rt, &mut image, 3, 2, seal);

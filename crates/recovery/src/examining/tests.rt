@@ -1,5 +1,5 @@
-//! Inspections of sets of 3 members, chunk 8 and 32 stripes: on banks that take no write and no flush, beside what assembling
-//! does then.
+//! Inspections of sets of 3 members, chunk 8 and 32 stripes: on banks that take no write and no flush, beside what
+//! assembling does then.
 use super::examine;
 use crate::testing::{
     BLANK, ID, OTHER_ID, SET_A, answer, array_of, assembled, bank_of, check_missing, fails_at,
@@ -63,7 +63,8 @@ fn check_found(
     same(rt, found.outlook, outlook);
 }
 
-// Checks what an inspection of the set on these devices finds, by so many calls, and that assembling then does what it says.
+// Checks what an inspection of the set on these devices finds, by so many calls, and that assembling then does what it
+// says.
 fn check(
     rt: &(impl Abort + AllocGlobal),
     image: Image,
@@ -160,8 +161,8 @@ fn another_set(rt: HostRuntime) {
     same(&rt, (found.is_none(), bank.now()), (true, 2 * 5));
 }
 
-// The devices of a set whose slot 1 was given a second device, at generation 3; the first one is back. `newest` is what it
-// has in place 1.
+// The devices of a set whose slot 1 was given a second device, at generation 3; the first one is back. `newest` is what
+// it has in place 1.
 fn replaced(rt: &(impl Abort + AllocGlobal), newest: &Sector) -> Image {
     let mut image = fresh(rt, SET_A);
     for slot in [0u8, 2, 3, 4] {
@@ -237,8 +238,8 @@ fn last_entries(rt: HostRuntime) {
     check(&rt, image, &slots, last, Outlook::Complete, CALLS);
 }
 
-// A device that fails as its superblocks are read is not there; of a journal that fails as its seals are read no entry is
-// known.
+// A device that fails as its superblocks are read is not there; of a journal that fails as its seals are read no entry
+// is known.
 #[test]
 fn a_device_fails(rt: HostRuntime) {
     let plan = fails_at(&rt, &[4], 2 * 4);

@@ -1,4 +1,5 @@
-//! Banks made by hand: which table is found on their devices, and by how many calls: two reads of each device that is up.
+//! Banks made by hand: which table is found on their devices, and by how many calls: two reads of each device that is
+//! up.
 use super::chosen_table;
 use crate::testing::{
     ID, OTHER_ID, bank_of, devices, fails_at, put_sector, same, shorten, superblock, take,
@@ -25,8 +26,8 @@ fn of_six_slots(generation: u8, stripes: u8, role: u8) -> Sector {
     sector
 }
 
-// So many devices of two sectors, onto which sectors are put: the slot, the place and the sector of each. The first ones,
-// `of_set` of them, have the superblocks of a set that was just made, of 32 stripes.
+// So many devices of two sectors, onto which sectors are put: the slot, the place and the sector of each. The first
+// ones, `of_set` of them, have the superblocks of a set that was just made, of 32 stripes.
 fn image_of(
     rt: &(impl Abort + AllocGlobal),
     count: usize,

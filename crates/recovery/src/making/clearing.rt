@@ -13,9 +13,11 @@ fn clear_sector<B: Bank>(bank: &mut B, dev: u8, at: u32) -> Result<(), Stop>
     requires within { at < (B.panel bank.old).sectors dev }
     ensures panel { IsLater (B.panel bank.old) (B.panel bank.new) }
     ensures honest { B.honest bank.old ↔ B.honest bank.new }
-    ensures cleared { B.honest bank.old → (slots : ℕ) → dev < slots → OnOk result (HasCleared slots (B.history bank.old) (B.history bank.new)) }
+    ensures cleared { B.honest bank.old → (slots : ℕ) → dev < slots
+        → OnOk result (HasCleared slots (B.history bank.old) (B.history bank.new)) }
     ensures zero { B.honest bank.old → OnOk result (IsZeroAt (B.history bank.new) dev at) }
-    ensures err { IfErr result (λ stop. IsCauseOf (B.panel bank.new) stop × ((stop ≡ Stop.Worn) ⊎ (stop ≡ Stop.Down dev))) }
+    ensures err { IfErr result (λ stop. IsCauseOf (B.panel bank.new) stop
+        × ((stop ≡ Stop.Worn) ⊎ (stop ≡ Stop.Down dev))) }
 {
     let zero = [0; 512];
     write_sector(bank, dev, at, &zero)
@@ -27,9 +29,11 @@ fn clear_sectors<B: Bank>(bank: &mut B, dev: u8, from: u32, end: u32) -> Result<
     requires within { end ≤ (B.panel bank.old).sectors dev }
     ensures panel { IsLater (B.panel bank.old) (B.panel bank.new) }
     ensures honest { B.honest bank.old ↔ B.honest bank.new }
-    ensures cleared { B.honest bank.old → (slots : ℕ) → dev < slots → OnOk result (HasCleared slots (B.history bank.old) (B.history bank.new)) }
+    ensures cleared { B.honest bank.old → (slots : ℕ) → dev < slots
+        → OnOk result (HasCleared slots (B.history bank.old) (B.history bank.new)) }
     ensures zeros { B.honest bank.old → OnOk result (AreZero (B.history bank.new) dev from end) }
-    ensures err { IfErr result (λ stop. IsCauseOf (B.panel bank.new) stop × ((stop ≡ Stop.Worn) ⊎ (stop ≡ Stop.Down dev))) }
+    ensures err { IfErr result (λ stop. IsCauseOf (B.panel bank.new) stop
+        × ((stop ≡ Stop.Worn) ⊎ (stop ≡ Stop.Down dev))) }
 {
     for at in from..end {
         clear_sector(bank, dev, at)?;
@@ -43,7 +47,8 @@ fn clear_slot<B: Bank>(bank: &mut B, slot: u8, geometry: &Geometry) -> Result<()
     requires of_set { slot < geometry.now.members + 2 }
     ensures panel { IsLater (B.panel bank.old) (B.panel bank.new) }
     ensures honest { B.honest bank.old ↔ B.honest bank.new }
-    ensures cleared { B.honest bank.old → OnOk result (HasCleared (geometry.now.members + 2) (B.history bank.old) (B.history bank.new)) }
+    ensures cleared { B.honest bank.old → OnOk result
+        (HasCleared (geometry.now.members + 2) (B.history bank.old) (B.history bank.new)) }
     ensures slot { B.honest bank.old → OnOk result (IsClearedSlot geometry.now (B.history bank.new) slot) }
     ensures err { IfErr result (IsStopIn (geometry.now.members + 2) (B.panel bank.new)) }
 {
@@ -61,8 +66,10 @@ pub(crate) fn clear_slots<B: Bank>(bank: &mut B, geometry: &Geometry) -> Result<
     requires { HasRoom geometry.now (B.panel bank.old) }
     ensures panel { IsLater (B.panel bank.old) (B.panel bank.new) }
     ensures honest { B.honest bank.old ↔ B.honest bank.new }
-    ensures cleared { B.honest bank.old → OnOk result (HasCleared (geometry.now.members + 2) (B.history bank.old) (B.history bank.new)) }
-    ensures slots { B.honest bank.old → (slot : ℕ) → slot < geometry.now.members + 2 → OnOk result (IsClearedSlot geometry.now (B.history bank.new) slot) }
+    ensures cleared { B.honest bank.old → OnOk result
+        (HasCleared (geometry.now.members + 2) (B.history bank.old) (B.history bank.new)) }
+    ensures slots { B.honest bank.old → (slot : ℕ) → slot < geometry.now.members + 2
+        → OnOk result (IsClearedSlot geometry.now (B.history bank.new) slot) }
     ensures err { IfErr result (IsStopIn (geometry.now.members + 2) (B.panel bank.new)) }
 {
     for slot in 0..geometry.members + 2 {
@@ -77,7 +84,8 @@ pub(crate) fn flush_slots<B: Bank>(bank: &mut B, slots: u8) -> Result<(), Stop>
     ensures panel { IsLater (B.panel bank.old) (B.panel bank.new) }
     ensures honest { B.honest bank.old ↔ B.honest bank.new }
     ensures cleared { B.honest bank.old → OnOk result (HasCleared slots (B.history bank.old) (B.history bank.new)) }
-    ensures flushed { B.honest bank.old → (slot : ℕ) → slot < slots → OnOk result (IsFlushed (B.history bank.new) slot) }
+    ensures flushed { B.honest bank.old → (slot : ℕ) → slot < slots
+        → OnOk result (IsFlushed (B.history bank.new) slot) }
     ensures err { IfErr result (IsStopIn slots (B.panel bank.new)) }
 {
     for slot in 0..slots {

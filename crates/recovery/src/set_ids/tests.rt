@@ -13,8 +13,8 @@ fn begun(first: u8) -> Id {
     id
 }
 
-// Five devices of two sectors, onto which superblocks of generation 1 or 2 are put: the slot, the role, the generation and the id of
-// each.
+// Five devices of two sectors, onto which superblocks of generation 1 or 2 are put: the slot, the role, the generation
+// and the id of each.
 fn image_of(rt: &(impl Abort + AllocGlobal), puts: &[(u8, u8, u8, Id)]) -> Image {
     let mut image = devices(rt, &[2; 5], 0);
     for (slot, role, generation, id) in puts {

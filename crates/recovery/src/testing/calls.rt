@@ -1,5 +1,6 @@
 //! How many device calls there are in making a set, in a commit and in an assembly, where no device fails in them: the
-//! formulas of docs/ARCHITECTURE.md, "Device calls". What an entry holds of its rows is said by a mask for each of them.
+//! formulas of docs/ARCHITECTURE.md, "Device calls". What an entry holds of its rows is said by a mask for each of
+//! them.
 ghost use Rattle.std.specs.Prelude.{◌≤◌};
 
 // Whether a mask has the bit of a member.
@@ -31,7 +32,8 @@ fn rows_on(masks: &[u8], member: u8) -> u64
     rows.min(65_535)
 }
 
-// The calls of a member on which an entry with these masks is put: a write for each sector, and a flush; none where it has none.
+// The calls of a member on which an entry with these masks is put: a write for each sector, and a flush; none where it
+// has none.
 fn calls_on(masks: &[u8], member: u8) -> u64
     ensures { result ≤ 65_536 }
 {
@@ -75,8 +77,8 @@ pub(crate) fn calls_of_make(members: u8, rows: u16) -> u64
     2 * slots + 2 * 2 + u64::from(cleared) + slots + 2 * slots
 }
 
-/// The size of a commit to a set that is all there, or of which a slot goes down in it: how many members the set has, and of
-/// each row a mask of what changes there, the given sectors and the parity.
+/// The size of a commit to a set that is all there, or of which a slot goes down in it: how many members the set has,
+/// and of each row a mask of what changes there, the given sectors and the parity.
 #[derive(Clone, Copy)]
 pub(crate) struct CommitSize<'a> {
     pub members: u8,
@@ -147,8 +149,8 @@ impl<'a> CommitSize<'a> {
         last
     }
 
-    /// The last call to a slot, counted from 0, if there is one: the flush after its seal, or after its rows; where a member
-    /// has none of the sectors, its last read.
+    /// The last call to a slot, counted from 0, if there is one: the flush after its seal, or after its rows; where a
+    /// member has none of the sectors, its last read.
     pub(crate) fn last_call(&self, slot: u8) -> Option<u64> {
         if slot >= self.members {
             return Some(self.before_seals() + 2 * u64::from(slot - self.members) + 1);
@@ -188,8 +190,9 @@ impl<'a> CommitSize<'a> {
     }
 }
 
-/// The size of an assembly: how many members the set has, which slot it finds out and marks missing, if one is, a mask of what
-/// the last entry holds for each of its rows, none where there is no entry, and whether the second journal lacks that entry.
+/// The size of an assembly: how many members the set has, which slot it finds out and marks missing, if one is, a mask
+/// of what the last entry holds for each of its rows, none where there is no entry, and whether the second journal
+/// lacks that entry.
 #[derive(Clone, Copy)]
 pub(crate) struct AssemblySize<'a> {
     pub members: u8,
@@ -250,8 +253,8 @@ impl<'a> AssemblySize<'a> {
         2 * self.slots()
     }
 
-    // How many calls come before those of seals: one more read of each slot where all are there; else a write and a flush
-    // of each, which mark the one missing that is out.
+    // How many calls come before those of seals: one more read of each slot where all are there; else a write and a
+    // flush of each, which mark the one missing that is out.
     fn before_seals(&self) -> u64
         ensures { result ≤ 1_028 }
     {
@@ -276,8 +279,8 @@ impl<'a> AssemblySize<'a> {
         self.before_body() + sectors(self.masks)
     }
 
-    /// How many calls come before the first write to a member: where a journal lacks the entry, it gets the body, a flush,
-    /// the seal and a flush.
+    /// How many calls come before the first write to a member: where a journal lacks the entry, it gets the body, a
+    /// flush, the seal and a flush.
     pub(crate) fn before_members(&self) -> u64
         ensures { result ≤ 140_000 }
     {
@@ -287,15 +290,16 @@ impl<'a> AssemblySize<'a> {
         self.before_copy() + sectors(self.masks) + 3
     }
 
-    /// How many calls there are: where there is an entry, its sectors and a flush of each member that has some come last.
+    /// How many calls there are: where there is an entry, its sectors and a flush of each member that has some come
+    /// last.
     pub(crate) fn calls(&self) -> u64
         ensures { result ≤ 210_000 }
     {
         self.before_members() + calls_below(self.masks, self.members, self.out)
     }
 
-    /// How many calls assembling the set again makes, without an entry and with so many devices up: two reads of each of these,
-    /// one of each slot that is not missing, and two of seals of each such journal.
+    /// How many calls assembling the set again makes, without an entry and with so many devices up: two reads of each
+    /// of these, one of each slot that is not missing, and two of seals of each such journal.
     pub(crate) fn calls_again(&self, up: u8) -> u64
         ensures { result ≤ 1_300 }
     {
@@ -328,7 +332,8 @@ impl<'a> AssemblySize<'a> {
         }
     }
 
-    // That to a member: the flush after its sectors of the entry; where it has none, that of its superblock, or the read of it.
+    // That to a member: the flush after its sectors of the entry; where it has none, that of its superblock, or the
+    // read of it.
     fn last_of_member(&self, slot: u8) -> u64
         ensures { result ≤ 280_000 }
     {

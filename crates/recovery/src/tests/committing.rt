@@ -1,5 +1,5 @@
-//! Sets in memory that are committed to and crashed, for tests: what is written, what an image that a crash leaves says of
-//! its rows, and which array is assembled on it.
+//! Sets in memory that are committed to and crashed, for tests: what is written, what an image that a crash leaves says
+//! of its rows, and which array is assembled on it.
 ghost use Rattle.std.specs.Prelude.{◌↔◌, IsTrue};
 ghost use Rattle.array_io.specs.Believed.ArrayCalls.{MayCommit};
 ghost use Rattle.array_io.specs.Steps.FormingRows.{HasLogical};
@@ -92,8 +92,8 @@ pub(crate) fn check_sectors(rt: &impl Abort, array: &mut Array<MemBank>, list: L
     same(rt, unlike(rt, array, list), None);
 }
 
-/// The array that is assembled on these devices: this slot is missing, where it is one of the set's, and reads give these
-/// logical sectors, as they have to.
+/// The array that is assembled on these devices: this slot is missing, where it is one of the set's, and reads give
+/// these logical sectors, as they have to.
 pub(crate) fn checked(
     rt: &(impl Abort + AllocGlobal),
     image: Image,
@@ -135,8 +135,8 @@ pub(crate) fn check_list(rt: &impl Abort, image: &Image, list: List) {
     }
 }
 
-/// Asks that the members of an array say by themselves that these rows are sound and these logical sectors stand there: the
-/// seals are cleared for that. The rows have to be sound before, too.
+/// Asks that the members of an array say by themselves that these rows are sound and these logical sectors stand there:
+/// the seals are cleared for that. The rows have to be sound before, too.
 pub(crate) fn check_members(
     rt: &(impl Abort + AllocGlobal),
     bank: &MemBank,
@@ -182,7 +182,8 @@ pub(crate) fn list_of(first: u16, step: u16, salt: u8) -> [(u64, u8); 32] {
     list
 }
 
-/// What a commit changes: logical sectors before it and after it, in each of which they may differ, and rows to be looked at.
+/// What a commit changes: logical sectors before it and after it, in each of which they may differ, and rows to be
+/// looked at.
 #[derive(Clone, Copy)]
 pub(crate) struct Change<'a> {
     pub old: List<'a>,
@@ -190,8 +191,8 @@ pub(crate) struct Change<'a> {
     pub rows: &'a [u64],
 }
 
-/// Whether assembling the set on these devices shows all that is new, and else all that is old, as has to be. The rows of
-/// what it leaves have to be sound, and the members to show the same by themselves.
+/// Whether assembling the set on these devices shows all that is new, and else all that is old, as has to be. The rows
+/// of what it leaves have to be sound, and the members to show the same by themselves.
 pub(crate) fn shows_new(rt: &(impl Abort + AllocGlobal), image: Image, change: Change) -> bool {
     let mut array = assembled(rt, image);
     let is_new = unlike(rt, &mut array, change.new) == None;

@@ -5,8 +5,8 @@ use recovery::{Examined, ExaminedSlot, Outlook, Presence, Standing};
 use std::process::Abort;
 use superblock::{Table, decode};
 
-// The table of a set of 3 members, chunk 8 and 32 stripes at generation 2, of which slot 2 is in the state of this byte,
-// and so many rows of it count.
+// The table of a set of 3 members, chunk 8 and 32 stripes at generation 2, of which slot 2 is in the state of this
+// byte, and so many rows of it count.
 fn table(rt: &impl Abort, state: u8, position: u8) -> Table {
     let mut sector = [0; 512];
     sector[..8].copy_from_slice(b"RAID5JV1");

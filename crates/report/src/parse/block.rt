@@ -16,7 +16,8 @@ const REPEATED: &[u8] = b"*512";
 /// Reads fields that spell one block each, and keeps the first `KEPT_BLOCKS` in `to`: how many
 /// these are. None where a field is no block, and `to` then holds anything.
 pub fn keep_blocks(fields: Fields<'_>, to: &mut [Sector; KEPT_BLOCKS]) -> Option<usize>
-    ensures said { IfSome result (λ kept. (blocks : List Block) × AreBlocks (fields_left fields.entry) blocks × AreKept blocks kept to.new) }
+    ensures said { IfSome result (λ kept. (blocks : List Block) × AreBlocks (fields_left fields.entry) blocks
+        × AreKept blocks kept to.new) }
     ensures unsaid { result ≡ None → (blocks : List Block) → AreBlocks (fields_left fields.entry) blocks → ⊥ }
 {
     let mut unkept: Sector = [0; 512];

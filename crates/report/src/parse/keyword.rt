@@ -28,7 +28,8 @@ pub enum Keyword {
 }
 
 impl Keyword {
-    /// The keyword that a field spells, if it is one. `read` and `write` are looked at first, since most lines begin so.
+    /// The keyword that a field spells, if it is one. `read` and `write` are looked at first, since most lines begin
+    /// so.
     pub fn of(field: &[u8]) -> Option<Self>
         ensures list { result ≡ Some Keyword.List → field.now ≡ codes "list" }
         ensures create { result ≡ Some Keyword.Create → field.now ≡ codes "create" }
@@ -37,7 +38,8 @@ impl Keyword {
         ensures rename { result ≡ Some Keyword.Rename → field.now ≡ codes "rename" }
         ensures read { result ≡ Some Keyword.Read → field.now ≡ codes "read" }
         ensures write { result ≡ Some Keyword.Write → field.now ≡ codes "write" }
-        ensures none { result ≡ None → (field.now ≢ codes "list") × (field.now ≢ codes "create") × (field.now ≢ codes "extend")
+        ensures none { result ≡ None → (field.now ≢ codes "list") × (field.now ≢ codes "create")
+            × (field.now ≢ codes "extend")
             × (field.now ≢ codes "remove") × (field.now ≢ codes "read") × (field.now ≢ codes "write")
             × (field.now ≢ codes "rename") }
     {

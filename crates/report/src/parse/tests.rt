@@ -5,7 +5,8 @@ use std::process::Abort;
 
 const ROOM: [Sector; KEPT_BLOCKS] = [[0; 512]; KEPT_BLOCKS];
 
-// What a line asks for: its word, the name, and the numbers after it, or how many blocks are kept. No word where it asks for nothing.
+// What a line asks for: its word, the name, and the numbers after it, or how many blocks are kept. No word where it
+// asks for nothing.
 type Told<'a> = (&'a str, &'a [u8], u32, usize);
 
 const NOTHING: Told<'static> = ("", b"", 0, 0);

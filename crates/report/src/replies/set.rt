@@ -17,8 +17,8 @@ use scrub::ScrubReport;
 use sector_model::Refusal;
 use std::io::Write;
 
-/// Writes `position 64 of 256, 3 left` and a newline, with the position, the number of a member's rows and how many steps of 64 rows are left, or
-/// `complete` and a newline. The only refusal is `Refusal::WriteFault`, as for a reply.
+/// Writes `position 64 of 256, 3 left` and a newline, with the position, the number of a member's rows and how many
+/// steps of 64 rows are left, or `complete` and a newline. The only refusal is `Refusal::WriteFault`, as for a reply.
 pub fn write_progress<W: Write>(
     writer: &mut W,
     progress: &Progress,
@@ -63,8 +63,8 @@ fn append_left(line: &mut ArrayVec<u8, 96>, position: u64, rows: u64)
     append(line, b" left");
 }
 
-/// Writes `256 rows, 0 bad` and a newline, or `256 rows, 2 bad, first 5` where rows are not sound, with the first of these.
-/// The only refusal is `Refusal::WriteFault`, as for a reply.
+/// Writes `256 rows, 0 bad` and a newline, or `256 rows, 2 bad, first 5` where rows are not sound, with the first of
+/// these. The only refusal is `Refusal::WriteFault`, as for a reply.
 pub fn write_scrubbed<W: Write>(writer: &mut W, report: &ScrubReport) -> Result<(), Refusal>
     ensures ok { OnOk result
         (Appends (W.contents writer.old) (W.contents writer.new) (scrub_line (report_of report.now))) }

@@ -34,7 +34,8 @@ fn files_of(
     slots: &[Option<Vec<Sector>>],
 ) -> Result<Vec<Option<MemFile>>, AllocError>
     ensures ten { IfOk result (λ files. vec_len files ≡ 10) }
-    ensures each { IfOk result (λ files. (d : ℕ) → d < 10 → IsFileOf contents_in (slice_index_or slots.now d None) (file_at files.items d)) }
+    ensures each { IfOk result (λ files. (d : ℕ) → d < 10
+        → IsFileOf contents_in (slice_index_or slots.now d None) (file_at files.items d)) }
 {
     let mut files = Vec::with_capacity(alloc, SLOTS)?;
     for number in 0..SLOTS {
@@ -55,7 +56,8 @@ impl FileBank<MemFile, MemBank> {
         requires least { 5 ≤ vec_len image.slots }
         requires most { vec_len image.slots ≤ 10 }
         ensures honest { IfOk result (λ bank. ⟦<FileBank<MemFile, MemBank> as Bank>⟧.honest bank) }
-        ensures history { IfOk result (λ bank. ⟦<FileBank<MemFile, MemBank> as Bank>⟧.history bank ≡ Began (slots_of image.slots.items)) }
+        ensures history { IfOk result (λ bank. ⟦<FileBank<MemFile, MemBank> as Bank>⟧.history bank ≡ Began
+            (slots_of image.slots.items)) }
         ensures err { IfErr result (λ refusal. refusal ≡ Refusal.Memory) }
     {
         let files = files_of(alloc, &image.slots)?;

@@ -1,9 +1,12 @@
 //! Images that a crash might have left.
-ghost use Rattle.std.specs.Prelude.{◌≡◌, ◌≤◌, ◌<◌, ◌+◌, ◌-◌, ◌^◌, ℕ, [], ◌∷◌, ◌++◌, ◌==◌, if◌then◌else◌, length, vec_len, take, count_by, slice_index, slice_index_or, slice_set, Some, MatchOption, IfOk, IfErr};
+ghost use Rattle.std.specs.Prelude.{◌≡◌, ◌≤◌, ◌<◌, ◌+◌, ◌-◌, ◌^◌, ℕ, [], ◌∷◌, ◌++◌, ◌==◌, if◌then◌else◌, length};
+ghost use Rattle.std.specs.Prelude.{vec_len, take, count_by, slice_index, slice_index_or, slice_set, Some, MatchOption};
+ghost use Rattle.std.specs.Prelude.{IfOk, IfErr};
 ghost use Rattle.std.specs.List.{IsAfterLastMatch};
 ghost use Rattle.sector_model.specs.History.{Slots, Began, MayLeave, Bytes, disk_of, sector_of, cut_at};
 ghost use Rattle.sector_model.specs.Candidates.{logged, number_taken, taken, IsTaken, IsImageOf};
-ghost use Rattle.sector_model.specs.Memory.{slots_of, sectors_in, IsInOrder, log_before, run_on, is_answered, room_after, put_by, put_by_all, written, all_written, flushes};
+ghost use Rattle.sector_model.specs.Memory.{slots_of, sectors_in, IsInOrder, log_before, run_on, is_answered};
+ghost use Rattle.sector_model.specs.Memory.{room_after, put_by, put_by_all, written, all_written, flushes};
 
 use super::{Entry, Image, MemBank, copy_of};
 use crate::{Bank, Choice, Event, Refusal, Sector};
@@ -17,8 +20,11 @@ impl MemBank {
     pub fn image_after(&self, alloc: Global, call: u64, choice: Choice) -> Result<Image, Refusal>
         requires { call ≤ (⟦<MemBank as Bank>⟧.panel self.now).calls }
         ensures slots { IfOk result (λ image. vec_len image.slots ≡ (⟦<MemBank as Bank>⟧.panel self.now).devices) }
-        ensures choice { IfOk result (λ image. IsImageOf choice (self.now.room + logged (⟦<MemBank as Bank>⟧.history self.now)) (cut_at call (⟦<MemBank as Bank>⟧.history self.now)) (slots_of image.slots.items)) }
-        ensures allowed { IfOk result (λ image. MayLeave (cut_at call (⟦<MemBank as Bank>⟧.history self.now)) (slots_of image.slots.items)) }
+        ensures choice { IfOk result (λ image. IsImageOf choice
+            (self.now.room + logged (⟦<MemBank as Bank>⟧.history self.now))
+            (cut_at call (⟦<MemBank as Bank>⟧.history self.now)) (slots_of image.slots.items)) }
+        ensures allowed { IfOk result (λ image. MayLeave (cut_at call (⟦<MemBank as Bank>⟧.history self.now))
+            (slots_of image.slots.items)) }
         ensures err { IfErr result (λ refusal. refusal ≡ Refusal.Memory) }
     {
         let room = self.room + answered(&self.log);
@@ -47,7 +53,9 @@ fn slots_after(
 ) -> Result<Vec<Option<Vec<Sector>>>, AllocError>
     requires { length start.now ≤ 10 }
     ensures len { IfOk result (λ slots. vec_len slots ≡ length start.now) }
-    ensures taken { IfOk result (λ slots. (d : ℕ) → d < length start.now → IsTaken choice room (run_on (Began (slots_of start.now)) log.now) d (slots_of start.now d) (slots_of slots.items d)) }
+    ensures taken { IfOk result (λ slots. (d : ℕ) → d < length start.now
+        → IsTaken choice room (run_on (Began (slots_of start.now)) log.now) d (slots_of start.now d)
+        (slots_of slots.items d)) }
 {
     let mut slots = Vec::new(alloc);
     for (dev, slot) in start.iter().enumerate() {
@@ -65,7 +73,8 @@ fn slot_after(
     room: usize,
     choice: Choice,
 ) -> Result<Option<Vec<Sector>>, AllocError>
-    ensures { IfOk result (λ chosen. (start : Slots) → start dev ≡ sectors_in slot.now → IsTaken choice room (run_on (Began start) log.now) dev (sectors_in slot.now) (sectors_in chosen)) }
+    ensures { IfOk result (λ chosen. (start : Slots) → start dev ≡ sectors_in slot.now
+        → IsTaken choice room (run_on (Began start) log.now) dev (sectors_in slot.now) (sectors_in chosen)) }
 {
     match slot {
         Some(began) => Ok(Some(disk_after(alloc, began, dev, log, room, choice)?)),
@@ -83,7 +92,8 @@ fn disk_after(
     choice: Choice,
 ) -> Result<Vec<Sector>, AllocError>
     ensures len { IfOk result (λ disk. length disk.items ≡ length began.now) }
-    ensures taken { IfOk result (λ disk. (start : Slots) → start dev ≡ Some began.now → (a : ℕ) → a < length began.now → sector_of disk.items a ≡ taken choice room (run_on (Began start) log.now) dev a) }
+    ensures taken { IfOk result (λ disk. (start : Slots) → start dev ≡ Some began.now → (a : ℕ) → a < length began.now
+        → sector_of disk.items a ≡ taken choice room (run_on (Began start) log.now) dev a) }
 {
     let (safe, since) = log.split_at(after_last_flush(log, dev));
     let room = room.saturating_sub(answered(safe));
@@ -106,7 +116,8 @@ fn put_by_choice(
     requires len { length numbers.old ≡ length disk.old }
     requires ones { (a : ℕ) → a < length numbers.old → slice_index numbers.old a ≡ 1 }
     ensures { (a : ℕ) → a < length disk.old → sector_of disk.new a
-        ≡ slice_index_or (sector_of disk.old a ∷ put_by_all log.now room dev a) (number_taken choice dev a (1 + length (put_by_all log.now room dev a))) [] }
+        ≡ slice_index_or (sector_of disk.old a ∷ put_by_all log.now room dev a)
+        (number_taken choice dev a (1 + length (put_by_all log.now room dev a))) [] }
 {
     count_candidates(numbers, log, dev, room);
     choose(numbers, dev, choice);
@@ -157,7 +168,8 @@ fn write_again(disk: &mut [Sector], log: &[Entry], dev: u8)
 
 // The candidate that an event puts into a sector of the device, where the log had this much room.
 fn candidate(event: &Event, dev: u8, room: usize) -> Option<(usize, &Sector)>
-    ensures { (a : ℕ) → MatchOption result (put_by event.now room dev a ≡ []) (λ put. put_by event.now room dev a ≡ (if a == put.0 then put.1.now ∷ [] else [])) }
+    ensures { (a : ℕ) → MatchOption result (put_by event.now room dev a ≡ [])
+        (λ put. put_by event.now room dev a ≡ (if a == put.0 then put.1.now ∷ [] else [])) }
 {
     match event {
         Event::Wrote { device, at, value } if *device == dev => Some((*at as usize, value)),
@@ -171,7 +183,8 @@ fn candidate(event: &Event, dev: u8, room: usize) -> Option<(usize, &Sector)>
 // Adds to the number of each sector how many candidates the entries put there.
 fn count_candidates(numbers: &mut [usize], log: &[Entry], dev: u8, mut room: usize)
     requires { (a : ℕ) → a < length numbers.old → slice_index numbers.old a ≤ 1 }
-    ensures { (a : ℕ) → a < length numbers.old → slice_index numbers.new a ≡ slice_index numbers.old a + length (put_by_all log.now room dev a) }
+    ensures { (a : ℕ) → a < length numbers.old
+        → slice_index numbers.new a ≡ slice_index numbers.old a + length (put_by_all log.now room dev a) }
 {
     for entry in log {
         if let Some((at, _)) = candidate(&entry.event, dev, room) {
@@ -196,7 +209,8 @@ fn room_after(event: &Event, room: usize) -> usize
 // The number of the candidate that is taken, in place of how many there are.
 fn choose(numbers: &mut [usize], dev: u8, choice: Choice)
     requires { (a : ℕ) → a < length numbers.old → 0 < slice_index numbers.old a }
-    ensures { (a : ℕ) → a < length numbers.old → slice_index numbers.new a ≡ number_taken choice dev a (slice_index numbers.old a) }
+    ensures { (a : ℕ) → a < length numbers.old
+        → slice_index numbers.new a ≡ number_taken choice dev a (slice_index numbers.old a) }
 {
     for (at, number) in numbers.iter_mut().enumerate() {
         *number = number_of(choice, dev, at, *number);
@@ -221,8 +235,11 @@ fn number_of(choice: Choice, dev: u8, at: usize, count: usize) -> usize
 // Puts into each sector the candidate of its number. What stands there is number 0, and the entries put the others.
 fn put_chosen(disk: &mut [Sector], numbers: &mut [usize], log: &[Entry], dev: u8, mut room: usize)
     requires len { length numbers.old ≡ length disk.old }
-    requires numbers { (a : ℕ) → a < length disk.old → slice_index numbers.old a ≤ length (put_by_all log.now room dev a) }
-    ensures { (a : ℕ) → a < length disk.old → sector_of disk.new a ≡ slice_index_or (sector_of disk.old a ∷ put_by_all log.now room dev a) (slice_index numbers.old a) [] }
+    requires numbers { (a : ℕ) → a < length disk.old
+        → slice_index numbers.old a ≤ length (put_by_all log.now room dev a) }
+    ensures { (a : ℕ) → a < length disk.old
+        → sector_of disk.new a ≡ slice_index_or (sector_of disk.old a ∷ put_by_all log.now room dev a)
+        (slice_index numbers.old a) [] }
 {
     for entry in log {
         if let Some((at, value)) = candidate(&entry.event, dev, room) {

@@ -30,7 +30,8 @@ struct Work {
     total: u64,
 }
 
-/// A bank of devices that shows on a meter how far a command over it is. Each call is passed on as it is, and its answer is that bank's.
+/// A bank of devices that shows on a meter how far a command over it is. Each call is passed on as it is, and its
+/// answer is that bank's.
 ///
 /// The calls of rows of the set's members are counted. What was shown is taken away when the bank is dropped.
 pub struct ProgressBank<'a, B: Bank + Drop, M: Meter> {
@@ -71,8 +72,9 @@ impl<'a, B: Bank + Drop, M: Meter> ProgressBank<'a, B, M> {
         }
     }
 
-    /// Watches a command that assembles the set of this id and goes over its members' rows once, from the position that the set is rebuilt to and
-    /// so many at most. The shape of the set is told by its superblocks, as the command reads them.
+    /// Watches a command that assembles the set of this id and goes over its members' rows once, from the position that
+    /// the set is rebuilt to and so many at most. The shape of the set is told by its superblocks, as the command reads
+    /// them.
     pub fn of_set(bank: B, meter: &'a M, id: [u8; 16], most_rows: u64) -> ProgressBank<'a, B, M>
         ensures bank { result.bank ≡ bank }
         ensures sought { IsSomeAnd result.sought
@@ -164,7 +166,8 @@ fn calls_of(members: u8, rows: u64) -> u64
 
 // The rows of a set from its position on, so many at most.
 fn rows_left(table: &Table, most_rows: u64) -> u64
-    ensures { result ≡ min (rows_of table.now.geometry.chunk table.now.geometry.stripes - table.now.position) most_rows }
+    ensures { result ≡ min (rows_of table.now.geometry.chunk table.now.geometry.stripes - table.now.position)
+        most_rows }
 {
     table
         .geometry

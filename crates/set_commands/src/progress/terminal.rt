@@ -4,7 +4,8 @@ use super::{Left, Meter};
 use std::io::{self, IsTerminal, Write};
 use std::rt::Clock;
 
-/// It is shown on the line of standard error where that is a terminal, and nowhere else. A fault of standard error has no place to be told.
+/// It is shown on the line of standard error where that is a terminal, and nowhere else. A fault of standard error has
+/// no place to be told.
 impl Meter for HostRuntime {
     fn millis(&self) -> Option<u64> {
         if !self.stderr().is_terminal() {

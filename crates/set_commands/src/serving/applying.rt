@@ -16,12 +16,13 @@ use std::io::Write;
 use stripe_journal::Entry;
 use volume_table::{Event, Reply};
 
-/// Does an event on the set of this id, by one call of its store, and writes what it is answered: `ok`, how far a rebuild came, what was found in the
-/// rows, or the blocks or volumes that were asked for.
+/// Does an event on the set of this id, by one call of its store, and writes what it is answered: `ok`, how far a
+/// rebuild came, what was found in the rows, or the blocks or volumes that were asked for.
 ///
-/// Refused as `open_on` is; as `Store::apply` says, with `WouldLose` and `NotMissing` where a slot is given up, with `NotMissing` and `NotUsable` where
-/// one is given a device, with `Incomplete` where the rows are looked at, with `NothingToRebuild` where some are rebuilt, and with those of a command on
-/// volumes; and with `WriteFault`, where the event was done and a beginning of the text may be written.
+/// Refused as `open_on` is; as `Store::apply` says, with `WouldLose` and `NotMissing` where a slot is given up, with
+/// `NotMissing` and `NotUsable` where one is given a device, with `Incomplete` where the rows are looked at, with
+/// `NothingToRebuild` where some are rebuilt, and with those of a command on volumes; and with `WriteFault`, where the
+/// event was done and a beginning of the text may be written.
 pub fn apply_on<W: Write, B: Bank + Drop>(
     alloc: Global,
     bank: B,
@@ -37,7 +38,8 @@ pub fn apply_on<W: Write, B: Bank + Drop>(
     ensures refused { IfErr result (λ refusal. refusal ≢ Refusal.WriteFault
         → IsNotOpened (B.honest bank) id (bank_seen B.Bank bank) refusal
         ⊎ RefusesOn (B.honest bank) id (event_of event.now) (bank_seen B.Bank bank) refusal) }
-    ensures cut { IfErr result (λ refusal. refusal ≡ Refusal.WriteFault → AppliesOn (B.honest bank) id (event_of event.now)
+    ensures cut { IfErr result (λ refusal. refusal ≡ Refusal.WriteFault
+        → AppliesOn (B.honest bank) id (event_of event.now)
         (bank_seen B.Bank bank) (AppendsPart (W.contents out.old) (W.contents out.new))) }
 {
     let mut store = open_on(bank, entry, id)?;
@@ -59,8 +61,10 @@ fn done(reply: Reply) -> Result<Reply, Refusal>
 
 // Writes what an event is answered.
 fn write_event<W: Write>(out: &mut W, reply: &Reply, rows: u64) -> Result<(), Refusal>
-    ensures ok { OnOk result (Appends (W.contents out.old) (W.contents out.new) (event_text rows (reply_of reply.now))) }
-    ensures part { OnErr result (AppendsPart (W.contents out.old) (W.contents out.new) (event_text rows (reply_of reply.now))) }
+    ensures ok { OnOk result (Appends (W.contents out.old) (W.contents out.new)
+        (event_text rows (reply_of reply.now))) }
+    ensures part { OnErr result (AppendsPart (W.contents out.old) (W.contents out.new)
+        (event_text rows (reply_of reply.now))) }
     ensures kind { IfErr result (λ refusal. refusal ≡ Refusal.WriteFault) }
 {
     match reply {

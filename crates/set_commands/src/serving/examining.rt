@@ -3,7 +3,8 @@ ghost use Rattle.std.specs.Prelude.{◌≡◌, ◌≢◌, ◌≤◌, ◌↔◌, 
 ghost use Rattle.sector_model.specs.declared.refusal.Refusal.{Refusal};
 ghost use Rattle.recovery.specs.SeenBank.{bank_seen};
 ghost use Rattle.set_commands.specs.Healths.{HealthAbove, HealthAt, InspectsHealth};
-ghost use Rattle.set_commands.specs.Examining.{ExaminesOn, ExaminesPartOn, IsExamineEnd, IsInspectionEnd, IsInspectionText, Inspects, InspectsAbove, InspectsOne, Puts};
+ghost use Rattle.set_commands.specs.Examining.{ExaminesOn, ExaminesPartOn, IsExamineEnd, IsInspectionEnd};
+ghost use Rattle.set_commands.specs.Examining.{IsInspectionText, Inspects, InspectsAbove, InspectsOne, Puts};
 
 use super::health::{Health, foreseen, worse};
 use recovery::{Examined, examine, id_above};
@@ -16,12 +17,12 @@ use std::io::Write;
 /// The most sets of which superblocks count on a bank: ten slots have two places each.
 const MOST_SETS: u8 = 20;
 
-/// Inspects the set of this id on a bank of devices, or each set that it has, in rising order of ids, where no id is given, by
-/// reads alone, and writes what it found: as lines of text, or as JSON, a line for each set; and says how well the worst is, or
-/// what was said before, if that is worse.
+/// Inspects the set of this id on a bank of devices, or each set that it has, in rising order of ids, where no id is
+/// given, by reads alone, and writes what it found: as lines of text, or as JSON, a line for each set; and says how
+/// well the worst is, or what was said before, if that is worse.
 ///
-/// `NoSet` where no superblock of the id counts, or none of any, `Worn` where the count of device calls stands at 2^62, and
-/// `Memory`, each with nothing written; `WriteFault`, where a beginning of the text may be written.
+/// `NoSet` where no superblock of the id counts, or none of any, `Worn` where the count of device calls stands at 2^62,
+/// and `Memory`, each with nothing written; `WriteFault`, where a beginning of the text may be written.
 pub fn examine_on<W: Write, B: Bank + Drop>(
     alloc: Global,
     bank: B,
@@ -31,9 +32,11 @@ pub fn examine_on<W: Write, B: Bank + Drop>(
     health: &mut Health,
 ) -> Result<(), Refusal>
     ensures health { OnOk result (InspectsHealth (B.honest bank) id (bank_seen B.Bank bank) health.old health.new) }
-    ensures examined { OnOk result (ExaminesOn (B.honest bank) id json (bank_seen B.Bank bank) (W.contents out.old) (W.contents out.new)) }
+    ensures examined { OnOk result (ExaminesOn (B.honest bank) id json (bank_seen B.Bank bank) (W.contents out.old)
+        (W.contents out.new)) }
     ensures end { IfErr result IsExamineEnd }
-    ensures none { IfErr result (λ refusal. refusal ≡ Refusal.NoSet → Inspects (B.honest bank) id json (bank_seen B.Bank bank) []) }
+    ensures none { IfErr result (λ refusal. refusal ≡ Refusal.NoSet
+        → Inspects (B.honest bank) id json (bank_seen B.Bank bank) []) }
     ensures unwritten { IfErr result (λ refusal. refusal ≢ Refusal.WriteFault → out.new ≡ out.old) }
     ensures cut { IfErr result (λ refusal. refusal ≡ Refusal.WriteFault
         → ExaminesPartOn (B.honest bank) id json (bank_seen B.Bank bank) (W.contents out.old) (W.contents out.new)) }
@@ -54,8 +57,10 @@ fn inspections<B: Bank>(
     json: bool,
     health: &mut Health,
 ) -> Result<String, Refusal>
-    ensures health { OnOk result (InspectsHealth (B.honest bank.old) id (bank_seen B.Bank bank.old) health.old health.new) }
-    ensures inspections { IfOk result (λ text. Inspects (B.honest bank.old) id json (bank_seen B.Bank bank.old) (string_bytes text)) }
+    ensures health { OnOk result (InspectsHealth (B.honest bank.old) id (bank_seen B.Bank bank.old) health.old
+        health.new) }
+    ensures inspections { IfOk result (λ text. Inspects (B.honest bank.old) id json (bank_seen B.Bank bank.old)
+        (string_bytes text)) }
     ensures err { IfErr result IsInspectionEnd }
 {
     let mut text = String::new(alloc);
@@ -76,7 +81,8 @@ fn inspect_above<B: Bank>(
     text: &mut String,
     health: &mut Health,
 ) -> Result<(), Refusal>
-    ensures health { OnOk result (HealthAbove (B.honest bank.old) most above (bank_seen B.Bank bank.old) (bank_seen B.Bank bank.new) health.old health.new) }
+    ensures health { OnOk result (HealthAbove (B.honest bank.old) most above (bank_seen B.Bank bank.old)
+        (bank_seen B.Bank bank.new) health.old health.new) }
     ensures honest { B.honest bank.old ↔ B.honest bank.new }
     ensures puts { OnOk result (Puts (string_bytes text.old) (string_bytes text.new)
         (InspectsAbove (B.honest bank.old) json most above (bank_seen B.Bank bank.old) (bank_seen B.Bank bank.new))) }
@@ -101,7 +107,8 @@ fn inspect_one<B: Bank>(
     text: &mut String,
     health: &mut Health,
 ) -> Result<(), Refusal>
-    ensures health { OnOk result (HealthAt (B.honest bank.old) id.now (bank_seen B.Bank bank.old) (bank_seen B.Bank bank.new) health.old health.new) }
+    ensures health { OnOk result (HealthAt (B.honest bank.old) id.now (bank_seen B.Bank bank.old)
+        (bank_seen B.Bank bank.new) health.old health.new) }
     ensures honest { B.honest bank.old ↔ B.honest bank.new }
     ensures puts { OnOk result (Puts (string_bytes text.old) (string_bytes text.new)
         (InspectsOne (B.honest bank.old) id.now json (bank_seen B.Bank bank.old) (bank_seen B.Bank bank.new))) }
@@ -123,7 +130,8 @@ fn put_inspection(
     json: bool,
     text: &mut String,
 ) -> Result<(), Refusal>
-    ensures puts { OnOk result (Puts (string_bytes text.old) (string_bytes text.new) (IsInspectionText json examined.now)) }
+    ensures puts { OnOk result (Puts (string_bytes text.old) (string_bytes text.new)
+        (IsInspectionText json examined.now)) }
     ensures err { IfErr result (λ refusal. refusal ≡ Refusal.Memory) }
 {
     if json {

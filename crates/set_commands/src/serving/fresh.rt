@@ -1,12 +1,14 @@
 //! A script over a set in memory that is made for it.
-ghost use Rattle.std.specs.Prelude.{◌≡◌, ◌≢◌, ◌⊎◌, ℕ, List, [], Some, None, IfErr, IfOk, OnOk, false, map, replicate, vec_len};
+ghost use Rattle.std.specs.Prelude.{◌≡◌, ◌≢◌, ◌⊎◌, ℕ, List, [], Some, None, IfErr, IfOk, OnOk, false, map, replicate};
+ghost use Rattle.std.specs.Prelude.{vec_len};
 ghost use Rattle.sector_model.specs.Memory.{sectors_in};
 ghost use Rattle.sector_model.specs.Plans.{fails_at};
 ghost use Rattle.array_io.specs.Believed.OpenArray.{array_view};
 ghost use Rattle.recovery.specs.Making.{IsQuietBeyond};
 ghost use Rattle.recovery.specs.SeenBank.{bank_seen};
 ghost use Rattle.volume_table.specs.OpenStore.{store_view};
-ghost use Rattle.set_commands.specs.Fresh.{HasNoVolumes, IsFreshEnd, IsFreshRefusal, IsMadeFresh, RunsFresh, fresh_devices};
+ghost use Rattle.set_commands.specs.Fresh.{HasNoVolumes, IsFreshEnd, IsFreshRefusal, IsMadeFresh, RunsFresh};
+ghost use Rattle.set_commands.specs.Fresh.{fresh_devices};
 ghost use Rattle.set_commands.specs.Serving.{IsEarly};
 
 use crate::script::run_script;
@@ -26,8 +28,8 @@ const MEMBER_SECTORS: u32 = FIRST_ROW + 256;
 /// How many writes and flushes the bank in memory has room for.
 const ROOM: usize = 20_000;
 
-/// Serves a script over a set in memory that is made for it: 3 members with a chunk of 8 sectors and 32 stripes, 2 journals, and
-/// no volume. Refused with `Memory` and `NotUsable` before anything is read, and as `run_script` is.
+/// Serves a script over a set in memory that is made for it: 3 members with a chunk of 8 sectors and 32 stripes, 2
+/// journals, and no volume. Refused with `Memory` and `NotUsable` before anything is read, and as `run_script` is.
 pub fn serve_fresh<R: BufRead, W: Write>(
     alloc: Global,
     reader: &mut R,
@@ -69,8 +71,8 @@ fn fresh_array(alloc: Global) -> Result<Array<MemBank>, Refusal>
     }
 }
 
-// A bank in memory with the devices of such a set and no other, none of which goes down by its plan, with room for 20,000 writes and
-// flushes.
+// A bank in memory with the devices of such a set and no other, none of which goes down by its plan, with room for
+// 20,000 writes and flushes.
 fn fresh_bank(alloc: Global) -> Result<MemBank, Refusal>
     ensures devices { IfOk result (λ bank. (⟦<MemBank as Bank>⟧.panel bank).devices ≡ 5) }
     ensures quiet { (id : List ℕ) → IfOk result (λ bank. IsQuietBeyond id 5 (bank_seen ⟦<MemBank as Bank>⟧ bank)) }
@@ -81,8 +83,8 @@ fn fresh_bank(alloc: Global) -> Result<MemBank, Refusal>
     MemBank::new(alloc, fresh_image(alloc)?, Plan::none(), ROOM)
 }
 
-// The devices of a set of 3 members with a chunk of 8 sectors and 32 stripes, all zeros: each is as long as the set needs. The
-// only error is that an allocation was refused.
+// The devices of a set of 3 members with a chunk of 8 sectors and 32 stripes, all zeros: each is as long as the set
+// needs. The only error is that an allocation was refused.
 fn fresh_image(alloc: Global) -> Result<Image, AllocError>
     ensures slots { IfOk result (λ image. vec_len image.slots ≡ 5) }
     ensures devices { IfOk result (λ image. map sectors_in image.slots.items ≡ fresh_devices) }

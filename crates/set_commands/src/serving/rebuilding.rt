@@ -22,11 +22,11 @@ use volume_table::Store;
 // How many rows a step of a rebuild does.
 const STEP_ROWS: u64 = 64;
 
-/// Makes steps of 64 rows of the rebuild of the set of this id, and writes how far the last one came: so many steps, but one at least, or where no
-/// number is given as many as it takes, and none once the rebuild is complete.
+/// Makes steps of 64 rows of the rebuild of the set of this id, and writes how far the last one came: so many steps,
+/// but one at least, or where no number is given as many as it takes, and none once the rebuild is complete.
 ///
-/// Refused as `open_on` is, with `NothingToRebuild` as `Store::rebuild_step` says, where the steps before are done, and with `WriteFault`, where all of
-/// them are done and a beginning of the line may be written.
+/// Refused as `open_on` is, with `NothingToRebuild` as `Store::rebuild_step` says, where the steps before are done, and
+/// with `WriteFault`, where all of them are done and a beginning of the line may be written.
 pub fn rebuild_on<W: Write, B: Bank + Drop>(
     bank: B,
     entry: Entry,

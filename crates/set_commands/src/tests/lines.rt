@@ -45,7 +45,8 @@ fn commands_that_are_refused(rt: HostRuntime) {
         &rt,
         b"create a 64\ncreate a 1\nextend b 1\nextend a 0\nextend a 65473\nextend a 385\nremove b\n\
 write b 0 00*512\nread a 0 33\nread a 0 4294967295\nread a 4294967295 1\nlist\n",
-        b"ok\nrefused 3 Exists\nrefused 6 NoVolume\nrefused 2 BadSize\nrefused 2 BadSize\nrefused 5 NoSpace\nrefused 6 NoVolume\n\
+        b"ok\nrefused 3 Exists\nrefused 6 NoVolume\nrefused 2 BadSize\nrefused 2 BadSize\n\
+refused 5 NoSpace\nrefused 6 NoVolume\n\
 refused 6 NoVolume\nrefused 7 BadCount\nrefused 7 BadCount\nrefused 8 OutOfRange\na 64\n",
     );
 }
@@ -86,8 +87,10 @@ fn many_blocks_are_kept_apart(rt: HostRuntime) {
 10*512 11*512 12*512 13*512 14*512 15*512 16*512 17*512 18*512 19*512 1a*512 1b*512 1c*512 1d*512 1e*512 1f*512\n\
 read a 32 32\n",
         b"ok\nok\n\
-00*512\n01*512\n02*512\n03*512\n04*512\n05*512\n06*512\n07*512\n08*512\n09*512\n0a*512\n0b*512\n0c*512\n0d*512\n0e*512\n0f*512\n\
-10*512\n11*512\n12*512\n13*512\n14*512\n15*512\n16*512\n17*512\n18*512\n19*512\n1a*512\n1b*512\n1c*512\n1d*512\n1e*512\n1f*512\n",
+00*512\n01*512\n02*512\n03*512\n04*512\n05*512\n06*512\n07*512\n08*512\n09*512\n0a*512\n0b*512\n\
+0c*512\n0d*512\n0e*512\n0f*512\n\
+10*512\n11*512\n12*512\n13*512\n14*512\n15*512\n16*512\n17*512\n18*512\n19*512\n1a*512\n1b*512\n\
+1c*512\n1d*512\n1e*512\n1f*512\n",
     );
 }
 

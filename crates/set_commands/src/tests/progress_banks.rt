@@ -14,7 +14,8 @@ use volume_table::Store;
 /// How many times a screen keeps what it shows.
 const MOST: usize = 16;
 
-/// Keeps what is shown on it. Its clock goes on by so many milliseconds each time that it is looked at, or nobody watches.
+/// Keeps what is shown on it. Its clock goes on by so many milliseconds each time that it is looked at, or nobody
+/// watches.
 #[derive(Drop)]
 struct Screen {
     tick: Option<u64>,
@@ -202,7 +203,8 @@ fn failing_bank(rt: &(impl Abort + AllocGlobal), fails_at: u64) -> (MemBank, Ent
     (bank, entry)
 }
 
-// A progress bank answers as a plain one: the same replies come of it, the same bytes, as many calls and the same devices down.
+// A progress bank answers as a plain one: the same replies come of it, the same bytes, as many calls and the same
+// devices down.
 fn is_alike(rt: &(impl Abort + AllocGlobal), fails_at: u64) {
     let (bank, entry) = failing_bank(rt, fails_at);
     let store = open_on(bank, entry, ID).expect(rt, "a store");

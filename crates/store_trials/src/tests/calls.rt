@@ -10,8 +10,8 @@ pub(crate) const PUBLISH_CALLS: u64 = 2 * (MEMBERS + 2);
 /// The calls of an entry's seals: a write and a flush of each journal.
 pub(crate) const SEAL_CALLS: u64 = 2 * 2;
 
-/// A commit to a set that is all there of sectors that lie each in a row of its own, all of them on one member, and the parity
-/// of these rows on another. The entry holds two sectors a row; the third member's is read.
+/// A commit to a set that is all there of sectors that lie each in a row of its own, all of them on one member, and the
+/// parity of these rows on another. The entry holds two sectors a row; the third member's is read.
 #[derive(Clone, Copy)]
 pub(crate) struct CommitSize {
     pub rows: u8,
@@ -26,7 +26,8 @@ pub(crate) const OF_ONE: CommitSize = CommitSize { rows: 1, read: 0 };
 pub(crate) const OF_TABLE: CommitSize = CommitSize { rows: 2, read: 1 };
 
 impl CommitSize {
-    // How many calls come before the first write of a seal: a read a row, and a body of two sectors a row and a flush of each journal.
+    // How many calls come before the first write of a seal: a read a row, and a body of two sectors a row and a flush
+    // of each journal.
     fn before_seals(&self) -> u64
         ensures { result ≤ 2_100 }
     {
@@ -48,7 +49,8 @@ impl CommitSize {
         self.before_members() + member_calls(self.rows)
     }
 
-    /// The last call to a slot, counted from 0: the read of its last row, the flush after its rows, or the one after its seal.
+    /// The last call to a slot, counted from 0: the read of its last row, the flush after its rows, or the one after
+    /// its seal.
     pub(crate) fn last_call(&self, slot: u8) -> u64 {
         let at = u64::from(slot);
         if at >= MEMBERS {

@@ -1,5 +1,5 @@
-//! Crashes in the device calls of a store: assembling and opening it again finds the volumes before the call or after it, also without any one
-//! slot.
+//! Crashes in the device calls of a store: assembling and opening it again finds the volumes before the call or after
+//! it, also without any one slot.
 use super::Answer::Done;
 use super::Call::{Create, Extend, Remove, Rename, Upgrade, Write};
 use super::Step::{Do, Holds, Shows};
@@ -11,8 +11,9 @@ use crate::testing::same;
 use sector_model::{Bank, Choice, MemBank};
 use std::process::Abort;
 
-// A call on a set of 3 members, what was done before it, and the volumes before it and after it. Its last commit, which is of the table or the
-// write itself, has so many rows, of each of which one sector is given: all of these are of one member, and all parity of another.
+// A call on a set of 3 members, what was done before it, and the volumes before it and after it. Its last commit, which
+// is of the table or the write itself, has so many rows, of each of which one sector is given: all of these are of one
+// member, and all parity of another.
 #[derive(Clone, Copy)]
 struct Case<'a> {
     shape: Shape,
@@ -23,8 +24,8 @@ struct Case<'a> {
     rows: u8,
 }
 
-// Whether a store that is opened after a crash, with a slot absent if it is one of the set's, shows the volumes after the call, and else those before
-// it, as has to be.
+// Whether a store that is opened after a crash, with a slot absent if it is one of the set's, shows the volumes after
+// the call, and else those before it, as has to be.
 fn shows_new(
     rt: &(impl Abort + AllocGlobal),
     bank: &MemBank,
@@ -64,8 +65,9 @@ pub(crate) fn each_in_turn(call: u64, absent: usize) -> Choice {
 // Each one slot of a set of five absent, and none.
 const ABSENT: &[usize] = &[0, 1, 2, 3, 4, 5];
 
-// Checks the crashes at each device call of a case, with each one of these slots absent, by this choice or by each in turn. The last commit ends with
-// the calls of its seals, and then those of its members: no seal is written before, and both are safe after that.
+// Checks the crashes at each device call of a case, with each one of these slots absent, by this choice or by each in
+// turn. The last commit ends with the calls of its seals, and then those of its members: no seal is written before, and
+// both are safe after that.
 fn check_crashes(
     rt: &(impl Abort + AllocGlobal),
     case: &Case,

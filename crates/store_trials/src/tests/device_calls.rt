@@ -1,9 +1,10 @@
 //! How many device calls and entries the calls of a store make, and what they write.
 //!
-//! A commit to a set of 3 members that is all there reads of a row with one given sector the other data, and of one with two nothing. It holds the given
-//! sectors and the parity: two or three sectors a row, each of them written to both journals and to its member. Two seals are written, each journal is
-//! flushed twice, and each member that is written once. So there are 3 writes for each sector that is held, 6 calls of seals and journals, and a flush of
-//! each such member: of 1 sector in a row a read and 6 + 6 + 2 writes and flushes, of 32 in 16 rows no read and 144 + 6 + 3.
+//! A commit to a set of 3 members that is all there reads of a row with one given sector the other data, and of one
+//! with two nothing. It holds the given sectors and the parity: two or three sectors a row, each of them written to
+//! both journals and to its member. Two seals are written, each journal is flushed twice, and each member that is
+//! written once. So there are 3 writes for each sector that is held, 6 calls of seals and journals, and a flush of each
+//! such member: of 1 sector in a row a read and 6 + 6 + 2 writes and flushes, of 32 in 16 rows no read and 144 + 6 + 3.
 use super::Answer::{Blocks, Done, Listed, Refused};
 use super::Call::{Create, Extend, Fail, List, Read, Remove, Write};
 use super::Step::{Do, Holds, Logical, Makes, Owner, Record, Status};
@@ -22,7 +23,8 @@ const TABLE: u64 = 3 * 4 + 6 + 2;
 // Blocks that fill 16 rows.
 const FULL: u64 = 3 * 48 + 6 + 3;
 
-// Blocks 0 to 31 of the first volume lie in rows 32 to 47, two in each row. Blocks 7 and 8 are of rows 39 and 32, on members 2 and 0, with the parity on 1.
+// Blocks 0 to 31 of the first volume lie in rows 32 to 47, two in each row. Blocks 7 and 8 are of rows 39 and 32, on
+// members 2 and 0, with the parity on 1.
 #[test]
 fn calls_of_reads_and_writes(rt: HostRuntime) {
     const STEPS: &[Step] = &[
@@ -49,8 +51,8 @@ fn entries_of_growth(rt: HostRuntime) {
         Makes(Extend(b"a", 1), Done, [1 + 2, ONE + TABLE, 2]),
         // One block more in that extent.
         Makes(Extend(b"a", 1), Done, [1 + 1, ONE + ONE, 2]),
-        // Thirty-three blocks from block 2 of that extent on: 32 to block 33, and one. The 32 are one each in rows 64, 65, 80 and 81, and two each in
-        // 66 to 79: 4 × 2 + 14 × 3 sectors are held.
+        // Thirty-three blocks from block 2 of that extent on: 32 to block 33, and one. The 32 are one each in rows 64,
+        // 65, 80 and 81, and two each in 66 to 79: 4 × 2 + 14 × 3 sectors are held.
         Makes(
             Extend(b"a", 33),
             Done,
@@ -63,7 +65,8 @@ fn entries_of_growth(rt: HostRuntime) {
     check_new(&rt, SET_A, STEPS);
 }
 
-// What is refused makes no device call, and what is only told neither. To give a slot up, four superblocks are written and flushed.
+// What is refused makes no device call, and what is only told neither. To give a slot up, four superblocks are written
+// and flushed.
 #[test]
 fn calls_of_refusals(rt: HostRuntime) {
     const STEPS: &[Step] = &[
@@ -98,8 +101,8 @@ fn new_blocks_alone_are_zero(rt: HostRuntime) {
     check_new(&rt, SET_A, STEPS);
 }
 
-// Record 1 and extent 1 are free, and extent 3 after those of the two other volumes. Block 64 of `d` lies at the front of extent 3, and the block of
-// `c` at that of extent 2.
+// Record 1 and extent 1 are free, and extent 3 after those of the two other volumes. Block 64 of `d` lies at the front
+// of extent 3, and the block of `c` at that of extent 2.
 #[test]
 fn lowest_record_and_extents(rt: HostRuntime) {
     const STEPS: &[Step] = &[

@@ -12,7 +12,8 @@ use sector_model::{Bank, Choice, MemBank, Refusal};
 use std::process::Abort;
 use volume_table::Event;
 
-// Runs these events on a store. Its acks have to be these, counted from the call that is now the next, and the last of them that after the run.
+// Runs these events on a store. Its acks have to be these, counted from the call that is now the next, and the last of
+// them that after the run.
 fn run(
     rt: &(impl Abort + AllocGlobal),
     store: &mut TestStore,
@@ -32,8 +33,8 @@ fn run(
     acks
 }
 
-// The making of 64 blocks is two commits of 32 sectors in 16 rows, of 153 calls each, and one of 2 rows of the table, of 22. The write of a block is
-// one of 15.
+// The making of 64 blocks is two commits of 32 sectors in 16 rows, of 153 calls each, and one of 2 rows of the table,
+// of 22. The write of a block is one of 15.
 #[test]
 fn acks(rt: HostRuntime) {
     const EVENTS: &[Event] = &[
@@ -174,8 +175,9 @@ const EVENTS: &[Event] = &[
     Event::List,
 ];
 
-// Their acks. A commit of a block makes 15 calls, one of two sectors in two rows 22, as that of the table where a volume is made or removed, and one of
-// three in three 29. A read of 3 blocks makes 3 calls. What is refused makes none, and the events after it are done.
+// Their acks. A commit of a block makes 15 calls, one of two sectors in two rows 22, as that of the table where a
+// volume is made or removed, and one of three in three 29. A read of 3 blocks makes 3 calls. What is refused makes
+// none, and the events after it are done.
 const ACKS: &[u64] = &[37, 52, 52, 103, 125, 128, 150, 187, 187];
 
 // The volumes after each of them.
@@ -227,7 +229,8 @@ fn crashes_at_acks(rt: HostRuntime) {
     check_crashes(&rt, store.bank(), &acks, AFTER);
 }
 
-// Runs events on a store that was ended or ends after the first of them. The acks have to be 7, which was there before, and that one's.
+// Runs events on a store that was ended or ends after the first of them. The acks have to be 7, which was there before,
+// and that one's.
 fn check_ended_run(
     rt: &(impl Abort + AllocGlobal),
     store: &mut TestStore,
@@ -240,7 +243,8 @@ fn check_ended_run(
     same(rt, acks.as_slice(), &[7, done]);
 }
 
-// Two devices go down after the first of three events, which makes two commits of two sectors. Acks that were there stay.
+// Two devices go down after the first of three events, which makes two commits of two sectors. Acks that were there
+// stay.
 #[test]
 fn run_that_ends_the_store(rt: HostRuntime) {
     const STEPS: &[Step] = &[

@@ -1,4 +1,5 @@
-//! One list of events on set A, and the volumes after each number of them: tests crash it at every device call, and let each device go down at every call.
+//! One list of events on set A, and the volumes after each number of them: tests crash it at every device call, and let
+//! each device go down at every call.
 use super::{
     SET_A, TestStore, Volumes, assembled, fresh_store, image_now, opened, unlike, version_of,
 };

@@ -73,7 +73,8 @@ fn create(
     same(rt, (number, store.bank().is_down(slot)), (number, fails));
 }
 
-// Checks the making of a volume on what this bank holds, in which a slot goes down at its first call from one on. What fails is named by that call.
+// Checks the making of a volume on what this bank holds, in which a slot goes down at its first call from one on. What
+// fails is named by that call.
 fn check_failure(rt: &(impl Abort + AllocGlobal), bank: &MemBank, slot: u8, call: u64) {
     assert!(rt; slot < 5);
     let number = call as usize;

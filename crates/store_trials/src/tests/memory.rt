@@ -1,5 +1,6 @@
-//! Which calls take memory. One that is refused for want of it is made again, and has to be answered then, as each other one has.
-//! `.ci/refused_allocations` runs these tests with each allocation refused in turn, and compares how many there are in them.
+//! Which calls take memory. One that is refused for want of it is made again, and has to be answered then, as each
+//! other one has. `.ci/refused_allocations` runs these tests with each allocation refused in turn, and compares how
+//! many there are in them.
 use super::{ID, SET_A, TestStore, Volumes, is_list, opened, unlike_block};
 use crate::testing::same;
 use array_io::Array;
@@ -70,8 +71,8 @@ fn a_bank_and_two_entries(rt: HostRuntime) {
     let _ = some_entry(&rt);
 }
 
-// Each of these calls is done. Slot 1 is given up, replaced and rebuilt in part. The journals hold an entry then, which an assembly puts on the members
-// again.
+// Each of these calls is done. Slot 1 is given up, replaced and rebuilt in part. The journals hold an entry then, which
+// an assembly puts on the members again.
 fn change(rt: &impl Abort, store: &mut TestStore) {
     let answers = [
         store.create(b"a", 4),

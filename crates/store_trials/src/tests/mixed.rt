@@ -1,5 +1,5 @@
-//! Mixed lists of calls with an upgrade in the middle, beside a plain map of the volumes: each call answers as the map says, and the volumes are
-//! those of the map, in this run and in later ones.
+//! Mixed lists of calls with an upgrade in the middle, beside a plain map of the volumes: each call answers as the map
+//! says, and the volumes are those of the map, in this run and in later ones.
 use super::Answer::{Blocks, Done, Listed, Refused};
 use super::calling::{check_call, check_event};
 use super::{
@@ -27,8 +27,8 @@ enum Kind {
     List,
 }
 
-// How a list of calls is drawn: a call is one of these kinds, of which some stand there more than once. New volumes and their growth have one of these
-// sizes, and reads and writes one of these numbers of blocks.
+// How a list of calls is drawn: a call is one of these kinds, of which some stand there more than once. New volumes and
+// their growth have one of these sizes, and reads and writes one of these numbers of blocks.
 #[derive(Clone, Copy)]
 struct Pool {
     shape: Shape,
@@ -120,8 +120,8 @@ fn number_of(answer: Answer) -> usize {
     }
 }
 
-// A store, the map of its volumes, the numbers by which its calls are drawn, and how often each refusal was answered, by its number: place 0 counts the
-// calls that were done.
+// A store, the map of its volumes, the numbers by which its calls are drawn, and how often each refusal was answered,
+// by its number: place 0 counts the calls that were done.
 #[derive(Drop)]
 struct Play {
     store: TestStore,
@@ -255,8 +255,8 @@ impl Play {
         check_from(rt, &mut self.store, number, &[Step::Shows(&volumes)]);
     }
 
-    // Makes some calls from this number on, and ends the run: a bank keeps 8,000 writes and no more. The volumes are looked at before and in the next
-    // run.
+    // Makes some calls from this number on, and ends the run: a bank keeps 8,000 writes and no more. The volumes are
+    // looked at before and in the next run.
     fn make_part(&mut self, rt: &(impl Abort + AllocGlobal), pool: &Pool, first: usize) {
         for at in 0..PART {
             self.make(rt, first.saturating_add(at), pool);
@@ -315,8 +315,8 @@ fn volumes_of<'a>(rt: &(impl Abort + AllocGlobal), map: &'a Map) -> Vec<Volume<'
 // The calls of a part.
 const PART: usize = 30;
 
-// The longest name of version 1, one that is a byte longer, the longest name of version 2, and one that is a byte longer: each begins with the one
-// before.
+// The longest name of version 1, one that is a byte longer, the longest name of version 2, and one that is a byte
+// longer: each begins with the one before.
 const OF_24: &[u8] = b"a-name-of-twenty-four-by";
 
 const OF_25: &[u8] = b"a-name-of-twenty-four-byt";
@@ -392,7 +392,8 @@ fn mixed_calls_of_both_versions(rt: HostRuntime) {
     play.make_parts(&rt, &FEW, 5, 10, COME);
 }
 
-// 210 calls, the upgrade, and 390 more. In both parts each refusal comes: that of too many volumes where there are 32, and then where there are 64.
+// 210 calls, the upgrade, and 390 more. In both parts each refusal comes: that of too many volumes where there are 32,
+// and then where there are 64.
 #[test]
 fn mixed_calls_on_many_volumes(rt: HostRuntime) {
     const COME: [bool; 9] = [true; 9];

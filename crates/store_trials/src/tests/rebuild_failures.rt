@@ -1,4 +1,5 @@
-//! Devices that go down in the event that gives a slot a device, or rebuilds rows: what the event answers, and what its store and a later run show.
+//! Devices that go down in the event that gives a slot a device, or rebuilds rows: what the event answers, and what its
+//! store and a later run show.
 use super::Answer::{Done, Refused, Stepped};
 use super::Call::{Create, Fail, RebuildStep, Replace, Write};
 use super::Step::Do;
@@ -14,8 +15,8 @@ use sector_model::{Bank, Choice, MemBank, Refusal};
 use std::process::Abort;
 use superblock::State;
 
-// An event on the device of a slot in a set of this shape, and what was done before it. It makes so many device calls: the last give each slot the
-// new table, the event's own slot after the others.
+// An event on the device of a slot in a set of this shape, and what was done before it. It makes so many device calls:
+// the last give each slot the new table, the event's own slot after the others.
 #[derive(Clone, Copy)]
 struct Case<'a> {
     shape: Shape,
@@ -87,8 +88,8 @@ fn check_held(
     check_volumes(rt, &mut store, number);
 }
 
-// Checks what is left where the slot's own device failed: the slot is missing, and the generation is so much higher; also in the next run, with
-// that device and without it.
+// Checks what is left where the slot's own device failed: the slot is missing, and the generation is so much higher;
+// also in the next run, with that device and without it.
 fn check_own(
     rt: &(impl Abort + AllocGlobal),
     case: &Case,
@@ -109,7 +110,8 @@ fn check_own(
     check_held(rt, store, number, case.slot, State::Missing);
 }
 
-// Checks what is left where another device failed: the store answers that to every call, and the next run with that device shows the volumes.
+// Checks what is left where another device failed: the store answers that to every call, and the next run with that
+// device shows the volumes.
 fn check_other(rt: &(impl Abort + AllocGlobal), mut store: TestStore, slot: usize, call: u64) {
     check_ended(rt, &mut store, call as usize, Refusal::TwoLost);
     let now = store.bank().now();
@@ -185,8 +187,8 @@ fn down_in_replace(rt: HostRuntime) {
     check_failures(&rt, &MEMBER);
 }
 
-// The last entry has three rows, and holds two sectors of each. Two reads of seals, four writes that clear places and seals, and a flush; six reads and six
-// writes of its body, and a flush; a seal and a flush; then the table.
+// The last entry has three rows, and holds two sectors of each. Two reads of seals, four writes that clear places and
+// seals, and a flush; six reads and six writes of its body, and a flush; a seal and a flush; then the table.
 static JOURNAL: Case = Case {
     shape: SMALL,
     before: &[

@@ -23,7 +23,8 @@ const SOUND: ScrubReport = ScrubReport {
     first_bad: None,
 };
 
-// Block 16 is logical sector 80, in row 40, and block 336 is logical sector 400, in row 200: one is rebuilt when it is written, the other is not.
+// Block 16 is logical sector 80, in row 40, and block 336 is logical sector 400, in row 200: one is rebuilt when it is
+// written, the other is not.
 #[test]
 fn rebuild_under_writes(rt: HostRuntime) {
     check_new(
@@ -98,8 +99,8 @@ fn replies_of_the_set(rt: HostRuntime) {
     );
 }
 
-// The device of slot 2 goes down at its flush, which is the last call of a write of one block. A run without it writes again, and the next one has
-// it back.
+// The device of slot 2 goes down at its flush, which is the last call of a write of one block. A run without it writes
+// again, and the next one has it back.
 #[test]
 fn old_member_returns(rt: HostRuntime) {
     let mut store = fresh_store(&rt, SET_A);
@@ -146,7 +147,8 @@ fn old_member_returns(rt: HostRuntime) {
     );
 }
 
-// What the status of a store tells of the set and of slot 2: the generation and the position, and the slot's state and incarnation.
+// What the status of a store tells of the set and of slot 2: the generation and the position, and the slot's state and
+// incarnation.
 fn told(rt: &impl Abort, store: &TestStore) -> (u64, u64, State, u64) {
     let status = store.status().expect(rt, "the status is told");
     (
@@ -157,8 +159,8 @@ fn told(rt: &impl Abort, store: &TestStore) -> (u64, u64, State, u64) {
     )
 }
 
-// A store of set A on which these steps were taken, in a run that began with the devices of this bank and a blank one in slot 2, of 264 sectors as
-// each member has.
+// A store of set A on which these steps were taken, in a run that began with the devices of this bank and a blank one
+// in slot 2, of 264 sectors as each member has.
 fn replaced(rt: &(impl Abort + AllocGlobal), bank: &MemBank, steps: &[Step]) -> TestStore {
     let mut image = image_now(rt, bank);
     let blank = vec![in rt.alloc(); [0; 512]; 264].expect(rt, "memory");
@@ -189,8 +191,9 @@ fn with_earlier(rt: &(impl Abort + AllocGlobal), bank: &MemBank, earlier: &MemBa
     opened(rt, assembled(rt, image))
 }
 
-// A replacement that was given up is not what the table counts on, by its incarnation, when it returns after the next one. The table is the first
-// when the set is made, and a further one by each `fail` and `replace`, by the step, and by the start with the old device.
+// A replacement that was given up is not what the table counts on, by its incarnation, when it returns after the next
+// one. The table is the first when the set is made, and a further one by each `fail` and `replace`, by the step, and by
+// the start with the old device.
 #[test]
 fn returned_replacement(rt: HostRuntime) {
     const WITH_THE_THIRD: &[Step] = &[

@@ -11,11 +11,13 @@ mod largest;
 // Nothing.
 const NONE: [u64; 3] = [0, 0, 0];
 
-// The reads of a rename, its writes and flushes, and its entries. A sector of the table changes, on member 0 in row 1, and the parity on member 2 with it:
-// member 1 is read, two bodies and seals are written, each journal is flushed twice, and each of the two members has a sector and a flush.
+// The reads of a rename, its writes and flushes, and its entries. A sector of the table changes, on member 0 in row 1,
+// and the parity on member 2 with it: member 1 is read, two bodies and seals are written, each journal is flushed
+// twice, and each of the two members has a sector and a flush.
 const MADE: [u64; 3] = [1, 2 * (2 + 1) + 4 + 2 * 2, 1];
 
-// The volume by its new name has the block that was written, and sector 1 of the table begins with the record of that name.
+// The volume by its new name has the block that was written, and sector 1 of the table begins with the record of that
+// name.
 #[test]
 fn rename_script(rt: HostRuntime) {
     static STEPS: [Step; 12] = [
@@ -29,7 +31,8 @@ fn rename_script(rt: HostRuntime) {
         Do(Rename(b"b", b"B"), Refused(Refusal::BadName)),
         Do(List, Listed(&[(b"b", &[0; 10])])),
         Table(
-            b"\x01\x62\x00\x00\x00\x00\x00\x00\x00\x00\x00\x00\x00\x00\x00\x00\x00\x00\x00\x00\x00\x00\x00\x00\x00\x00\x00\x00\x0a",
+            b"\x01\x62\x00\x00\x00\x00\x00\x00\x00\x00\x00\x00\x00\x00\x00\x00\x00\x00\x00\x00\
+              \x00\x00\x00\x00\x00\x00\x00\x00\x0a",
             &[1],
         ),
         Record(b"b", 0, 10),
@@ -73,7 +76,8 @@ fn calls_of_a_rename(rt: HostRuntime) {
     check_new(&rt, SET_A, &STEPS);
 }
 
-// The old name is looked at first, as bytes that are equal: no volume is found by the beginning of its name. A name that a volume has is refused.
+// The old name is looked at first, as bytes that are equal: no volume is found by the beginning of its name. A name
+// that a volume has is refused.
 #[test]
 fn refused_renames(rt: HostRuntime) {
     static STEPS: [Step; 10] = [
@@ -176,7 +180,8 @@ fn renames_to_long_names(rt: HostRuntime) {
     check(&rt, &mut next_run(&rt, store.bank()), &AGAIN);
 }
 
-// The entry's number stands at its limit: the rename is refused and ends the store, and the volume has its old name in the next run.
+// The entry's number stands at its limit: the rename is refused and ends the store, and the volume has its old name in
+// the next run.
 #[test]
 fn rename_in_a_worn_set(rt: HostRuntime) {
     static STEPS: [Step; 5] = [

@@ -1,4 +1,5 @@
-//! Scrubs of the set under a store: set A of 3 members. The tests of the crate `scrub` have rows that are bad, and members that fail.
+//! Scrubs of the set under a store: set A of 3 members. The tests of the crate `scrub` have rows that are bad, and
+//! members that fail.
 use super::Answer::Done;
 use super::Call::{Create, Fail, Write};
 use super::Step::Do;

@@ -14,12 +14,14 @@ fn table_vectors(rt: HostRuntime) {
         Table(&[], &[]),
         Do(Create(b"a", 64), Done),
         Table(
-            b"\x01\x61\x00\x00\x00\x00\x00\x00\x00\x00\x00\x00\x00\x00\x00\x00\x00\x00\x00\x00\x00\x00\x00\x00\x00\x00\x00\x00\x40",
+            b"\x01\x61\x00\x00\x00\x00\x00\x00\x00\x00\x00\x00\x00\x00\x00\x00\x00\x00\x00\x00\
+              \x00\x00\x00\x00\x00\x00\x00\x00\x40",
             &[1],
         ),
         Do(Extend(b"a", 1), Done),
         Table(
-            b"\x01\x61\x00\x00\x00\x00\x00\x00\x00\x00\x00\x00\x00\x00\x00\x00\x00\x00\x00\x00\x00\x00\x00\x00\x00\x00\x00\x00\x41",
+            b"\x01\x61\x00\x00\x00\x00\x00\x00\x00\x00\x00\x00\x00\x00\x00\x00\x00\x00\x00\x00\
+              \x00\x00\x00\x00\x00\x00\x00\x00\x41",
             &[1, 0, 0, 0, 1, 0, 1, 0],
         ),
         Do(Remove(b"a"), Done),
@@ -50,7 +52,8 @@ fn list_rises(rt: HostRuntime) {
     check_new(&rt, SET_A, STEPS);
 }
 
-// Changes the first byte of a logical sector of the first chunk, which lies on member 0, and of the parity of its row, on member 2.
+// Changes the first byte of a logical sector of the first chunk, which lies on member 0, and of the parity of its row,
+// on member 2.
 fn damage(rt: &impl Abort, image: &mut Image, logical: usize, by: u8) {
     for slot in [0usize, 2] {
         assert!(rt; slot < image.slots.len() && logical < 8);
@@ -61,7 +64,8 @@ fn damage(rt: &impl Abort, image: &mut Image, logical: usize, by: u8) {
     }
 }
 
-// Opens a set of which the first byte of a sector of the table is changed: it reads so many sectors, and writes nothing.
+// Opens a set of which the first byte of a sector of the table is changed: it reads so many sectors, and writes
+// nothing.
 fn check_damaged(rt: &(impl Abort + AllocGlobal), logical: usize, by: u8, sectors: u64) {
     let mut image = image_now(rt, fresh_store(rt, SET_A).bank());
     damage(rt, &mut image, logical, by);
@@ -73,8 +77,8 @@ fn check_damaged(rt: &(impl Abort + AllocGlobal), logical: usize, by: u8, sector
     same(rt, got, (logical, Refusal::BadTable, sectors, room));
 }
 
-// Sector 0 then has a version that there is not, after which nothing is read; sectors 1 and 2 have a record of a name that is not good, and sectors 3
-// and 7 an owner without a record.
+// Sector 0 then has a version that there is not, after which nothing is read; sectors 1 and 2 have a record of a name
+// that is not good, and sectors 3 and 7 an owner without a record.
 #[test]
 fn bad_table(rt: HostRuntime) {
     check_damaged(&rt, 0, 2, 1);

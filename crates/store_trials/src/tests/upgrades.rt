@@ -20,9 +20,9 @@ mod failures;
 mod forged;
 mod limits;
 
-// Of set A sectors 0 to 7 of the table lie on member 0 and 8 to 15 on member 1, in rows 0 to 7, whose parity is on member 2. Sectors 16 to 23 lie on
-// member 2 and sector 24 on member 0, in rows 8 to 15, whose parity is on member 1. So rows 0 to 8 are written whole, and rows 9 to 15 but for member 0,
-// which is read there.
+// Of set A sectors 0 to 7 of the table lie on member 0 and 8 to 15 on member 1, in rows 0 to 7, whose parity is on
+// member 2. Sectors 16 to 23 lie on member 2 and sector 24 on member 0, in rows 8 to 15, whose parity is on member 1.
+// So rows 0 to 8 are written whole, and rows 9 to 15 but for member 0, which is read there.
 const READS: u64 = 7;
 
 /// The sectors that the entry of an upgrade holds.
@@ -49,7 +49,8 @@ pub(crate) static ONE: [Step; 1] = [Do(Create(b"a", 64), Done)];
 /// The volumes then.
 pub(crate) const ONE_VOLUME: Volumes = &[(b"a", &[0; 64])];
 
-/// The sectors of its table of version 2 that are not zero, by what is at their front: the version, record 0, and extent 0.
+/// The sectors of its table of version 2 that are not zero, by what is at their front: the version, record 0, and
+/// extent 0.
 pub(crate) static SPELLED: [(usize, &[u8]); 3] = [
     (0, &[1]),
     (
@@ -160,7 +161,8 @@ fn upgrade_of_no_volumes(rt: HostRuntime) {
     check_spelled(&rt, store.bank(), &[(0, &[1])]);
 }
 
-// Volumes come and go in a table of version 2 as in one of version 1: two sectors of it change with a volume, in two rows, and record 0 is free again.
+// Volumes come and go in a table of version 2 as in one of version 1: two sectors of it change with a volume, in two
+// rows, and record 0 is free again.
 #[test]
 fn volumes_of_an_upgraded_set(rt: HostRuntime) {
     static STEPS: [Step; 8] = [
@@ -179,7 +181,8 @@ fn volumes_of_an_upgraded_set(rt: HostRuntime) {
     check(&rt, &mut next_run(&rt, store.bank()), &STEPS[6..]);
 }
 
-// The entry's number stands at its limit: the upgrade is refused and ends the store, and the table has version 1 in the next run.
+// The entry's number stands at its limit: the upgrade is refused and ends the store, and the table has version 1 in the
+// next run.
 #[test]
 fn upgrade_of_a_worn_set(rt: HostRuntime) {
     static STEPS: [Step; 3] = [

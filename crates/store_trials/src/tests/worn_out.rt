@@ -39,8 +39,9 @@ fn worn_image(rt: &(impl Abort + AllocGlobal)) -> Image {
     image
 }
 
-// The set is assembled with all slots in sync. Commits are done, since no table is published for them. A slot that is given up would need a table of
-// the next generation: the call is refused, so is every later one, and the set is as it was when it is assembled again.
+// The set is assembled with all slots in sync. Commits are done, since no table is published for them. A slot that is
+// given up would need a table of the next generation: the call is refused, so is every later one, and the set is as it
+// was when it is assembled again.
 #[test]
 fn worn_out(rt: HostRuntime) {
     static STEPS: &[Step] = &[

@@ -68,8 +68,8 @@ fn a_copy_has_the_body_and_the_seal(rt: HostRuntime) {
     }
 }
 
-// A copy of the entry of this number that doesn't hold all of its rows: a read, a write for each sector that it holds, and
-// three calls more.
+// A copy of the entry of this number that doesn't hold all of its rows: a read, a write for each sector that it holds,
+// and three calls more.
 fn check_held(rt: &(impl Abort + AllocGlobal), number: u8, before: u32, body: Body) {
     let sector = spelled_held(&ID, number, [32, 33], HELD);
     let mut bank = blank_journals(rt, Plan::NONE);

@@ -7,8 +7,8 @@ use crate::testing::{
 use sector_model::{Bank, MemBank, Plan, Stop, write_sector};
 use std::process::Abort;
 
-// Writes the body of the entry of this number, whose rows hold what these masks have: the bank has made so many calls then,
-// and it stands after the sector `before`.
+// Writes the body of the entry of this number, whose rows hold what these masks have: the bank has made so many calls
+// then, and it stands after the sector `before`.
 fn check_put(
     rt: &(impl Abort + AllocGlobal),
     bank: &mut MemBank,

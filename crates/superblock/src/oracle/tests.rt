@@ -91,8 +91,8 @@ fn check_image(rt: &impl Abort, image: &Image, table: &Table, rows: &[Shown]) {
     }
 }
 
-// In five devices that are just long enough, with these in their places 0 and 1, the table of this generation with these
-// entries is chosen, and the slots are by it as the rows say.
+// In five devices that are just long enough, with these in their places 0 and 1, the table of this generation with
+// these entries is chosen, and the slots are by it as the rows say.
 fn check_chosen(
     rt: &(impl Abort + AllocGlobal),
     (even, odd): (&[Standing; 5], &[Standing; 5]),
@@ -174,8 +174,8 @@ type Spelled = (&'static [u8; 16], u8, u8, usize);
 // The slot of a device, its sectors, and how many slots there are.
 type Device = (usize, u16, usize);
 
-// Whether the superblock counts in place 0 of the device and in place 1, whether the slot has an incarnation of its own,
-// and whether it is live by the first table of the fresh set.
+// Whether the superblock counts in place 0 of the device and in place 1, whether the slot has an incarnation of its
+// own, and whether it is live by the first table of the fresh set.
 fn found_on(
     rt: &(impl Abort + AllocGlobal),
     (id, generation, role, place): Spelled,

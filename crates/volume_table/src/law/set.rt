@@ -1,5 +1,7 @@
 //! What the calls on the set keep.
-ghost use Rattle.volume_table.specs.SetLaw.{SlotsStay, FaultIsMissing, PositionIsZero, VolumesLeaveSet, RefusedLeavesSet, RebuildGoesOn, RebuildIsCounted, RebuildGoesOnAmongOthers, RebuildIsCountedAmongOthers, TablesHaveOneOut};
+ghost use Rattle.volume_table.specs.SetLaw.{SlotsStay, FaultIsMissing, PositionIsZero, VolumesLeaveSet};
+ghost use Rattle.volume_table.specs.SetLaw.{RefusedLeavesSet, RebuildGoesOn, RebuildIsCounted};
+ghost use Rattle.volume_table.specs.SetLaw.{RebuildGoesOnAmongOthers, RebuildIsCountedAmongOthers, TablesHaveOneOut};
 
 /// The laws of the calls on the set. It computes nothing: its promises are what it is for.
 ///

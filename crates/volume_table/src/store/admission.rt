@@ -1,12 +1,16 @@
 //! Whether a command on volumes is admitted.
-ghost use Rattle.std.specs.Prelude.{ℕ, ◌≡◌, ◌≢◌, ◌<◌, ◌≤◌, ◌+◌, ◌∷◌, [], List, Some, None, Contains, IfOk, IfErr, MatchOption};
-ghost use Rattle.sector_model.specs.declared.refusal.Refusal.TheVariants.{BadCount, BadName, BadSize, Exists, NoSpace, NoVolume, OutOfRange, TooManyVolumes};
+ghost use Rattle.std.specs.Prelude.{ℕ, ◌≡◌, ◌≢◌, ◌<◌, ◌≤◌, ◌+◌, ◌∷◌, [], List, Some, None, Contains, IfOk, IfErr};
+ghost use Rattle.std.specs.Prelude.{MatchOption};
+ghost use Rattle.sector_model.specs.declared.refusal.Refusal.TheVariants.{BadCount, BadName, BadSize, Exists, NoSpace};
+ghost use Rattle.sector_model.specs.declared.refusal.Refusal.TheVariants.{NoVolume, OutOfRange, TooManyVolumes};
 ghost use Rattle.extents.specs.Versions.{most_volumes};
 ghost use Rattle.extents.specs.VolumeTables.{IsRecordFor, record_of};
 ghost use Rattle.layout_map.specs.declared.sizes.TheConstants.{MOST_EXTENTS};
-ghost use Rattle.volume_table.specs.Admission.{AreKept, HasRecordAt, IsFirstUnused, IsWithinVolume, MayGrowTo, MayRename, ShowsBy, refusal_in};
+ghost use Rattle.volume_table.specs.Admission.{AreKept, HasRecordAt, IsFirstUnused, IsWithinVolume, MayGrowTo};
+ghost use Rattle.volume_table.specs.Admission.{MayRename, ShowsBy, refusal_in};
 ghost use Rattle.volume_table.specs.Volumes.{Block, VolumeMap};
-ghost use Rattle.volume_table.specs.VolumeStep.{Create, Extend, Remove, Rename, checks_within, first_refusal, refusal_of};
+ghost use Rattle.volume_table.specs.VolumeStep.{Create, Extend, Remove, Rename, checks_within, first_refusal};
+ghost use Rattle.volume_table.specs.VolumeStep.{refusal_of};
 
 use super::growing::Growth;
 use super::renaming::Renaming;
@@ -21,7 +25,8 @@ use sector_model::Refusal;
 pub fn admit_removal(table: &VolumeTable, name: &[u8]) -> Result<u8, Refusal>
     ensures found { IfOk result (λ number. ∥ HasRecordAt table.now.records name.now number ∥₁) }
     ensures listed { IfErr result (λ refusal. refusal ≡ NoVolume) }
-    ensures decides { (extents : ℕ) (sectors : List Block) (volumes : VolumeMap) → ShowsBy extents table.now sectors volumes
+    ensures decides { (extents : ℕ) (sectors : List Block) (volumes : VolumeMap)
+        → ShowsBy extents table.now sectors volumes
         → refusal_in result ≡ refusal_of extents (Remove name.now) volumes }
 {
     let found = table.record_named(name).ok_or(Refusal::NoVolume)?;
@@ -30,12 +35,13 @@ pub fn admit_removal(table: &VolumeTable, name: &[u8]) -> Result<u8, Refusal>
 
 /// The number of the record of the volume of which `count` blocks from `at` on are to be read or written.
 ///
-/// Refused with `NoVolume` where no volume has the name, then with `BadCount` where `count` is 0 or above 32, then with `OutOfRange` where
-/// the volume has not so many blocks.
+/// Refused with `NoVolume` where no volume has the name, then with `BadCount` where `count` is 0 or above 32, then with
+/// `OutOfRange` where the volume has not so many blocks.
 pub fn admit_within(table: &VolumeTable, name: &[u8], at: u32, count: usize) -> Result<u8, Refusal>
     ensures found { IfOk result (λ number. ∥ IsWithinVolume table.now.records name.now number at count ∥₁) }
     ensures listed { IfErr result (λ refusal. Contains (NoVolume ∷ BadCount ∷ OutOfRange ∷ []) refusal) }
-    ensures decides { (extents : ℕ) (sectors : List Block) (volumes : VolumeMap) → ShowsBy extents table.now sectors volumes
+    ensures decides { (extents : ℕ) (sectors : List Block) (volumes : VolumeMap)
+        → ShowsBy extents table.now sectors volumes
         → refusal_in result ≡ first_refusal (checks_within name.now at count volumes.volumes) }
 {
     let found = table.record_named(name).ok_or(Refusal::NoVolume)?;
@@ -50,13 +56,16 @@ pub fn admit_within(table: &VolumeTable, name: &[u8], at: u32, count: usize) -> 
 
 /// The record that a `rename` puts in place of that of the old name.
 ///
-/// Refused, in this order, with `NoVolume`, `BadName` by the table's version, and `Exists`, also where the new name is the old one.
+/// Refused, in this order, with `NoVolume`, `BadName` by the table's version, and `Exists`, also where the new name is
+/// the old one.
 pub fn admit_rename(table: &VolumeTable, old: &[u8], new: &[u8]) -> Result<Renaming, Refusal>
-    ensures may { IfOk result (λ renaming. MayRename table.now.version table.now.records renaming.volume renaming.entry) }
+    ensures may { IfOk result (λ renaming. MayRename table.now.version table.now.records renaming.volume
+        renaming.entry) }
     ensures used { IfOk result (λ renaming. ∥ HasRecordAt table.now.records old.now renaming.volume ∥₁) }
     ensures named { IfOk result (λ renaming. renaming.entry.name.bytes.items ≡ new.now) }
     ensures listed { IfErr result (λ refusal. Contains (NoVolume ∷ BadName ∷ Exists ∷ []) refusal) }
-    ensures decides { (extents : ℕ) (sectors : List Block) (volumes : VolumeMap) → ShowsBy extents table.now sectors volumes
+    ensures decides { (extents : ℕ) (sectors : List Block) (volumes : VolumeMap)
+        → ShowsBy extents table.now sectors volumes
         → refusal_in result ≡ refusal_of extents (Rename old.now new.now) volumes }
 {
     let found = table.record_named(old).ok_or(Refusal::NoVolume)?;
@@ -79,20 +88,23 @@ pub fn admit_rename(table: &VolumeTable, old: &[u8], new: &[u8]) -> Result<Renam
 
 /// The new volume that a `create` makes. Its record is the lowest one that is not used.
 ///
-/// Refused, in this order, with `BadName`, `BadSize` where the blocks are 0 or above 65,536, `Exists`, `TooManyVolumes` where each record of the
-/// table's version is used, and `NoSpace` where too few extents are free.
+/// Refused, in this order, with `BadName`, `BadSize` where the blocks are 0 or above 65,536, `Exists`, `TooManyVolumes`
+/// where each record of the table's version is used, and `NoSpace` where too few extents are free.
 pub fn admit_creation(
     table: &VolumeTable,
     map: &ExtentMap,
     name: &[u8],
     blocks: u32,
 ) -> Result<Growth, Refusal>
-    ensures may { IfOk result (λ growth. MayGrowTo table.now.version table.now.records map.now growth.volume growth.first growth.entry) }
+    ensures may { IfOk result (λ growth. MayGrowTo table.now.version table.now.records map.now growth.volume
+        growth.first growth.entry) }
     ensures lowest { IfOk result (λ growth. IsFirstUnused table.now.version table.now.records growth.volume) }
     ensures named { IfOk result (λ growth. growth.entry.name.bytes.items ≡ name.now) }
     ensures blocks { IfOk result (λ growth. growth.entry.blocks ≡ blocks) }
-    ensures listed { IfErr result (λ refusal. Contains (BadName ∷ BadSize ∷ Exists ∷ TooManyVolumes ∷ NoSpace ∷ []) refusal) }
-    ensures decides { (extents : ℕ) (sectors : List Block) (volumes : VolumeMap) → extents ≤ MOST_EXTENTS → AreKept extents table.now map.now → ShowsBy extents table.now sectors volumes
+    ensures listed { IfErr result (λ refusal. Contains (BadName ∷ BadSize ∷ Exists ∷ TooManyVolumes ∷ NoSpace ∷ [])
+        refusal) }
+    ensures decides { (extents : ℕ) (sectors : List Block) (volumes : VolumeMap) → extents ≤ MOST_EXTENTS
+        → AreKept extents table.now map.now → ShowsBy extents table.now sectors volumes
         → refusal_in result ≡ refusal_of extents (Create name.now blocks) volumes }
 {
     let Some(name) = Name::new(name) else {
@@ -123,20 +135,22 @@ pub fn admit_creation(
 
 /// The new blocks that an `extend` gives a volume.
 ///
-/// Refused, in this order, with `NoVolume`, `BadSize` where the growth is 0 or the volume would have more than 65,536 blocks, and `NoSpace`
-/// where too few extents are free.
+/// Refused, in this order, with `NoVolume`, `BadSize` where the growth is 0 or the volume would have more than 65,536
+/// blocks, and `NoSpace` where too few extents are free.
 pub fn admit_extension(
     table: &VolumeTable,
     map: &ExtentMap,
     name: &[u8],
     by: u32,
 ) -> Result<Growth, Refusal>
-    ensures may { IfOk result (λ growth. MayGrowTo table.now.version table.now.records map.now growth.volume growth.first growth.entry) }
+    ensures may { IfOk result (λ growth. MayGrowTo table.now.version table.now.records map.now growth.volume
+        growth.first growth.entry) }
     ensures named { IfOk result (λ growth. growth.entry.name.bytes.items ≡ name.now) }
     ensures used { IfOk result (λ growth. ∥ IsRecordFor table.now.records name.now growth.volume growth.first ∥₁) }
     ensures blocks { IfOk result (λ growth. growth.entry.blocks ≡ growth.first + by) }
     ensures listed { IfErr result (λ refusal. Contains (NoVolume ∷ BadSize ∷ NoSpace ∷ []) refusal) }
-    ensures decides { (extents : ℕ) (sectors : List Block) (volumes : VolumeMap) → extents ≤ MOST_EXTENTS → AreKept extents table.now map.now → ShowsBy extents table.now sectors volumes
+    ensures decides { (extents : ℕ) (sectors : List Block) (volumes : VolumeMap) → extents ≤ MOST_EXTENTS
+        → AreKept extents table.now map.now → ShowsBy extents table.now sectors volumes
         → refusal_in result ≡ refusal_of extents (Extend name.now by) volumes }
 {
     let found = table.record_named(name).ok_or(Refusal::NoVolume)?;

@@ -19,8 +19,9 @@ use sector_model::{Bank, Refusal};
 use std::alloc::Global;
 
 impl<B: Bank> Store<B> {
-    /// Does what an event asks, by its call: `create`, `extend`, `remove`, `read`, `write`, `rename`, `list`, `upgrade`, `fail`, `replace`, `rebuild_step` or `scrub`. The reply
-    /// is what that call answers, and its refusals are those of the call: `Memory` for `List` alone. `TwoLost` and `Worn` end the store.
+    /// Does what an event asks, by its call: `create`, `extend`, `remove`, `read`, `write`, `rename`, `list`,
+    /// `upgrade`, `fail`, `replace`, `rebuild_step` or `scrub`. The reply is what that call answers, and its refusals
+    /// are those of the call: `Memory` for `List` alone. `TwoLost` and `Worn` end the store.
     pub fn apply(&mut self, alloc: Global, event: &Event<'_>) -> Reply
         ensures honest { IsHonest self.old.array ↔ IsHonest self.new.array }
         ensures applies { Applies (IsHonest self.old.array) (event_of event.now) (store_view self.old)

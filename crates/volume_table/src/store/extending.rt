@@ -10,11 +10,13 @@ use super::growing::grow;
 use sector_model::{Bank, Refusal};
 
 impl<B: Bank> Store<B> {
-    /// Appends so many zero blocks to the volume of this name. They are made zero while no volume shows them, those after its end in an extent
-    /// that it has already among them, and then one commit changes the table: at each moment a crash leaves the volume as it was, or extended.
+    /// Appends so many zero blocks to the volume of this name. They are made zero while no volume shows them, those
+    /// after its end in an extent that it has already among them, and then one commit changes the table: at each moment
+    /// a crash leaves the volume as it was, or extended.
     ///
-    /// Refused, in this order, with `NoVolume` where no volume has the name; `BadSize` where the growth is 0, or the volume would have more than
-    /// 65,536 blocks; and `NoSpace` where the volumes would need more extents than the set has. Nothing was then done. `TwoLost` and `Worn` end the store.
+    /// Refused, in this order, with `NoVolume` where no volume has the name; `BadSize` where the growth is 0, or the
+    /// volume would have more than 65,536 blocks; and `NoSpace` where the volumes would need more extents than the set
+    /// has. Nothing was then done. `TwoLost` and `Worn` end the store.
     pub fn extend(&mut self, name: &[u8], by: u32) -> Result<(), Refusal>
         ensures honest { IsHonest self.old.array ↔ IsHonest self.new.array }
         ensures extends { ExtendsVolume (IsHonest self.old.array) name.now by (store_view self.old)

@@ -15,8 +15,8 @@ use superblock::Table;
 impl<B: Bank> Store<B> {
     /// Gives a slot of the set up: it is missing from now on. Of a slot that is missing already nothing changes.
     ///
-    /// Refused with `WouldLose` where another slot is not in sync, and then with `NotMissing` where the set has no such slot; nothing was then done.
-    /// `TwoLost` and `Worn` end the store.
+    /// Refused with `WouldLose` where another slot is not in sync, and then with `NotMissing` where the set has no such
+    /// slot; nothing was then done. `TwoLost` and `Worn` end the store.
     pub fn fail(&mut self, slot: u8) -> Result<(), Refusal>
         ensures honest { IsHonest self.old.array ↔ IsHonest self.new.array }
         ensures fails { FailsSlot (IsHonest self.old.array) slot (store_view self.old) (store_view self.new) result }

@@ -26,8 +26,9 @@ pub struct Growth {
     pub entry: Record,
 }
 
-/// Gives a volume new blocks: takes the extents that it lacks, makes the new blocks zero while no volume shows them, and puts the table that says
-/// of them, by one commit. Refused as a commit is; the map and the table in memory then have the new blocks.
+/// Gives a volume new blocks: takes the extents that it lacks, makes the new blocks zero while no volume shows them,
+/// and puts the table that says of them, by one commit. Refused as a commit is; the map and the table in memory then
+/// have the new blocks.
 pub fn grow<B: Bank>(
     array: &mut Array<B>,
     table: &mut VolumeTable,

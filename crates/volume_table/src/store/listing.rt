@@ -19,7 +19,8 @@ use std::alloc::{AllocError, Global};
 impl<B: Bank> Store<B> {
     /// All volumes, in rising byte order of names.
     ///
-    /// Refused with `Memory` where there is none for the list. A store that was ended answers the refusal that ended it.
+    /// Refused with `Memory` where there is none for the list. A store that was ended answers the refusal that ended
+    /// it.
     pub fn list(&mut self, alloc: Global) -> Result<Vec<Listed>, Refusal>
         ensures honest { IsHonest self.old.array ↔ IsHonest self.new.array }
         ensures lists { ListsVolumes (IsHonest self.old.array) (store_view self.old) (store_view self.new)
@@ -34,7 +35,8 @@ impl<B: Bank> Store<B> {
 
 // The volumes of the used records, in rising order of names. It takes its memory at once.
 fn volumes_of(alloc: Global, table: &VolumeTable) -> Result<Vec<Listed>, AllocError>
-    ensures { IfOk result (λ listed. (extents : ℕ) (sectors : List Block) (volumes : VolumeMap) → ShowsBy extents table.now sectors volumes → told listed.items ≡ lengths_of volumes.volumes) }
+    ensures { IfOk result (λ listed. (extents : ℕ) (sectors : List Block) (volumes : VolumeMap)
+        → ShowsBy extents table.now sectors volumes → told listed.items ≡ lengths_of volumes.volumes) }
 {
     let mut volumes = Vec::with_capacity(alloc, most_volumes(table.version))?;
     for number in (0..MOST_VOLUMES).rev() {
@@ -71,8 +73,10 @@ fn put(volumes: &mut Vec<Listed>, one: Listed) -> Result<(), AllocError>
 // The place of the first of these volumes whose name is greater than this one; their number where there is none.
 fn place_of(volumes: &[Listed], name: &[u8]) -> usize
     ensures within { result ≤ length volumes.now }
-    ensures not_before { (k : ℕ) (blank : Listed) → k < result → name_order name.now (slice_index_or volumes.now k blank).name.bytes.items ≢ Less }
-    ensures before { (blank : Listed) → result < length volumes.now → name_order name.now (slice_index_or volumes.now result blank).name.bytes.items ≡ Less }
+    ensures not_before { (k : ℕ) (blank : Listed) → k < result
+        → name_order name.now (slice_index_or volumes.now k blank).name.bytes.items ≢ Less }
+    ensures before { (blank : Listed) → result < length volumes.now
+        → name_order name.now (slice_index_or volumes.now result blank).name.bytes.items ≡ Less }
 {
     for (place, volume) in volumes.iter().enumerate() {
         if name.cmp(volume.name.bytes()).is_lt() {

@@ -1,5 +1,6 @@
 //! A store is opened over a set.
-ghost use Rattle.std.specs.Prelude.{◌≡◌, ◌↔◌, ◌+◌, ◌<◌, ◌≤◌, ℕ, IfOk, IfErr, List, [], Option, Err, OnOk, take, drop, length, slice_index_or};
+ghost use Rattle.std.specs.Prelude.{◌≡◌, ◌↔◌, ◌+◌, ◌<◌, ◌≤◌, ℕ, IfOk, IfErr, List, [], Option, Err, OnOk, take, drop};
+ghost use Rattle.std.specs.Prelude.{length, slice_index_or};
 ghost use Rattle.sector_model.specs.declared.refusal.Refusal.{Refusal};
 ghost use Rattle.sector_model.specs.History.{Bytes};
 ghost use Rattle.superblock.specs.Cases.{Lost};
@@ -19,9 +20,11 @@ use recovery::Returned;
 use sector_model::{Bank, Refusal, Sector};
 
 impl<B: Bank> Store<B> {
-    /// Opens a store over a set: reads its first logical sectors, which are the table of volumes, as many as a table of its version has.
+    /// Opens a store over a set: reads its first logical sectors, which are the table of volumes, as many as a table of
+    /// its version has.
     ///
-    /// Refused with `BadTable` where they are no table of volumes of a set with so many extents, and as a read of the array is; the bank is then given back as it stands.
+    /// Refused with `BadTable` where they are no table of volumes of a set with so many extents, and as a read of the
+    /// array is; the bank is then given back as it stands.
     pub fn open(mut array: Array<B>) -> Result<Store<B>, Returned<B>>
         ensures honest_store { IfOk result (λ store. IsHonest array ↔ IsHonest store.array) }
         ensures honest_bank { IfErr result (λ returned. IsHonest array ↔ B.honest returned.bank) }
@@ -53,8 +56,8 @@ impl<B: Bank> Store<B> {
     }
 }
 
-// Reads the first logical sectors of a set, as many as a table of the version has that the first of them begins. Refused as a read of the
-// array is.
+// Reads the first logical sectors of a set, as many as a table of the version has that the first of them begins.
+// Refused as a read of the array is.
 fn read_table<B: Bank>(
     array: &mut Array<B>,
     sectors: &mut [Sector; TABLE_SECTORS],

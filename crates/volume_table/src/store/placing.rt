@@ -15,7 +15,8 @@ use sector_model::{Bank, Refusal, Sector};
 
 /// Writes 1 to 32 blocks of a volume from block `at` on, by one commit: all of them or none.
 ///
-/// The map is that of the set's extents, and each of the blocks has an extent of the volume (conditions). Refused as a commit is.
+/// The map is that of the set's extents, and each of the blocks has an extent of the volume (conditions). Refused as a
+/// commit is.
 pub fn write_blocks<B: Bank>(
     array: &mut Array<B>,
     map: &ExtentMap,
@@ -57,8 +58,8 @@ fn placed(
     sectors
 }
 
-/// Makes blocks `first` to `last` - 1 of a volume zero, by commits of up to 32 blocks. The conditions are those of `write_blocks`, and it is
-/// refused as a commit is; some of the blocks may then be zero.
+/// Makes blocks `first` to `last` - 1 of a volume zero, by commits of up to 32 blocks. The conditions are those of
+/// `write_blocks`, and it is refused as a commit is; some of the blocks may then be zero.
 pub fn zero_blocks<B: Bank>(
     array: &mut Array<B>,
     map: &ExtentMap,

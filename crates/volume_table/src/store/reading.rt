@@ -20,10 +20,12 @@ use extents::ExtentMap;
 use sector_model::{Bank, Refusal, Sector};
 
 impl<B: Bank> Store<B> {
-    /// Reads blocks of the volume of this name, from block `at` on: as many as `to` has places, 1 to 32. Each is one read of the array, and the table is not read.
+    /// Reads blocks of the volume of this name, from block `at` on: as many as `to` has places, 1 to 32. Each is one
+    /// read of the array, and the table is not read.
     ///
-    /// Refused, in this order, with `NoVolume` where no volume has the name, `BadCount` where `to` has 0 places or more than 32, and `OutOfRange`
-    /// where the volume has not so many blocks. `TwoLost` and `Worn` end the store. After a refusal `to` may hold anything.
+    /// Refused, in this order, with `NoVolume` where no volume has the name, `BadCount` where `to` has 0 places or more
+    /// than 32, and `OutOfRange` where the volume has not so many blocks. `TwoLost` and `Worn` end the store. After a
+    /// refusal `to` may hold anything.
     pub fn read(&mut self, name: &[u8], at: u32, to: &mut [Sector]) -> Result<(), Refusal>
         ensures honest { IsHonest self.old.array ↔ IsHonest self.new.array }
         ensures few { OnOk result (length to.old ≤ MOST_BLOCKS_AT_ONCE) }
@@ -39,8 +41,8 @@ impl<B: Bank> Store<B> {
     }
 }
 
-// Reads blocks of a volume from block `at` on. The map is that of the set's extents, and each of the blocks has an extent of the volume
-// (conditions). Refused as a read of the array is.
+// Reads blocks of a volume from block `at` on. The map is that of the set's extents, and each of the blocks has an
+// extent of the volume (conditions). Refused as a read of the array is.
 fn read_blocks<B: Bank>(
     array: &mut Array<B>,
     map: &ExtentMap,

@@ -10,10 +10,11 @@ use rebuild::{Progress, rebuild_step};
 use sector_model::{Bank, Refusal};
 
 impl<B: Bank> Store<B> {
-    /// Rebuilds the next rows of the member that is rebuilding: so many, 64 at most, and none past the last. A step of 0 rows changes nothing.
+    /// Rebuilds the next rows of the member that is rebuilding: so many, 64 at most, and none past the last. A step of
+    /// 0 rows changes nothing.
     ///
-    /// Refused with `NothingToRebuild` where no member is rebuilding, or the one that is goes down in the call and is then missing. `TwoLost` and
-    /// `Worn` end the store.
+    /// Refused with `NothingToRebuild` where no member is rebuilding, or the one that is goes down in the call and is
+    /// then missing. `TwoLost` and `Worn` end the store.
     pub fn rebuild_step(&mut self, rows: u64) -> Result<Progress, Refusal>
         ensures honest { IsHonest self.old.array ↔ IsHonest self.new.array }
         ensures rebuilds { RebuildsRows (IsHonest self.old.array) rows (store_view self.old) (store_view self.new)

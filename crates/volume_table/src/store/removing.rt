@@ -35,8 +35,8 @@ impl<B: Bank> Store<B> {
     }
 }
 
-// Makes the extents of a volume free, and puts the table without its record. Refused as a commit is; the map and the table in memory are then
-// without it.
+// Makes the extents of a volume free, and puts the table without its record. Refused as a commit is; the map and the
+// table in memory are then without it.
 fn shrink<B: Bank>(
     array: &mut Array<B>,
     table: &mut VolumeTable,
@@ -50,7 +50,8 @@ fn shrink<B: Bank>(
     ensures version { table.new.version ≡ table.old.version }
     ensures records { table.new.records ≡ slice_set table.old.records volume None }
     ensures given_back { IsGivenBack map.old map.new volume }
-    ensures changes { ChangesList (IsHonest array.old) 1 (MayPutTable table.old table.new) (PutsTable table.old table.new)
+    ensures changes { ChangesList (IsHonest array.old) 1 (MayPutTable table.old table.new)
+        (PutsTable table.old table.new)
         (array_view array.old) (array_view array.new) result }
 {
     let before = spelled(table);

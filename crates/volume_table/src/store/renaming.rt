@@ -26,11 +26,13 @@ pub struct Renaming {
 }
 
 impl<B: Bank> Store<B> {
-    /// Gives the volume of this name another, by one commit: at each moment a crash leaves the volumes as they were, or with the new name in place of
-    /// the old one. The volume keeps its record's number, its extents and its blocks, none of which is written. It takes no memory.
+    /// Gives the volume of this name another, by one commit: at each moment a crash leaves the volumes as they were, or
+    /// with the new name in place of the old one. The volume keeps its record's number, its extents and its blocks,
+    /// none of which is written. It takes no memory.
     ///
-    /// Refused, in this order, with `NoVolume` where no volume has the old name; `BadName` where the new one is not a good name by the table's version, as
-    /// for `create`; and `Exists` where a volume has the new name, be it this one. Nothing was then done. `TwoLost` and `Worn` end the store.
+    /// Refused, in this order, with `NoVolume` where no volume has the old name; `BadName` where the new one is not a
+    /// good name by the table's version, as for `create`; and `Exists` where a volume has the new name, be it this one.
+    /// Nothing was then done. `TwoLost` and `Worn` end the store.
     pub fn rename(&mut self, old: &[u8], new: &[u8]) -> Result<(), Refusal>
         ensures honest { IsHonest self.old.array ↔ IsHonest self.new.array }
         ensures renames { RenamesVolume (IsHonest self.old.array) old.now new.now (store_view self.old)
@@ -59,7 +61,8 @@ fn put_name<B: Bank>(
     ensures kept { AreKept (extents_in array.new.table.geometry) table.new map.now }
     ensures version { table.new.version ≡ table.old.version }
     ensures records { table.new.records ≡ slice_set table.old.records renaming.volume (Some renaming.entry) }
-    ensures changes { ChangesList (IsHonest array.old) 1 (MayPutTable table.old table.new) (PutsTable table.old table.new)
+    ensures changes { ChangesList (IsHonest array.old) 1 (MayPutTable table.old table.new)
+        (PutsTable table.old table.new)
         (array_view array.old) (array_view array.new) result }
     ensures entry { result ≡ Ok tt → (array_view array.new).number ≡ (array_view array.old).number + 1 }
 {

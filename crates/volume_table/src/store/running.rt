@@ -12,11 +12,12 @@ use sector_model::{Bank, Refusal};
 use std::alloc::Global;
 
 impl<B: Bank> Store<B> {
-    /// Does the events in order. After each one that was answered, also where that was a refusal, `acks` gets the number of device calls made until
-    /// then: a crash at that call or later keeps what the event did.
+    /// Does the events in order. After each one that was answered, also where that was a refusal, `acks` gets the
+    /// number of device calls made until then: a crash at that call or later keeps what the event did.
     ///
-    /// `Memory` where there is no room for all acks, and none to be had; then nothing was done. `TwoLost` and `Worn` end the run with the store, at the first event that is
-    /// answered so, which gets no ack. A store that was ended answers the refusal that ended it.
+    /// `Memory` where there is no room for all acks, and none to be had; then nothing was done. `TwoLost` and `Worn`
+    /// end the run with the store, at the first event that is answered so, which gets no ack. A store that was ended
+    /// answers the refusal that ended it.
     pub fn run(
         &mut self,
         alloc: Global,
@@ -26,7 +27,8 @@ impl<B: Bank> Store<B> {
         ensures honest { IsHonest self.old.array ↔ IsHonest self.new.array }
         ensures runs { RunsEvents (IsHonest self.old.array) (map event_of events.now) (store_view self.old)
             (store_view self.new) acks.old.items acks.new.items result }
-        ensures memory { self.old.ended ≡ None → vec_len acks.old + length events.now ≤ vec_capacity acks.old → result ≢ Err Memory }
+        ensures memory { self.old.ended ≡ None → vec_len acks.old + length events.now ≤ vec_capacity acks.old
+            → result ≢ Err Memory }
     {
         if let Some(refusal) = self.ended {
             return Err(refusal);
@@ -38,8 +40,8 @@ impl<B: Bank> Store<B> {
         Ok(())
     }
 
-    // Does one event of an open store (condition), and puts its ack after those that are there, for which there is room (condition). The refusal is
-    // one that ended the store.
+    // Does one event of an open store (condition), and puts its ack after those that are there, for which there is room
+    // (condition). The refusal is one that ended the store.
     fn acknowledge(
         &mut self,
         alloc: Global,

@@ -20,8 +20,8 @@ pub fn spelled(table: &VolumeTable) -> [Sector; TABLE_SECTORS]
     sectors
 }
 
-/// Puts a table in place of another of its version, with whose spelling these sectors begin, by one commit of the sectors that differ. Refused as
-/// a commit is.
+/// Puts a table in place of another of its version, with whose spelling these sectors begin, by one commit of the
+/// sectors that differ. Refused as a commit is.
 pub fn put_table<B: Bank>(
     array: &mut Array<B>,
     before: &[Sector; TABLE_SECTORS],
@@ -31,7 +31,8 @@ pub fn put_table<B: Bank>(
     ensures changes { (first : VolumeTable) → Spell before.now first → first.version ≡ table.now.version
         → ChangesList (IsHonest array.old) 1 (MayPutTable first table.now) (PutsTable first table.now)
         (array_view array.old) (array_view array.new) result }
-    ensures entry { (first : VolumeTable) → Spell before.now first → first.version ≡ table.now.version → first ≢ table.now
+    ensures entry { (first : VolumeTable) → Spell before.now first → first.version ≡ table.now.version
+        → first ≢ table.now
         → result ≡ Ok tt → (array_view array.new).number ≡ (array_view array.old).number + 1 }
 {
     let sectors = changed(table.version, before, &spelled(table));
@@ -41,7 +42,8 @@ pub fn put_table<B: Bank>(
     array.commit(&sectors)
 }
 
-/// Puts a table in place of another, whatever its version, by one commit of all sectors of the new one. Refused as a commit is.
+/// Puts a table in place of another, whatever its version, by one commit of all sectors of the new one. Refused as a
+/// commit is.
 pub fn put_whole_table<B: Bank>(array: &mut Array<B>, table: &VolumeTable) -> Result<(), Refusal>
     ensures honest { IsHonest array.old ↔ IsHonest array.new }
     ensures changes { (first : VolumeTable) → ChangesList (IsHonest array.old) 1 (MayPutTable first table.now)

@@ -10,7 +10,8 @@ use extents::{MOST_VOLUMES, Record};
 use sector_model::{Bank, Refusal};
 
 impl<B: Bank> Store<B> {
-    /// What the set is, and how much of it is in use. It makes no device call. A store that was ended answers the refusal that ended it.
+    /// What the set is, and how much of it is in use. It makes no device call. A store that was ended answers the
+    /// refusal that ended it.
     pub fn status(&self) -> Result<Status, Refusal>
         ensures { TellsStatus (store_view self.now) (status_of result) }
     {

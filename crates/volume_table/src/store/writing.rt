@@ -11,11 +11,12 @@ use crate::event::MOST_BLOCKS_AT_ONCE;
 use sector_model::{Bank, Refusal, Sector};
 
 impl<B: Bank> Store<B> {
-    /// Writes 1 to 32 blocks of the volume of this name, from block `at` on, by one commit: at each moment a crash leaves all of them as they were,
-    /// or all as given.
+    /// Writes 1 to 32 blocks of the volume of this name, from block `at` on, by one commit: at each moment a crash
+    /// leaves all of them as they were, or all as given.
     ///
-    /// Refused, in this order, with `NoVolume` where no volume has the name, `BadCount` where there are 0 blocks or more than 32, and `OutOfRange`
-    /// where the volume has not so many. Nothing was then done. `TwoLost` and `Worn` end the store.
+    /// Refused, in this order, with `NoVolume` where no volume has the name, `BadCount` where there are 0 blocks or
+    /// more than 32, and `OutOfRange` where the volume has not so many. Nothing was then done. `TwoLost` and `Worn` end
+    /// the store.
     pub fn write(&mut self, name: &[u8], at: u32, from: &[Sector]) -> Result<(), Refusal>
         ensures honest { IsHonest self.old.array ↔ IsHonest self.new.array }
         ensures few { OnOk result (length from.now ≤ MOST_BLOCKS_AT_ONCE) }

@@ -56,10 +56,24 @@ still_rises rows row place rising within below beyond = λ k inside.
       | inr from ↦
           let next = get_or-insert_above rows place row 0 k from within in
           elim (cases_eq k place) [
-            | inl same ↦ omega (arith, next, beyond (omega arith), ap (λ (n : ℕ). get_or (insert rows place row) n 0) same, get_or-insert_at rows place row 0 within, ap (row_at rows) same)
+            | inl same ↦ omega (
+              arith,
+              next,
+              beyond (omega arith),
+              ap (λ (n : ℕ). get_or (insert rows place row) n 0) same,
+              get_or-insert_at rows place row 0 within,
+              ap (row_at rows) same,
+            )
             | inr other ↦
                 let one : k ≡ (k - 1) + 1 = omega arith in
-                omega (arith, next, get_or-insert_above rows place row 0 (k - 1) (omega arith) within, ap (λ (n : ℕ). get_or (insert rows place row) n 0) one, ap (row_at rows) one, rising (k - 1) (omega arith))
+                omega (
+                  arith,
+                  next,
+                  get_or-insert_above rows place row 0 (k - 1) (omega arith) within,
+                  ap (λ (n : ℕ). get_or (insert rows place row) n 0) one,
+                  ap (row_at rows) one,
+                  rising (k - 1) (omega arith),
+                )
           ]
     ]
 
@@ -74,9 +88,11 @@ returns-then-not-is_at-clause-rising c =
     let within : place ≤ length rows = omega (arith, ap length c.deref.ensures.0, c.place_in-place.ensures.within) in
     let below = subst (λ (list : List ℕ). (i : ℕ) → i < place → row_at list i < row) c.deref.ensures.0 c.place_in-place.ensures.below in
     let reached = subst (λ (list : List ℕ). place < length list → row ≤ row_at list place) c.deref.ensures.0 c.place_in-place.ensures.reached in
-    let apart = subst (λ (list : List ℕ). (place < length list) × (row_at list place ≡ row) → ⊥) c.deref-2.ensures.0 (λ at. false≢true (sym c.if-not-is_at.true ∙ c.is_at.ensures.1 at)) in
+    let apart = subst (λ (list : List ℕ). (place < length list) × (row_at list place ≡ row) → ⊥) c.deref-2.ensures.0
+    (λ at. false≢true (sym c.if-not-is_at.true ∙ c.is_at.ensures.1 at)) in
     subst (λ (list : List ℕ). IsStrictlyIncreasing list) (sym c.insert.ensures.items)
-    (still_rises rows row place c.requires.rising within below (λ inside. let other : row_at rows place ≢ row = λ same. apart (inside, same) in omega (arith, reached inside, other)))
+    (still_rises rows row place c.requires.rising within below
+    (λ inside. let other : row_at rows place ≢ row = λ same. apart (inside, same) in omega (arith, reached inside, other)))
 
 pub returns-else-not-is_at-clause-few : goal.returns-else-not-is_at-clause-few
 returns-else-not-is_at-clause-few c = omega arith

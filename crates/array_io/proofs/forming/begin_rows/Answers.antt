@@ -16,14 +16,16 @@ loop-row-preserved c =
     let count : length (numbers_of now.entry) ≡ now.row-index = ap length now.invariant.numbers ∙ length-take-le now.row-index rows (omega arith) in
     let changed = λ (i member : ℕ). IsChanged c.args.geometry.now c.args.sectors.now (row_at rows i) member in
     record {
-      numbers = c.push.ensures.numbers ∙ ap (λ (list : List ℕ). list ++ get_or rows now.row-index 0 ∷ []) now.invariant.numbers ∙ sym (take_more rows now.row-index 0 c.loop-row-test.true);
+      numbers = c.push.ensures.numbers ∙ ap (λ (list : List ℕ). list ++ get_or rows now.row-index 0 ∷ []) now.invariant.numbers
+          ∙ sym (take_more rows now.row-index 0 c.loop-row-test.true);
       held = λ i member below. elim (cases_eq i now.row-index) [
         | inl same ↦
             let mask : row_mask new i ≡ c.changed_mask.result = ap (row_mask new) (same ∙ sym count) ∙ c.push.ensures.mask in
             subst (λ (m : ℕ). (has_bit m member ≡ true) ↔ changed i member) (sym mask)
             (subst (λ (k : ℕ). (has_bit c.changed_mask.result member ≡ true) ↔ changed k member) (sym same) (c.changed_mask.ensures member))
         | inr other ↦
-            subst (λ (m : ℕ). (has_bit m member ≡ true) ↔ changed i member) (sym (c.push.ensures.masks i (omega (arith, count, below, other)))) (now.invariant.held i member (omega (arith, below, other)))
+            subst (λ (m : ℕ). (has_bit m member ≡ true) ↔ changed i member) (sym (c.push.ensures.masks i (omega (arith, count, below, other))))
+            (now.invariant.held i member (omega (arith, below, other)))
       ];
       zeros = λ i member below within. elim (cases_eq i now.row-index) [
         | inl same ↦ ap (λ (n : ℕ). sector_at new n member) (same ∙ sym count) ∙ c.push.ensures.zeros member within ∙ zero_sector-replicate 512 refl
@@ -36,5 +38,6 @@ returns-clause-held c = λ i member below.
     let now = c.loop-row in
     let rows = c.args.rows.now in
     let numbers : numbers_of now.entry ≡ rows = now.invariant.numbers ∙ take_all now.row-index rows c.loop-row-test.false in
-    subst (λ (list : List ℕ). (has_bit (row_mask now.entry i) member ≡ true) ↔ IsChanged c.args.geometry.now c.args.sectors.now (row_at list i) member) (sym numbers)
+    subst (λ (list : List ℕ). (has_bit (row_mask now.entry i) member ≡ true) ↔ IsChanged c.args.geometry.now c.args.sectors.now (row_at list i) member)
+    (sym numbers)
     (now.invariant.held i member (omega (arith, below, ap length numbers, c.loop-row-test.false)))

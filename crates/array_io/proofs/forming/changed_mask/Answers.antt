@@ -19,11 +19,14 @@ loop-sector-preserved c =
     let now = c.loop-sector in
     let place = c.place-place in
     elim c.if-place-from.branch [
-      | then-place-from w ↦ rw w.mask-is (given_bit geometry sectors c.args.row now.mask w.with_bit-mask-then-place-from.result now.sector-index place.result.member place.result.row
-          place.ensures.placed (w.if-place-from.true ∙ c.from-in-loop-sector.ensures) w.with_bit-mask-then-place-from.ensures.has w.with_bit-mask-then-place-from.ensures.others now.invariant)
+      | then-place-from w ↦ rw w.mask-is (given_bit geometry sectors c.args.row now.mask w.with_bit-mask-then-place-from.result now.sector-index
+          place.result.member place.result.row
+          place.ensures.placed (w.if-place-from.true ∙ c.from-in-loop-sector.ensures) w.with_bit-mask-then-place-from.ensures.has
+          w.with_bit-mask-then-place-from.ensures.others now.invariant)
       | else-place-from w ↦ rw w.mask-is (given_beside geometry sectors c.args.row now.mask now.sector-index place.result.member place.result.row
           place.ensures.placed (λ same. w.if-place-from.false (same ∙ sym c.from-in-loop-sector.ensures)) now.invariant)
     ]
 
 pub returns : goal.returns
-returns c = given_all c.args.geometry.now c.args.sectors.now c.args.row c.loop-sector.mask c.loop-sector.sector-index c.loop-sector-test.false c.loop-sector.auto.sector-index-end c.loop-sector.invariant
+returns c = given_all c.args.geometry.now c.args.sectors.now c.args.row c.loop-sector.mask c.loop-sector.sector-index c.loop-sector-test.false
+    c.loop-sector.auto.sector-index-end c.loop-sector.invariant

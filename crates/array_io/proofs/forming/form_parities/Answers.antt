@@ -18,7 +18,8 @@ loop-i-init g c = record {
   honest = λ honest. honest;
   still = λ honest. honest;
   its_slots = c.requires.its_slots;
-  steps = keeps_none spellings (g.B.Bank.honest c.args.bank.now) c.args.table.now (g.B.Bank.panel c.args.bank.now) (g.B.Bank.history c.args.bank.now) (λ fair. g.met.B.Bank.true_to _ fair);
+  steps = keeps_none spellings (g.B.Bank.honest c.args.bank.now) c.args.table.now (g.B.Bank.panel c.args.bank.now) (g.B.Bank.history c.args.bank.now)
+      (λ fair. g.met.B.Bank.true_to _ fair);
   numbers = refl;
   form = refl;
   sound = λ number k from honest below at. absurd (omega (arith, below));
@@ -28,18 +29,21 @@ loop-i-init g c = record {
 
 pub form_row-requires-clause-row : goal.form_row-requires-clause-row
 form_row-requires-clause-row g c = subst (λ (x : Geometry). row_at c.args.rows.now c.loop-i.i < rows_of x.chunk x.stripes)
-    (sym (same_set (g.B.Bank.honest c.args.bank.now) c.args.table.now c.loop-i.table (g.B.Bank.panel c.args.bank.now) (g.B.Bank.panel c.loop-i.bank) (g.B.Bank.history c.args.bank.now) (g.B.Bank.history c.loop-i.bank) c.loop-i.invariant.steps))
+    (sym (same_set (g.B.Bank.honest c.args.bank.now) c.args.table.now c.loop-i.table (g.B.Bank.panel c.args.bank.now) (g.B.Bank.panel c.loop-i.bank)
+    (g.B.Bank.history c.args.bank.now) (g.B.Bank.history c.loop-i.bank) c.loop-i.invariant.steps))
     (c.requires.rows c.loop-i.i c.loop-i-test.true)
 
 pub form_row-requires-clause-held : goal.form_row-requires-clause-held
 form_row-requires-clause-held g c = λ member parity.
-    let same = same_set (g.B.Bank.honest c.args.bank.now) c.args.table.now c.loop-i.table (g.B.Bank.panel c.args.bank.now) (g.B.Bank.panel c.loop-i.bank) (g.B.Bank.history c.args.bank.now) (g.B.Bank.history c.loop-i.bank) c.loop-i.invariant.steps in
+    let same = same_set (g.B.Bank.honest c.args.bank.now) c.args.table.now c.loop-i.table (g.B.Bank.panel c.args.bank.now) (g.B.Bank.panel c.loop-i.bank)
+    (g.B.Bank.history c.args.bank.now) (g.B.Bank.history c.loop-i.bank) c.loop-i.invariant.steps in
     ap (λ (mask : ℕ). has_bit mask member) (same_mask c.loop-i.entry c.args.entry.now c.loop-i.i c.loop-i.invariant.form)
     ∙ c.requires.held c.loop-i.i member c.loop-i-test.true (subst (λ (x : Geometry). HasParityOn x (row_at c.args.rows.now c.loop-i.i) member) same parity)
 
 pub form_row-requires-clause-zeros : goal.form_row-requires-clause-zeros
 form_row-requires-clause-zeros g c = λ member parity.
-    let same = same_set (g.B.Bank.honest c.args.bank.now) c.args.table.now c.loop-i.table (g.B.Bank.panel c.args.bank.now) (g.B.Bank.panel c.loop-i.bank) (g.B.Bank.history c.args.bank.now) (g.B.Bank.history c.loop-i.bank) c.loop-i.invariant.steps in
+    let same = same_set (g.B.Bank.honest c.args.bank.now) c.args.table.now c.loop-i.table (g.B.Bank.panel c.args.bank.now) (g.B.Bank.panel c.loop-i.bank)
+    (g.B.Bank.history c.args.bank.now) (g.B.Bank.history c.loop-i.bank) c.loop-i.invariant.steps in
     let here = subst (λ (x : Geometry). HasParityOn x (row_at c.args.rows.now c.loop-i.i) member) same parity in
     c.loop-i.invariant.beyond c.loop-i.i member (omega (arith, here.in_set, c.args.table.now.geometry.limits.members_most)) (omega arith)
     ∙ c.requires.zeros c.loop-i.i member c.loop-i-test.true here
@@ -53,12 +57,15 @@ returns-in_err-form_row-clause-honest g c = (
 pub returns-in_err-form_row-clause-steps : goal.returns-in_err-form_row-clause-steps
 returns-in_err-form_row-clause-steps g c =
     let p = err_from_is_err_and c.from_residual.result c.from_residual.ensures.1 in
-    rw (p.1, p.2) (keeps_both (g.B.Bank.honest c.args.bank.now) c.args.table.now c.loop-i.table (g.B.Bank.panel c.args.bank.now) (g.B.Bank.panel c.loop-i.bank) (g.B.Bank.history c.args.bank.now) (g.B.Bank.history c.loop-i.bank) c.loop-i.invariant.steps
-    (g.B.Bank.honest c.loop-i.bank) c.loop-i.invariant.honest c.form_row.new.table (g.B.Bank.panel c.form_row.new.bank) (g.B.Bank.history c.form_row.new.bank) (Err c.in_err-form_row.field-0.0) c.in_err-form_row.ensures.forms.steps)
+    rw (p.1, p.2) (keeps_both (g.B.Bank.honest c.args.bank.now) c.args.table.now c.loop-i.table (g.B.Bank.panel c.args.bank.now) (g.B.Bank.panel c.loop-i.bank)
+    (g.B.Bank.history c.args.bank.now) (g.B.Bank.history c.loop-i.bank) c.loop-i.invariant.steps
+    (g.B.Bank.honest c.loop-i.bank) c.loop-i.invariant.honest c.form_row.new.table (g.B.Bank.panel c.form_row.new.bank) (g.B.Bank.history c.form_row.new.bank)
+    (Err c.in_err-form_row.field-0.0) c.in_err-form_row.ensures.forms.steps)
 
 pub returns-in_err-form_row-clause-others : goal.returns-in_err-form_row-clause-others
 returns-in_err-form_row-clause-others g c = λ k member within skip.
-    let same = same_set (g.B.Bank.honest c.args.bank.now) c.args.table.now c.loop-i.table (g.B.Bank.panel c.args.bank.now) (g.B.Bank.panel c.loop-i.bank) (g.B.Bank.history c.args.bank.now) (g.B.Bank.history c.loop-i.bank) c.loop-i.invariant.steps in
+    let same = same_set (g.B.Bank.honest c.args.bank.now) c.args.table.now c.loop-i.table (g.B.Bank.panel c.args.bank.now) (g.B.Bank.panel c.loop-i.bank)
+    (g.B.Bank.history c.args.bank.now) (g.B.Bank.history c.loop-i.bank) c.loop-i.invariant.steps in
     c.form_row.ensures.forms.others k member within (λ same_row is. skip
     (subst (λ (n : ℕ). HasParityOn c.args.table.now.geometry (row_at c.args.rows.now n) member) (sym same_row)
     (subst (λ (x : Geometry). HasParityOn x (row_at c.args.rows.now c.loop-i.i) member) same is)))
@@ -73,29 +80,36 @@ loop-i-preserved g c =
     let geometry = c.args.table.now.geometry in
     let rows = c.args.rows.now in
     let new = c.form_row.new.entry in
-    let same = same_set (g.B.Bank.honest c.args.bank.now) c.args.table.now c.loop-i.table (g.B.Bank.panel c.args.bank.now) (g.B.Bank.panel c.loop-i.bank) (g.B.Bank.history c.args.bank.now) (g.B.Bank.history c.loop-i.bank) c.loop-i.invariant.steps in
+    let same = same_set (g.B.Bank.honest c.args.bank.now) c.args.table.now c.loop-i.table (g.B.Bank.panel c.args.bank.now) (g.B.Bank.panel c.loop-i.bank)
+    (g.B.Bank.history c.args.bank.now) (g.B.Bank.history c.loop-i.bank) c.loop-i.invariant.steps in
     let forms = c.in_ok-form_row.ensures.forms in
     record {
       honest = λ honest. c.form_row.ensures.honest.0 (now.invariant.honest honest);
       still = λ honest. now.invariant.still (c.form_row.ensures.honest.1 honest);
       its_slots = c.form_row.ensures.its_slots;
-      steps = keeps_both (g.B.Bank.honest c.args.bank.now) c.args.table.now c.loop-i.table (g.B.Bank.panel c.args.bank.now) (g.B.Bank.panel c.loop-i.bank) (g.B.Bank.history c.args.bank.now) (g.B.Bank.history c.loop-i.bank) c.loop-i.invariant.steps
-          (g.B.Bank.honest c.loop-i.bank) c.loop-i.invariant.honest c.form_row.new.table (g.B.Bank.panel c.form_row.new.bank) (g.B.Bank.history c.form_row.new.bank) (Ok tt) forms.steps;
+      steps = keeps_both (g.B.Bank.honest c.args.bank.now) c.args.table.now c.loop-i.table (g.B.Bank.panel c.args.bank.now) (g.B.Bank.panel c.loop-i.bank)
+          (g.B.Bank.history c.args.bank.now) (g.B.Bank.history c.loop-i.bank) c.loop-i.invariant.steps
+          (g.B.Bank.honest c.loop-i.bank) c.loop-i.invariant.honest c.form_row.new.table (g.B.Bank.panel c.form_row.new.bank)
+          (g.B.Bank.history c.form_row.new.bank) (Ok tt) forms.steps;
       numbers = forms.numbers ∙ now.invariant.numbers;
       form = forms.form ∙ now.invariant.form;
       sound = λ number k from honest below at. elim (cases_eq k now.i) [
         | inl here ↦ subst (λ (n : ℕ). HasSoundRow geometry from.logical new n (row_at rows n)) (sym here)
             (subst (λ (x : Geometry). HasSoundRow x from.logical new now.i (row_at rows now.i)) same
-            (forms.sound number from (now.invariant.honest honest) (between_then (g.B.Bank.honest c.args.bank.now) c.args.table.now c.loop-i.table (g.B.Bank.panel c.args.bank.now) (g.B.Bank.panel c.loop-i.bank) (g.B.Bank.history c.args.bank.now) (g.B.Bank.history c.loop-i.bank) c.loop-i.invariant.steps honest number from at)))
+            (forms.sound number from (now.invariant.honest honest)
+            (between_then (g.B.Bank.honest c.args.bank.now) c.args.table.now c.loop-i.table (g.B.Bank.panel c.args.bank.now) (g.B.Bank.panel c.loop-i.bank)
+            (g.B.Bank.history c.args.bank.now) (g.B.Bank.history c.loop-i.bank) c.loop-i.invariant.steps honest number from at)))
         | inr other ↦ λ values listed. subst (λ (row : List Bytes). IsSoundRow row)
             (sym (row_same geometry.members new now.entry k values (same_mask new now.entry k forms.form)
             (λ member within. forms.others k member (omega (arith, within, geometry.limits.members_most)) (λ here. absurd (other here)))))
             (now.invariant.sound number k from honest (omega (arith, below, other)) at values listed)
       ];
       others = λ k member within skip. forms.others k member within (λ same_row is. skip
-          (subst (λ (n : ℕ). HasParityOn geometry (row_at rows n) member) (sym same_row) (subst (λ (x : Geometry). HasParityOn x (row_at rows now.i) member) same is)))
+          (subst (λ (n : ℕ). HasParityOn geometry (row_at rows n) member) (sym same_row)
+          (subst (λ (x : Geometry). HasParityOn x (row_at rows now.i) member) same is)))
           ∙ now.invariant.others k member within skip;
-      beyond = λ k member within after. forms.others k member within (λ here. absurd (omega (arith, here, after))) ∙ now.invariant.beyond k member within (omega (arith, after));
+      beyond = λ k member within after. forms.others k member within (λ here. absurd (omega (arith, here, after)))
+          ∙ now.invariant.beyond k member within (omega (arith, after));
     }
 
 pub returns-clause-sound : goal.returns-clause-sound

@@ -11,7 +11,8 @@ use Rattle.array_io.proofs.Commits.ChangedRows.{changed_stays}
 use Rattle.array_io.proofs.forming.form_rows.Goals as goal
 
 -- what holds at Ok of each row, together
-at_ok : (answer : Answer) (count : ℕ) (P : ℕ → Type 0) (Q : Type 0) → ((i : ℕ) → i < count → OnOk answer (P i)) → (((i : ℕ) → i < count → P i) → Q) → OnOk answer Q
+at_ok : (answer : Answer) (count : ℕ) (P : ℕ → Type 0) (Q : Type 0) → ((i : ℕ) → i < count → OnOk answer (P i)) → (((i : ℕ) → i < count → P i) → Q)
+    → OnOk answer Q
 at_ok (Ok done) count P Q each all = all each
 at_ok (Err refusal) count P Q each all = tt
 
@@ -29,13 +30,15 @@ pub touched_rows-touched-requires-clause-of_set : goal.touched_rows-touched-requ
 touched_rows-touched-requires-clause-of_set g c = c.requires.may.of_set
 
 pub begin_rows-requires-clause-rows : goal.begin_rows-requires-clause-rows
-begin_rows-requires-clause-rows g c = subst (λ (list : List ℕ). AreRowsOf c.args.table.now.geometry c.args.sectors.now list) (sym c.as_slice-rows.ensures.value) c.touched_rows-touched.ensures
+begin_rows-requires-clause-rows g c = subst (λ (list : List ℕ). AreRowsOf c.args.table.now.geometry c.args.sectors.now list) (sym c.as_slice-rows.ensures.value)
+    c.touched_rows-touched.ensures
 
 pub begin_rows-requires-clause-of_set : goal.begin_rows-requires-clause-of_set
 begin_rows-requires-clause-of_set g c = c.requires.may.of_set
 
 pub put_given-requires-clause-rows : goal.put_given-requires-clause-rows
-put_given-requires-clause-rows g c = subst (λ (list : List ℕ). AreRowsOf c.args.table.now.geometry c.args.sectors.now list) (sym c.as_slice-rows.ensures.value) c.touched_rows-touched.ensures
+put_given-requires-clause-rows g c = subst (λ (list : List ℕ). AreRowsOf c.args.table.now.geometry c.args.sectors.now list) (sym c.as_slice-rows.ensures.value)
+    c.touched_rows-touched.ensures
 
 pub put_given-requires-clause-of_set : goal.put_given-requires-clause-of_set
 put_given-requires-clause-of_set g c = c.requires.may.of_set
@@ -53,7 +56,8 @@ pub form_parities-requires-clause-its_slots : goal.form_parities-requires-clause
 form_parities-requires-clause-its_slots g c = c.requires.its_slots
 
 pub form_parities-requires-clause-rows : goal.form_parities-requires-clause-rows
-form_parities-requires-clause-rows g c = (subst (λ (list : List ℕ). AreRowsOf c.args.table.now.geometry c.args.sectors.now list) (sym c.as_slice-rows.ensures.value) c.touched_rows-touched.ensures).of_set
+form_parities-requires-clause-rows g c = (subst (λ (list : List ℕ). AreRowsOf c.args.table.now.geometry c.args.sectors.now list)
+    (sym c.as_slice-rows.ensures.value) c.touched_rows-touched.ensures).of_set
 
 pub form_parities-requires-clause-numbers : goal.form_parities-requires-clause-numbers
 form_parities-requires-clause-numbers g c = c.put_given.ensures.numbers ∙ c.begin_rows.ensures.numbers
@@ -85,10 +89,12 @@ returns-clause-steps g c = c.form_parities.ensures.steps
 
 pub returns-clause-rows : goal.returns-clause-rows
 returns-clause-rows g c = in_any_case c.form_parities.result _ (subst (λ (list : List ℕ). AreRowsOf c.args.table.now.geometry c.args.sectors.now list)
-    (sym (c.form_parities.ensures.numbers ∙ c.put_given.ensures.numbers ∙ c.begin_rows.ensures.numbers ∙ c.as_slice-rows.ensures.value)) c.touched_rows-touched.ensures)
+    (sym (c.form_parities.ensures.numbers ∙ c.put_given.ensures.numbers ∙ c.begin_rows.ensures.numbers ∙ c.as_slice-rows.ensures.value))
+    c.touched_rows-touched.ensures)
 
 pub returns-clause-held : goal.returns-clause-held
-returns-clause-held g c = in_any_case c.form_parities.result _ (changed_stays c.args.table.now.geometry c.args.sectors.now c.begin_rows.new.entry c.form_parities.new.entry
+returns-clause-held g c = in_any_case c.form_parities.result _
+    (changed_stays c.args.table.now.geometry c.args.sectors.now c.begin_rows.new.entry c.form_parities.new.entry
     (c.form_parities.ensures.numbers ∙ c.put_given.ensures.numbers) (c.form_parities.ensures.form ∙ c.put_given.ensures.form) c.begin_rows.ensures.held)
 
 pub returns-clause-formed : goal.returns-clause-formed
@@ -106,12 +112,14 @@ returns-clause-formed g c = λ number from honest at.
     (λ i inside. c.form_parities.ensures.sound number i from honest at inside)
     (λ sound. record {
       rows = subst (λ (list : List ℕ). AreRowsOf geometry sectors list) (sym (numbers ∙ c.as_slice-rows.ensures.value)) c.touched_rows-touched.ensures;
-      held = changed_stays geometry sectors begun formed (numbers ∙ sym c.begin_rows.ensures.numbers) (c.form_parities.ensures.form ∙ c.put_given.ensures.form) c.begin_rows.ensures.held;
+      held = changed_stays geometry sectors begun formed (numbers ∙ sym c.begin_rows.ensures.numbers) (c.form_parities.ensures.form ∙ c.put_given.ensures.form)
+          c.begin_rows.ensures.held;
       given = λ k i member below inside lies.
           let here = subst (λ (list : List ℕ). LiesAt geometry (logical_at sectors k) (row_at list i) member) numbers lies in
           let there = subst (λ (list : List ℕ). LiesAt geometry (logical_at sectors k) (row_at list i) member) (sym put_numbers) here in
           let within : member < MOST_MEMBERS = omega (arith, place_member_below limits here, limits.members_most) in
           c.form_parities.ensures.others i member within (λ parity. place_is_no_parity limits here parity)
           ∙ c.put_given.ensures.given k i member below (omega (arith, ap length numbers, ap length put_numbers, inside)) there;
-      sound = λ i inside. subst (λ (list : List ℕ). HasSoundRow geometry from.logical formed i (row_at list i)) (sym numbers) (sound i (omega (arith, inside, ap length numbers)));
+      sound = λ i inside. subst (λ (list : List ℕ). HasSoundRow geometry from.logical formed i (row_at list i)) (sym numbers)
+          (sound i (omega (arith, inside, ap length numbers)));
     })

@@ -23,7 +23,8 @@ loop-member-preserved c =
     let cost : reads ≡ reads_of table row member =
     c.reads_of-reads.ensures ∙ ap (λ (b : Bool). cond b 1 (live.result.members - 1)) (live.ensures.reads row member c.loop-member-test.true)
     ∙ ap (λ (n : ℕ). cond (trusts (state_at table.states member) row table.position) 1 (n - 1)) live.ensures.members in
-    let bit : c.is_some.result ≡ held member = is_held _ c.member.result (has_bit c.view-view.result.mask member) c.is_some.result c.member.ensures.some c.member.ensures.none c.is_some.ensures
+    let bit : c.is_some.result ≡ held member = is_held _ c.member.result (has_bit c.view-view.result.mask member) c.is_some.result c.member.ensures.some
+    c.member.ensures.none c.is_some.ensures
     ∙ ap (λ (m : ℕ). has_bit m member) c.view-view.ensures.mask in
     elim c.if-is_some.branch [
       | then-is_some w ↦

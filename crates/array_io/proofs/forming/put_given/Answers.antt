@@ -15,7 +15,8 @@ pub sector_mut-requires-clause-row : goal.sector_mut-requires-clause-row
 sector_mut-requires-clause-row c =
     let rows = c.args.rows.now in
     let place = c.place-place in
-    let goes : GoesTo rows place.result.row c.place_in-i.result = record { within = c.place_in-i.ensures.within; below = c.place_in-i.ensures.below; reached = c.place_in-i.ensures.reached } in
+    let goes : GoesTo rows place.result.row c.place_in-i.result =
+    record { within = c.place_in-i.ensures.within; below = c.place_in-i.ensures.below; reached = c.place_in-i.ensures.reached } in
     let own = goes_to_own rows place.result.row c.place_in-i.result c.requires.rows.rising goes
     (c.requires.rows.each c.loop-sector.sector-index place.result.row place.result.member c.loop-sector-test.true place.ensures.placed) in
     omega (arith, own.0, ap length (c.loop-sector.invariant.numbers ∙ c.requires.numbers))
@@ -31,15 +32,22 @@ loop-sector-preserved c =
     let at = c.place_in-i.result in
     let value = bytes_at sectors now.sector-index in
     let after = with_sector now.entry at target value in
-    let goes : GoesTo rows place.result.row at = record { within = c.place_in-i.ensures.within; below = c.place_in-i.ensures.below; reached = c.place_in-i.ensures.reached } in
+    let goes : GoesTo rows place.result.row at = record {
+      within = c.place_in-i.ensures.within;
+      below = c.place_in-i.ensures.below;
+      reached =
+          c.place_in-i.ensures.reached;
+    } in
     let own = goes_to_own rows place.result.row at c.requires.rows.rising goes
     (c.requires.rows.each now.sector-index place.result.row target c.loop-sector-test.true place.ensures.placed) in
     let few : geometry.members ≤ MOST_MEMBERS = omega (arith, geometry.limits.members_most) in
     let below_most_members : target < MOST_MEMBERS = omega (arith, place.ensures.member, few) in
     let below_entry_rows : at < ENTRY_ROWS = omega (arith, own.0, c.requires.rows.most) in
-    let moved : (i member : ℕ) → i ≡ at → member ≡ target → LiesAt geometry (logical_at sectors now.sector-index) (row_at rows i) member = λ i member same_row same_member.
+    let moved : (i member : ℕ) → i ≡ at → member ≡ target → LiesAt geometry (logical_at sectors now.sector-index) (row_at rows i) member =
+    λ i member same_row same_member.
     subst (λ (m : ℕ). LiesAt geometry (logical_at sectors now.sector-index) (row_at rows i) m) (sym same_member)
-    (subst (λ (r : ℕ). LiesAt geometry (logical_at sectors now.sector-index) r target) (sym (ap (λ (n : ℕ). row_at rows n) same_row ∙ own.1)) place.ensures.placed) in
+    (subst (λ (r : ℕ). LiesAt geometry (logical_at sectors now.sector-index) r target) (sym (ap (λ (n : ℕ). row_at rows n) same_row ∙ own.1))
+    place.ensures.placed) in
     record {
       numbers = now.invariant.numbers;
       form = now.invariant.form;
@@ -55,13 +63,15 @@ loop-sector-preserved c =
         | inr other ↦
             let earlier : k < now.sector-index = omega arith in
             sector_elsewhere now.entry at target i member value below_most_members (omega (arith, place_member_below geometry.limits lies, few))
-            (λ same_row same_member. c.requires.apart k now.sector-index earlier c.loop-sector-test.true (logical_is_one geometry.limits lies (moved i member same_row same_member)))
+            (λ same_row same_member. c.requires.apart k now.sector-index earlier c.loop-sector-test.true
+            (logical_is_one geometry.limits lies (moved i member same_row same_member)))
             ∙ now.invariant.given k i member earlier inside lies
       ];
       others = λ i member inside within not_given.
           sector_elsewhere now.entry at target i member value below_most_members within
           (λ same_row same_member. not_given (record { which = now.sector-index; within = omega arith; lies = moved i member same_row same_member }))
-          ∙ now.invariant.others i member inside within (λ before. not_given (record { which = before.which; within = omega (arith, before.within); lies = before.lies }));
+          ∙ now.invariant.others i member inside within
+          (λ before. not_given (record { which = before.which; within = omega (arith, before.within); lies = before.lies }));
     }
 
 pub loop-sector-init : goal.loop-sector-init
@@ -105,9 +115,16 @@ sector_mut-requires-clause-held c =
     let k = c.loop-sector.sector-index in
     let i = c.place_in-i.result in
     let member = place.result.member in
-    let goes : GoesTo rows place.result.row i = record { within = c.place_in-i.ensures.within; below = c.place_in-i.ensures.below; reached = c.place_in-i.ensures.reached } in
-    let own = goes_to_own rows place.result.row i c.requires.rows.rising goes (c.requires.rows.each k place.result.row member c.loop-sector-test.true place.ensures.placed) in
+    let goes : GoesTo rows place.result.row i = record {
+      within = c.place_in-i.ensures.within;
+      below = c.place_in-i.ensures.below;
+      reached =
+          c.place_in-i.ensures.reached;
+    } in
+    let own = goes_to_own rows place.result.row i c.requires.rows.rising goes
+    (c.requires.rows.each k place.result.row member c.loop-sector-test.true place.ensures.placed) in
     let row_is : row_at (numbers_of old) i ≡ place.result.row = ap (λ (list : List ℕ). row_at list i) c.requires.numbers ∙ own.1 in
     let given : IsChanged geometry sectors (row_at (numbers_of old) i) member = subst (λ (r : ℕ). IsChanged geometry sectors r member) (sym row_is)
     (inl (record { which = k; within = c.loop-sector-test.true; lies = place.ensures.placed })) in
-    ap (λ (form : Form). holds geometry.members form i member) c.loop-sector.invariant.form ∙ (c.requires.held i member (omega (arith, own.0, ap length c.requires.numbers))).1 given
+    ap (λ (form : Form). holds geometry.members form i member) c.loop-sector.invariant.form
+    ∙ (c.requires.held i member (omega (arith, own.0, ap length c.requires.numbers))).1 given

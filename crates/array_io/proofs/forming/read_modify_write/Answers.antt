@@ -21,26 +21,31 @@ loop-member-init g c = record {
   honest = λ honest. honest;
   still = λ honest. honest;
   its_slots = c.requires.its_slots;
-  steps = keeps_none spellings (g.B.Bank.honest c.args.bank.now) c.args.table.now (g.B.Bank.panel c.args.bank.now) (g.B.Bank.history c.args.bank.now) (λ fair. g.met.B.Bank.true_to _ fair);
+  steps = keeps_none spellings (g.B.Bank.honest c.args.bank.now) c.args.table.now (g.B.Bank.panel c.args.bank.now) (g.B.Bank.history c.args.bank.now)
+      (λ fair. g.met.B.Bank.true_to _ fair);
   sum = λ number from values honest at listed. zero_sector-replicate 512 refl ∙ changes_none c.args.entry.now c.args.i values;
 }
 
 pub read_value-requires-clause-member : goal.read_value-requires-clause-member
 read_value-requires-clause-member g c = subst (λ (x : Geometry). c.loop-member.member < x.members)
-    (sym (same_set (g.B.Bank.honest c.args.bank.now) c.args.table.now c.loop-member.table (g.B.Bank.panel c.args.bank.now) (g.B.Bank.panel c.loop-member.bank) (g.B.Bank.history c.args.bank.now) (g.B.Bank.history c.loop-member.bank) c.loop-member.invariant.steps))
+    (sym (same_set (g.B.Bank.honest c.args.bank.now) c.args.table.now c.loop-member.table (g.B.Bank.panel c.args.bank.now) (g.B.Bank.panel c.loop-member.bank)
+    (g.B.Bank.history c.args.bank.now) (g.B.Bank.history c.loop-member.bank) c.loop-member.invariant.steps))
     c.loop-member-test.true
 
 pub read_value-requires-clause-row : goal.read_value-requires-clause-row
 read_value-requires-clause-row g c = subst (λ (x : Geometry). c.from.result < rows_of x.chunk x.stripes)
-    (sym (same_set (g.B.Bank.honest c.args.bank.now) c.args.table.now c.loop-member.table (g.B.Bank.panel c.args.bank.now) (g.B.Bank.panel c.loop-member.bank) (g.B.Bank.history c.args.bank.now) (g.B.Bank.history c.loop-member.bank) c.loop-member.invariant.steps))
+    (sym (same_set (g.B.Bank.honest c.args.bank.now) c.args.table.now c.loop-member.table (g.B.Bank.panel c.args.bank.now) (g.B.Bank.panel c.loop-member.bank)
+    (g.B.Bank.history c.args.bank.now) (g.B.Bank.history c.loop-member.bank) c.loop-member.invariant.steps))
     (subst (λ (r : ℕ). r < rows_of c.args.table.now.geometry.chunk c.args.table.now.geometry.stripes) (sym c.from.ensures) c.requires.row)
 
 pub returns-in_err-read_value-clause-sums : goal.returns-in_err-read_value-clause-sums
 returns-in_err-read_value-clause-sums g c =
     let p = err_from_is_err_and c.from_residual.result c.from_residual.ensures.1 in
     record {
-      steps = rw (p.1, p.2) (keeps_both (g.B.Bank.honest c.args.bank.now) c.args.table.now c.loop-member.table (g.B.Bank.panel c.args.bank.now) (g.B.Bank.panel c.loop-member.bank) (g.B.Bank.history c.args.bank.now) (g.B.Bank.history c.loop-member.bank) c.loop-member.invariant.steps
-          (g.B.Bank.honest c.loop-member.bank) c.loop-member.invariant.honest c.read_value.new.table (g.B.Bank.panel c.read_value.new.bank) (g.B.Bank.history c.read_value.new.bank) (Err c.in_err-read_value.field-0.0) c.in_err-read_value.ensures.steps);
+      steps = rw (p.1, p.2) (keeps_both (g.B.Bank.honest c.args.bank.now) c.args.table.now c.loop-member.table (g.B.Bank.panel c.args.bank.now)
+          (g.B.Bank.panel c.loop-member.bank) (g.B.Bank.history c.args.bank.now) (g.B.Bank.history c.loop-member.bank) c.loop-member.invariant.steps
+          (g.B.Bank.honest c.loop-member.bank) c.loop-member.invariant.honest c.read_value.new.table (g.B.Bank.panel c.read_value.new.bank)
+          (g.B.Bank.history c.read_value.new.bank) (Err c.in_err-read_value.field-0.0) c.in_err-read_value.ensures.steps);
       is_sum = λ number from honest at. rw p.1 tt;
     }
 
@@ -56,20 +61,28 @@ loop-member-preserved g c =
     elim c.match-member.branch [
       | in-Some+in_ok-read_value w ↦
           let held : has_bit (row_mask entry i) now.member ≡ true = ap (λ (m : ℕ). has_bit m now.member) (sym mask) ∙ w.in-Some.ensures.some.0 in
-          let new_is : w.in-Some.new.now ≡ sector_at entry i now.member = w.in-Some.ensures.some.1 ∙ ap (λ (row : List Bytes). slice_index_or row now.member []) c.view-view.ensures.sectors ∙ row_member entry i now.member below_most_members in
+          let new_is : w.in-Some.new.now ≡ sector_at entry i now.member = w.in-Some.ensures.some.1
+          ∙ ap (λ (row : List Bytes). slice_index_or row now.member []) c.view-view.ensures.sectors ∙ row_member entry i now.member below_most_members in
           rw (w.bank-is, w.table-is, w.sum-is) record {
             honest = λ honest. w.read_value.ensures.honest.0 (now.invariant.honest honest);
             still = λ honest. now.invariant.still (w.read_value.ensures.honest.1 honest);
             its_slots = w.read_value.ensures.its_slots;
-            steps = keeps_both (g.B.Bank.honest c.args.bank.now) c.args.table.now c.loop-member.table (g.B.Bank.panel c.args.bank.now) (g.B.Bank.panel c.loop-member.bank) (g.B.Bank.history c.args.bank.now) (g.B.Bank.history c.loop-member.bank) c.loop-member.invariant.steps
-                (g.B.Bank.honest c.loop-member.bank) c.loop-member.invariant.honest w.read_value.new.table (g.B.Bank.panel w.read_value.new.bank) (g.B.Bank.history w.read_value.new.bank) (Ok tt) w.in_ok-read_value.ensures.steps;
+            steps = keeps_both (g.B.Bank.honest c.args.bank.now) c.args.table.now c.loop-member.table (g.B.Bank.panel c.args.bank.now)
+                (g.B.Bank.panel c.loop-member.bank) (g.B.Bank.history c.args.bank.now) (g.B.Bank.history c.loop-member.bank) c.loop-member.invariant.steps
+                (g.B.Bank.honest c.loop-member.bank) c.loop-member.invariant.honest w.read_value.new.table (g.B.Bank.panel w.read_value.new.bank)
+                (g.B.Bank.history w.read_value.new.bank) (Ok tt) w.in_ok-read_value.ensures.steps;
             sum = λ number from values honest at listed.
-                let old : IsListed geometry from.logical c.args.row now.member w.read_value.new.to = subst (λ (r : ℕ). IsListed geometry from.logical r now.member w.read_value.new.to) w.from.ensures
-                (read_listed (g.B.Bank.honest c.args.bank.now) c.args.table.now c.loop-member.table (g.B.Bank.panel c.args.bank.now) (g.B.Bank.panel c.loop-member.bank) (g.B.Bank.history c.args.bank.now) (g.B.Bank.history c.loop-member.bank) c.loop-member.invariant.steps
-                (g.B.Bank.honest c.loop-member.bank) c.loop-member.invariant.honest w.read_value.new.table (g.B.Bank.panel w.read_value.new.bank) (g.B.Bank.history w.read_value.new.bank) spellings (λ fair. g.met.B.Bank.true_to _ (w.read_value.ensures.honest.0 (now.invariant.honest fair)))
-                w.in_ok-read_value.ensures.steps now.member w.from.result w.read_value.new.to c.loop-member-test.true (subst in_set (sym w.from.ensures) c.requires.row)
+                let old : IsListed geometry from.logical c.args.row now.member w.read_value.new.to =
+                subst (λ (r : ℕ). IsListed geometry from.logical r now.member w.read_value.new.to) w.from.ensures
+                (read_listed (g.B.Bank.honest c.args.bank.now) c.args.table.now c.loop-member.table (g.B.Bank.panel c.args.bank.now)
+                (g.B.Bank.panel c.loop-member.bank) (g.B.Bank.history c.args.bank.now) (g.B.Bank.history c.loop-member.bank) c.loop-member.invariant.steps
+                (g.B.Bank.honest c.loop-member.bank) c.loop-member.invariant.honest w.read_value.new.table (g.B.Bank.panel w.read_value.new.bank)
+                (g.B.Bank.history w.read_value.new.bank) spellings (λ fair. g.met.B.Bank.true_to _ (w.read_value.ensures.honest.0 (now.invariant.honest fair)))
+                w.in_ok-read_value.ensures.steps now.member w.from.result w.read_value.new.to c.loop-member-test.true
+                (subst in_set (sym w.from.ensures) c.requires.row)
                 (w.in_ok-read_value.ensures.gives (now.invariant.honest honest)) honest number from at) in
-                w.delta.ensures ∙ changes_held entry i values now.member now.sum w.read_value.new.to w.in-Some.new.now (now.invariant.sum number from values honest at listed) (old values listed) held new_is;
+                w.delta.ensures ∙ changes_held entry i values now.member now.sum w.read_value.new.to w.in-Some.new.now
+                (now.invariant.sum number from values honest at listed) (old values listed) held new_is;
           }
       | in_default w ↦
           let lacking : has_bit (row_mask entry i) now.member ≡ false = ap (λ (m : ℕ). has_bit m now.member) (sym mask) ∙ w.in_default.ensures.none refl in
@@ -78,7 +91,8 @@ loop-member-preserved g c =
             still = now.invariant.still;
             its_slots = now.invariant.its_slots;
             steps = now.invariant.steps;
-            sum = λ number from values honest at listed. changes_lacking entry i values now.member now.sum (now.invariant.sum number from values honest at listed) lacking;
+            sum = λ number from values honest at listed. changes_lacking entry i values now.member now.sum
+                (now.invariant.sum number from values honest at listed) lacking;
           }
     ]
 
@@ -88,7 +102,8 @@ returns-clause-sums g c =
     record {
       steps = c.loop-member.invariant.steps;
       is_sum = λ number from honest at values listed. c.loop-member.invariant.sum number from values honest at listed
-          ∙ ap (changes_below c.args.entry.now c.args.i values) at_end ∙ changes_all c.args.table.now.geometry.members c.args.entry.now c.args.i values listed.long listed.sound;
+          ∙ ap (changes_below c.args.entry.now c.args.i values) at_end
+          ∙ changes_all c.args.table.now.geometry.members c.args.entry.now c.args.i values listed.long listed.sound;
     }
 
 pub read_value-requires-clause-its_slots : goal.read_value-requires-clause-its_slots

@@ -11,7 +11,8 @@ invariant-loop-member g l = record {
   honest : g.B.Bank.honest l.initial.bank → g.B.Bank.honest l.bank;
   still : g.B.Bank.honest l.bank → g.B.Bank.honest l.initial.bank;
   its_slots : HasItsSlots l.table (g.B.Bank.panel l.bank);
-  steps : KeepsOn (g.B.Bank.honest l.initial.bank) l.initial.table l.table (g.B.Bank.panel l.initial.bank) (g.B.Bank.panel l.bank) (g.B.Bank.history l.initial.bank) (g.B.Bank.history l.bank) (Ok tt);
+  steps : KeepsOn (g.B.Bank.honest l.initial.bank) l.initial.table l.table (g.B.Bank.panel l.initial.bank) (g.B.Bank.panel l.bank)
+      (g.B.Bank.history l.initial.bank) (g.B.Bank.history l.bank) (Ok tt);
   sum : (number : ℕ) (from : KeepsFrom) (values : List Bytes) → g.B.Bank.honest l.initial.bank
       → Between (g.B.Bank.panel l.initial.bank).devices number from l.initial.table (g.B.Bank.history l.initial.bank)
       → IsListedRow l.initial.table.geometry from.logical l.row values → l.sum ≡ changes_below l.entry l.i values l.member;

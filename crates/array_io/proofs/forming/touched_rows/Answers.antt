@@ -51,7 +51,8 @@ returns c =
       least = omega (arith, first.within);
       most = omega (arith, now.invariant.few, now.auto.sector-index-end, c.requires.most);
       rising = now.invariant.rising;
-      of_set = λ i inside. let touched = only i inside in place_row_below geometry.limits (c.requires.of_set touched.given.which touched.given.within) touched.given.lies;
+      of_set = λ i inside. let touched = only i inside in place_row_below geometry.limits (c.requires.of_set touched.given.which touched.given.within)
+          touched.given.lies;
       each = each;
       only = only;
     }

@@ -39,7 +39,8 @@ loop-i-preserved g c =
     let few : members ≤ MOST_MEMBERS = omega (arith, c.args.geometry.now.limits.members_most) in
     record {
       place = omega (arith, now.invariant.place, c.in_ok-at.ensures.beyond, before_on members form now.i);
-      numbers = numbers_more rows _ _ _ now.i _ (omega (arith, ap length deref, c.loop-i-test.true)) (ap (λ (list : List ℕ). get_or list now.i 0) deref) now.invariant.numbers c.push.ensures.numbers c.load_row.ensures.numbers;
+      numbers = numbers_more rows _ _ _ now.i _ (omega (arith, ap length deref, c.loop-i-test.true)) (ap (λ (list : List ℕ). get_or list now.i 0) deref)
+          now.invariant.numbers c.push.ensures.numbers c.load_row.ensures.numbers;
       count = omega (arith, ap length c.load_row.ensures.numbers, ap length c.push.ensures.numbers, length-append {A = ℕ}, now.invariant.count);
       panel = later_both _ _ _ now.invariant.panel c.load_row.ensures.panel;
       honest = λ honest. c.load_row.ensures.honest.0 (now.invariant.honest honest);
@@ -53,7 +54,8 @@ loop-i-preserved g c =
             let there = ap (λ (n : ℕ). holds members form n member) (sym same) ∙ on in
             let place : now.at + count_held (holds members form now.i) member ≡ body_start c.args.seal.now.number + rank members form now.i member =
             omega (arith, now.invariant.place) in
-            rw same (read_before c.args.journal _ _ _ (now.invariant.read honest) place (c.in_ok-at.ensures.loaded member (now.invariant.honest honest) within there))
+            rw same (read_before c.args.journal _ _ _ (now.invariant.read honest) place
+            (c.in_ok-at.ensures.loaded member (now.invariant.honest honest) within there))
         | inr other ↦
             sector_kept now.entry c.push.new.self c.load_row.new.entry k member _ (c.load_row.ensures.others k member other (omega arith))
             (c.push.ensures.others k member (omega (arith, now.invariant.count)) (omega arith)) (now.invariant.loaded k member honest (omega arith) within on)
@@ -105,7 +107,8 @@ pub returns-in_err-at-clause-loaded : goal.returns-in_err-at-clause-loaded
 returns-in_err-at-clause-loaded g c = λ i member honest below within on. rw (err_from_is_err_and c.from_residual.result c.from_residual.ensures.1).1 tt
 
 pub returns-in_err-at-clause-others_stay : goal.returns-in_err-at-clause-others_stay
-returns-in_err-at-clause-others_stay g c = λ other honest apart. c.load_row.ensures.others_stay other (c.loop-i.invariant.honest honest) apart ∙ c.loop-i.invariant.stays other honest
+returns-in_err-at-clause-others_stay g c = λ other honest apart. c.load_row.ensures.others_stay other (c.loop-i.invariant.honest honest) apart
+    ∙ c.loop-i.invariant.stays other honest
 
 pub returns-in_err-at-clause-none_failed : goal.returns-in_err-at-clause-none_failed
 returns-in_err-at-clause-none_failed g c = λ device honest. rw (err_from_is_err_and c.from_residual.result c.from_residual.ensures.1).1 tt
@@ -125,7 +128,8 @@ pub returns-clause-read : goal.returns-clause-read
 returns-clause-read g c = c.loop-i.invariant.read
 
 pub returns-clause-numbers : goal.returns-clause-numbers
-returns-clause-numbers g c = c.loop-i.invariant.numbers ∙ take_all c.loop-i.i c.args.seal.now.rows.items (omega (arith, ap length c.deref-row-items.ensures.0, c.loop-i-test.false))
+returns-clause-numbers g c = c.loop-i.invariant.numbers
+    ∙ take_all c.loop-i.i c.args.seal.now.rows.items (omega (arith, ap length c.deref-row-items.ensures.0, c.loop-i-test.false))
 
 pub returns-clause-loaded : goal.returns-clause-loaded
 returns-clause-loaded g c = λ k member honest below within on.
@@ -148,4 +152,10 @@ load_row-requires-clause-end g c =
     let members = c.args.geometry.now.members in
     let form = c.args.seal.now.form in
     let below : c.loop-i.i + 1 ≤ ENTRY_ROWS = omega (arith, ap length c.deref-row-items.ensures.0, c.loop-i-test.true, c.args.seal.now.allowed.rows_most) in
-    omega (arith, c.loop-i.invariant.place, before_on members form c.loop-i.i, before_few members form (c.loop-i.i + 1) c.args.geometry.now.limits.members_most below)
+    omega (
+      arith,
+      c.loop-i.invariant.place,
+      before_on members form c.loop-i.i,
+      before_few members form (c.loop-i.i + 1) c.args.geometry.now.limits.members_most
+          below,
+    )

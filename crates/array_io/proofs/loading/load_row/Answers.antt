@@ -47,9 +47,11 @@ loop-member-preserved g c =
             numbers = now.invariant.numbers;
             form = now.invariant.form;
             loaded = λ honest.
-                let is = read_before journal _ _ _ (now.invariant.read honest) now.invariant.place (w.in_ok-read_sector.ensures.bytes (now.invariant.honest honest)) in
+                let is = read_before journal _ _ _ (now.invariant.read honest) now.invariant.place
+                (w.in_ok-read_sector.ensures.bytes (now.invariant.honest honest)) in
                 loaded_more entry c.args.i c.args.first now.member in_row _ _ below within is (now.invariant.loaded honest);
-            stays = λ device honest. none_of_read journal device _ (w.in_ok-read_sector.ensures.history (now.invariant.honest honest)) ∙ now.invariant.stays device honest;
+            stays = λ device honest. none_of_read journal device _ (w.in_ok-read_sector.ensures.history (now.invariant.honest honest))
+                ∙ now.invariant.stays device honest;
             others = λ other k apart wide.
                 sector_elsewhere entry c.args.i now.member other k _ within wide (λ same. absurd (apart same)) ∙ now.invariant.others other k apart wide;
           }
@@ -114,7 +116,8 @@ returns-in_err-read_sector-clause-honest g c = (
 )
 
 pub returns-in_err-read_sector-clause-read : goal.returns-in_err-read_sector-clause-read
-returns-in_err-read_sector-clause-read g c = λ honest. read_both (c.loop-member.invariant.read honest) (read_one c.args.journal _ (c.read_sector.ensures.history (c.loop-member.invariant.honest honest)))
+returns-in_err-read_sector-clause-read g c = λ honest. read_both (c.loop-member.invariant.read honest)
+    (read_one c.args.journal _ (c.read_sector.ensures.history (c.loop-member.invariant.honest honest)))
 
 pub returns-in_err-read_sector-clause-numbers : goal.returns-in_err-read_sector-clause-numbers
 returns-in_err-read_sector-clause-numbers g c = c.loop-member.invariant.numbers
@@ -125,7 +128,8 @@ returns-in_err-read_sector-clause-loaded g c = λ member honest within on. rw (e
 pub returns-in_err-read_sector-clause-others : goal.returns-in_err-read_sector-clause-others
 returns-in_err-read_sector-clause-others g c = λ other member apart wide.
     let within : c.loop-member.member < MOST_MEMBERS = omega (arith, c.requires.members, c.loop-member-test.true) in
-    sector_elsewhere c.loop-member.entry c.args.i c.loop-member.member other member _ within wide (λ same. absurd (apart same)) ∙ c.loop-member.invariant.others other member apart wide
+    sector_elsewhere c.loop-member.entry c.args.i c.loop-member.member other member _ within wide (λ same. absurd (apart same))
+    ∙ c.loop-member.invariant.others other member apart wide
 
 pub returns-in_err-read_sector-clause-none_failed : goal.returns-in_err-read_sector-clause-none_failed
 returns-in_err-read_sector-clause-none_failed g c = λ device honest. rw (err_from_is_err_and c.from_residual.result c.from_residual.ensures.1).1 tt

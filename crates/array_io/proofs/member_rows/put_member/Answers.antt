@@ -22,7 +22,8 @@ pub returns-clause-puts : goal.returns-clause-puts
 returns-clause-puts g c =
     let entry = c.args.entry.now in
     member_flushed c.args.table.now (rows_held entry) c.args.member (g.B.Bank.panel c.args.bank.now) (g.B.Bank.panel c.write_rows.new.bank)
-    (g.B.Bank.panel c.flush_device.new.bank) c.flush_device.result c.requires.on c.requires.can c.write_rows.ensures.panel c.flush_device.ensures.panel c.flush_device.ensures.err
+    (g.B.Bank.panel c.flush_device.new.bank) c.flush_device.result c.requires.on c.requires.can c.write_rows.ensures.panel c.flush_device.ensures.panel
+    c.flush_device.ensures.err
     (at_ok c.flush_device.result c.flush_device.ensures.up) (λ honest. g.met.B.Bank.true_to _ honest)
     (λ honest. g.met.B.Bank.true_to _ (c.flush_device.ensures.honest.0 (c.write_rows.ensures.honest.0 honest))) c.in_ok-write_rows.ensures.written
     (λ honest. c.flush_device.ensures.history (c.write_rows.ensures.honest.0 honest))

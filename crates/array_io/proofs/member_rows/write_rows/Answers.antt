@@ -25,7 +25,8 @@ returns-in_err-write_sector-clause-written g c = λ honest.
       count = i + 1;
       most = omega (arith, within);
       made = rows_next table of member i (c.loop-i.invariant.made honest)
-          (row_wrote table of member i (g.B.Bank.panel c.write_sector.new.bank) (Err c.in_err-write_sector.field-0.0) c.row-row.result _ c.row-row.ensures c.in-Some.ensures.some.1
+          (row_wrote table of member i (g.B.Bank.panel c.write_sector.new.bank) (Err c.in_err-write_sector.field-0.0) c.row-row.result _ c.row-row.ensures
+          c.in-Some.ensures.some.1
           (c.in_err-write_sector.ensures.history now) (λ ok. absurd (cc)) (g.met.B.Bank.true_to _ still) c.in-Some.ensures.some.0);
       all = λ ok. absurd (cc);
     }

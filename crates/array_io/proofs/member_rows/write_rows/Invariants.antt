@@ -12,5 +12,6 @@ invariant-loop-i g l = record {
   panel : IsLater (g.B.Bank.panel l.initial.bank) (g.B.Bank.panel l.bank);
   honest : g.B.Bank.honest l.initial.bank → g.B.Bank.honest l.bank;
   still : g.B.Bank.honest l.bank → g.B.Bank.honest l.initial.bank;
-  made : g.B.Bank.honest l.initial.bank → Made (row_calls l.table (rows_held l.entry) l.member l.i) true (g.B.Bank.history l.initial.bank) (g.B.Bank.history l.bank);
+  made : g.B.Bank.honest l.initial.bank → Made (row_calls l.table (rows_held l.entry) l.member l.i) true (g.B.Bank.history l.initial.bank)
+      (g.B.Bank.history l.bank);
 }

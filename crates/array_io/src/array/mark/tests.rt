@@ -116,8 +116,8 @@ fn check_marking(rt: &(impl Abort + AllocGlobal), set: &Set, steps: &[Step], new
     check_marked(rt, &mut bank, &set.slots, new);
 }
 
-// Asks for the superblocks of generation 1 in place 1 of each slot, and those of generation 2 in place 0 of each slot that
-// is not out then.
+// Asks for the superblocks of generation 1 in place 1 of each slot, and those of generation 2 in place 0 of each slot
+// that is not out then.
 fn check_marked(rt: &impl Abort, bank: &mut MemBank, old: &Slots, new: &Slots) {
     for slot in 0..5 {
         check_sector(rt, bank, slot, 1, &superblock(1, slot, old));
@@ -136,7 +136,8 @@ const FRESH: Set = Set {
     failures: &[],
 };
 
-// The marking has two calls of each other slot. When it is missing already, no device is called. Another one may not go.
+// The marking has two calls of each other slot. When it is missing already, no device is called. Another one may not
+// go.
 const MARKS: &[Step] = &[
     (Call::Mark(4, Ok(())), 8, 2, WITHOUT_4),
     (Call::Mark(4, Ok(())), 0, 2, WITHOUT_4),

@@ -1,4 +1,5 @@
-//! A set of 3 members, chunk 8 and 32 stripes, whose row 32 has logical sector 72 on member 0, its parity on member 1 and logical sector 64 on member 2.
+//! A set of 3 members, chunk 8 and 32 stripes, whose row 32 has logical sector 72 on member 0, its parity on member 1
+//! and logical sector 64 on member 2.
 use crate::array::mark::tests::{Call, Set, Step, check};
 use crate::testing::{REBUILDING_2_TO_32, REBUILDING_2_TO_33, WHOLE, WITHOUT_2};
 

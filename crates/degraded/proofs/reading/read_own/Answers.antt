@@ -17,7 +17,8 @@ returns-clause-reads g c =
     old (g.B.Bank.history c.read_sector.new.bank) c.read_sector.new.to c.read_sector.result c.read_sector.ensures.panel
     (λ honest. read_one c.args.member _ (c.read_sector.ensures.history honest))
     (λ honest. own_given slots c.args.row c.args.member old c.read_sector.new.to c.read_sector.result c.requires.own
-    (read_up c.args.member (FIRST_ROW + c.args.row) old c.read_sector.new.to c.read_sector.result c.read_sector.ensures.panel (g.met.B.Bank.true_to c.args.bank.now honest)
+    (read_up c.args.member (FIRST_ROW + c.args.row) old c.read_sector.new.to c.read_sector.result c.read_sector.ensures.panel
+    (g.met.B.Bank.true_to c.args.bank.now honest)
     c.read_sector.ensures.up (c.read_sector.ensures.bytes honest)))
     (λ honest. one_failed _ _ new_panel c.args.member c.read_sector.result (c.read_sector.ensures.history honest) c.read_sector.ensures.err)
     (stop_of slots c.args.row c.args.member new_panel c.read_sector.result c.requires.member c.requires.own c.read_sector.ensures.err)

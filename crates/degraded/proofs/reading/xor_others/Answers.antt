@@ -31,7 +31,8 @@ read_own-requires-clause-can g c = can_read_later c.loop-other.invariant.panel c
 
 pub read_own-requires-clause-own : goal.read_own-requires-clause-own
 read_own-requires-clause-own g c =
-    other_read (slots_of c.args.live.now) c.args.row c.args.member c.loop-other.other c.requires.can.one_out c.requires.member c.loop-other-test.true c.if-other-member.true c.requires.out
+    other_read (slots_of c.args.live.now) c.args.row c.args.member c.loop-other.other c.requires.can.one_out c.requires.member c.loop-other-test.true
+    c.if-other-member.true c.requires.out
 
 pub loop-other-preserved : goal.loop-other-preserved
 loop-other-preserved g c =

@@ -15,9 +15,11 @@ loop-slot-preserved g c =
     let slot = c.loop-slot.slot in
     let on : slot ≤ slot = omega arith in
     record {
-      safe = safe_next (λ k file flag. IsMadeSafe g.G.Growing.tells g.G.Growing.told g.G.Growing.is_safe (IsGivenUp g.G.Growing.has_failed g.G.Growing.sync_failed) (file_in first k) file flag)
+      safe = safe_next (λ k file flag. IsMadeSafe g.G.Growing.tells g.G.Growing.told g.G.Growing.is_safe
+          (IsGivenUp g.G.Growing.has_failed g.G.Growing.sync_failed) (file_in first k) file flag)
           was is c.loop-slot.files.unsynced c.make_slot_safe.new.files.unsynced slot inv.safe done.others done.other_flags
-          (subst (λ file. IsMadeSafe g.G.Growing.tells g.G.Growing.told g.G.Growing.is_safe (IsGivenUp g.G.Growing.has_failed g.G.Growing.sync_failed) file (file_in is slot)
+          (subst (λ file. IsMadeSafe g.G.Growing.tells g.G.Growing.told g.G.Growing.is_safe (IsGivenUp g.G.Growing.has_failed g.G.Growing.sync_failed) file
+          (file_in is slot)
           (flag_in c.make_slot_safe.new.files.unsynced slot)) (inv.untouched slot on) done.safe);
       untouched = untouched_next first was is slot inv.untouched done.others;
       locked = λ all. kept_at (λ k file. k < 10 → IfSome file g.G.Growing.is_locked) was is slot (inv.locked all) done.others

@@ -12,7 +12,8 @@ loop-slot-preserved g c =
     record {
       count = grind (arith, common_steps);
       room = grind (arith, common_steps);
-      opened = below_more (λ (k : ℕ). IsOpenedAs (g.D.SlotFiles.opens c.args.disk.now (slot_path c.args.folder.now k)) (file_in files k) (barred_in barred k)) slot
+      opened = below_more (λ (k : ℕ). IsOpenedAs (g.D.SlotFiles.opens c.args.disk.now (slot_path c.args.folder.now k)) (file_in files k) (barred_in barred k))
+          slot
           (λ k under.
           let same_file : file_in files k ≡ file_in c.loop-slot.files.items k = search rules in
           let same_reason : barred_in barred k ≡ barred_in c.loop-slot.barred k = search rules in

@@ -15,7 +15,8 @@ loop-slot-preserved g c =
     let told = g.D.File.Growing.told in
     record {
       undone = λ tells. rw c.and-done.ensures (and_ok c.loop-slot.done c.undo_slot.result _ _ _ (inv.undone tells) (this.undone tells)
-          (λ below here. taken_next told Removed c.args.files.now.before c.loop-slot.files.before first was is slot inv.notes below inv.untouched this.others here));
+          (λ below here. taken_next told Removed c.args.files.now.before c.loop-slot.files.before first was is slot inv.notes below inv.untouched this.others
+          here));
       same = same_next c.args.files.now.before c.loop-slot.files.before first was is slot inv.notes inv.same inv.untouched this.others this.same;
       untouched = untouched_next first was is slot inv.untouched this.others;
       notes = this.notes ∙ inv.notes;

@@ -15,7 +15,8 @@ loop-extent-preserved c =
       | in-Some+else-not-within+else-ne w ↦ λ owner at.
           let mine : Owned = w.in-Some.owner in
           let same : mine ≡ owner = let is = w.in-Some.is in cc in
-          let within : mine.place < extents_of (extent_blocks c.args.version) (record_of c.args.records.now mine.volume) = let one = w.extents_of_volume.ensures in let two = w.if-not-within.false in omega arith in
+          let within : mine.place < extents_of (extent_blocks c.args.version) (record_of c.args.records.now mine.volume) = let one =
+          w.extents_of_volume.ensures in let two = w.if-not-within.false in omega arith in
           let found : w.first_at.result ≡ Some extent = is_number w.first_at.result extent (not_false (sym w.ne.ensures ∙ w.if-ne.false)) in
           let P : Owned → Type 0 = λ one. Fits (extent_blocks c.args.version) c.args.records.now extents extent one in
           subst P same (record { within = within; first = found_owner extents extent mine w.first_at.result w.first_at.ensures found })

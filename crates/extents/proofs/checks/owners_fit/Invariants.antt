@@ -7,4 +7,5 @@ use Rattle.extents.specs.Versions.{extent_blocks}
 use Rattle.extents.proofs.checks.owners_fit.Given as goal
 
 abbrev pub invariant-loop-extent : goal.invariant-loop-extent
-invariant-loop-extent l = (e : ℕ) → e < l.extent → (owner : Owned) → owner_of l.extents e ≡ Some owner → Fits (extent_blocks l.version) l.records l.extents e owner
+invariant-loop-extent l = (e : ℕ) → e < l.extent → (owner : Owned) → owner_of l.extents e ≡ Some owner
+    → Fits (extent_blocks l.version) l.records l.extents e owner

@@ -19,9 +19,12 @@ loop-number-preserved c =
     let pushed : now ≡ items ++ one ∷ [] = c.push.ensures.items in
     record {
       count = omega (arith, ap length pushed, length-append items (one ∷ []));
-      spelled = spelled_more owner_bytes (cell 4 128 first c.args.from.now) items now number one pushed c.loop-number.invariant.count c.loop-number.invariant.spelled bytes;
+      spelled = spelled_more owner_bytes (cell 4 128 first c.args.from.now) items now number one pushed c.loop-number.invariant.count
+          c.loop-number.invariant.spelled bytes;
       first = λ all long room spell.
-          let found : c.read_owner.result ≡ Some (get_or all number None) = c.read_owner.ensures.exact (get_or all number None) (room number) (sym read ∙ ap (λ (n : ℕ). cell 4 128 n c.args.from.now number) place ∙ spell number c.loop-number-test.true) in
+          let found : c.read_owner.result ≡ Some (get_or all number None) =
+          c.read_owner.ensures.exact (get_or all number None) (room number) (sym read ∙ ap (λ (n : ℕ). cell 4 128 n c.args.from.now number) place
+          ∙ spell number c.loop-number-test.true) in
           let was : c.read_owner.result ≡ Some one = c.in_ok-read_owner.was in
           let same : one ≡ get_or all number None = cc in
           first_more all items now number one pushed (c.loop-number.invariant.first all long room spell) (omega arith) same;
@@ -31,8 +34,10 @@ pub returns-clause-some : goal.returns-clause-some
 returns-clause-some c =
     let last = c.loop-number-test.false in
     let long : length c.loop-number.extents.items ≡ MOST_EXTENTS = omega (arith, c.loop-number.invariant.count, last, c.loop-number.auto.number-end) in
-    rw (all_read c.into_inner.result c.ok.result c.loop-number.extents.items MOST_EXTENTS c.ok.ensures.value c.into_inner.ensures.variant c.into_inner.ensures.ok long)
-    (λ number within. ap (λ (n : ℕ). cell 4 128 n c.args.from.now number) (ap (λ (n : ℕ). 1 + n) (sym c.record_sectors-first.ensures.number)) ∙ c.loop-number.invariant.spelled number (omega (arith, within, last)))
+    rw (all_read c.into_inner.result c.ok.result c.loop-number.extents.items MOST_EXTENTS c.ok.ensures.value c.into_inner.ensures.variant
+    c.into_inner.ensures.ok long)
+    (λ number within. ap (λ (n : ℕ). cell 4 128 n c.args.from.now number) (ap (λ (n : ℕ). 1 + n) (sym c.record_sectors-first.ensures.number))
+    ∙ c.loop-number.invariant.spelled number (omega (arith, within, last)))
 
 pub returns-clause-exact : goal.returns-clause-exact
 returns-clause-exact c = λ all many room spell.

@@ -10,5 +10,6 @@ abbrev pub invariant-loop-number : goal.invariant-loop-number
 invariant-loop-number l = record {
   count : length l.extents.items ≡ l.number;
   spelled : (k : ℕ) → k < l.number → cell 4 128 l.first l.from k ≡ owner_bytes (get_or l.extents.items k None);
-  first : (extents : List (Option Owned)) → length extents ≡ MOST_EXTENTS → OwnersHaveRoom extents → SpellExtents l.version l.from extents → l.extents.items ≡ take l.number extents;
+  first : (extents : List (Option Owned)) → length extents ≡ MOST_EXTENTS → OwnersHaveRoom extents → SpellExtents l.version l.from extents
+      → l.extents.items ≡ take l.number extents;
 }

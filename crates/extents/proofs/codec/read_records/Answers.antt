@@ -14,9 +14,11 @@ loop-number-preserved c =
     let pushed : now ≡ items ++ one ∷ [] = c.push.ensures.items in
     record {
       count = omega (arith, ap length pushed, length-append items (one ∷ []));
-      read = one_more_read (IsRecordAt c.args.version c.args.from.now) items now number one pushed c.loop-number.invariant.count c.loop-number.invariant.read c.in_ok-record_at.ensures.some;
+      read = one_more_read (IsRecordAt c.args.version c.args.from.now) items now number one pushed c.loop-number.invariant.count c.loop-number.invariant.read
+          c.in_ok-record_at.ensures.some;
       first = λ all long read.
-          let found : c.record_at.result ≡ Some (get_or all number None) = c.record_at.ensures.exact (get_or all number None) (read number c.loop-number-test.true) in
+          let found : c.record_at.result ≡ Some (get_or all number None) =
+          c.record_at.ensures.exact (get_or all number None) (read number c.loop-number-test.true) in
           let was : c.record_at.result ≡ Some one = c.in_ok-record_at.was in
           let same : one ≡ get_or all number None = cc in
           first_more all items now number one pushed (c.loop-number.invariant.first all long read) (omega arith) same;
@@ -26,7 +28,8 @@ pub returns-clause-some : goal.returns-clause-some
 returns-clause-some c =
     let last = c.loop-number-test.false in
     let long : length c.loop-number.records.items ≡ MOST_VOLUMES = omega (arith, c.loop-number.invariant.count, last, c.loop-number.auto.number-end) in
-    rw (all_read c.into_inner.result c.ok.result c.loop-number.records.items MOST_VOLUMES c.ok.ensures.value c.into_inner.ensures.variant c.into_inner.ensures.ok long)
+    rw (all_read c.into_inner.result c.ok.result c.loop-number.records.items MOST_VOLUMES c.ok.ensures.value c.into_inner.ensures.variant
+    c.into_inner.ensures.ok long)
     (λ number within. c.loop-number.invariant.read number (omega (arith, within, last)))
 
 pub returns-clause-exact : goal.returns-clause-exact

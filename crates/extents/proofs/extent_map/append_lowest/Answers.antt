@@ -3,7 +3,8 @@ use Rattle.std.proofs.Common.{◌<◌, not, length, ◌∙◌, ap, arith}
 use Rattle.std.proofs.lemmas.List.{set-get_or}
 use Rattle.extents.proofs.TakeLemmas.{append_gives, append_passes_owned, append_passes_rest}
 use Rattle.extents.proofs.extent_map.append_lowest.Goals as goal
-use Rattle.extents.proofs.extent_map.append_lowest.Goals.{then-taken-n+then-is_none, else-taken-n, else-taken-n-via-then-taken-n+else-is_none, else-taken-n-via-else-taken-n}
+use Rattle.extents.proofs.extent_map.append_lowest.Goals.{then-taken-n+then-is_none, else-taken-n, else-taken-n-via-then-taken-n+else-is_none}
+use Rattle.extents.proofs.extent_map.append_lowest.Goals.{else-taken-n-via-else-taken-n}
 
 pub loop-owner-preserved : goal.loop-owner-preserved
 loop-owner-preserved c =

@@ -11,4 +11,5 @@ write_used-requires c = record {
 }
 
 pub returns-in_default : goal.returns-in_default
-returns-in_default c = c.fill.ensures.after (λ y same. cc) ∙ filled (length c.args.to.now) (record_width c.args.version) c.requires.long ∙ ap (record_bytes c.args.version) (sym c.in_default.is)
+returns-in_default c = c.fill.ensures.after (λ y same. cc) ∙ filled (length c.args.to.now) (record_width c.args.version) c.requires.long
+    ∙ ap (record_bytes c.args.version) (sym c.in_default.is)

@@ -13,7 +13,15 @@ bounds-to-0 c = omega (arith, long_zeros (record_width c.args.version) c.args.to
 
 pub slice_bounds-copy_from_slice-end : goal.slice_bounds-copy_from_slice-end
 slice_bounds-copy_from_slice-end c =
-    omega (arith, length-set c.args.to.now 0 (length c.bytes-name.result.now), long_zeros (record_width c.args.version) c.args.to.now c.requires.clear, ap length c.bytes-name.ensures, c.requires.short, (numbers_fit c.args.version).name, (numbers_fit c.args.version).blocks)
+    omega (
+      arith,
+      length-set c.args.to.now 0 (length c.bytes-name.result.now),
+      long_zeros (record_width c.args.version) c.args.to.now c.requires.clear,
+      ap length c.bytes-name.ensures,
+      c.requires.short,
+      (numbers_fit c.args.version).name,
+      (numbers_fit c.args.version).blocks,
+    )
 
 pub slice_bounds-write_u32-end : goal.slice_bounds-write_u32-end
 slice_bounds-write_u32-end c =
@@ -26,7 +34,14 @@ slice_bounds-write_u32-end c =
     let fits = (numbers_fit c.args.version).name in
     let ends = (numbers_fit c.args.version).blocks in
     let written : length c.copy_from_slice.new.self ≡ 1 + n - 1 = omega (arith, ap length c.copy_from_slice.ensures.after) in
-    omega (arith, length-put_mid 1 (1 + n - 1) start c.copy_from_slice.new.self (omega arith) written, long_zeros (record_width c.args.version) c.args.to.now c.requires.clear, c.blocks_at-at.ensures.number, (numbers_fit c.args.version).blocks)
+    omega (
+      arith,
+      length-put_mid 1 (1 + n - 1) start c.copy_from_slice.new.self (omega arith) written,
+      long_zeros (record_width c.args.version) c.args.to.now
+          c.requires.clear,
+      c.blocks_at-at.ensures.number,
+      (numbers_fit c.args.version).blocks,
+    )
 
 pub returns : goal.returns
 returns c =
@@ -35,7 +50,8 @@ returns c =
     let at = c.blocks_at-at.result in
     let same : c.copy_from_slice.new.self ≡ name = c.copy_from_slice.ensures.after ∙ c.bytes-name.ensures in
     let long : length name ≡ n = sym (ap length c.bytes-name.ensures) in
-    let number : c.write_u32.new.buf ≡ little_bytes 4 c.args.used.now.blocks = c.write_u32.ensures ∙ written_at at 4 (little_bytes 4 c.args.used.now.blocks) _ in
+    let number : c.write_u32.new.buf ≡ little_bytes 4 c.args.used.now.blocks = c.write_u32.ensures
+    ∙ written_at at 4 (little_bytes 4 c.args.used.now.blocks) _ in
     let k : 1 + n - 1 ≡ n = omega arith in
     let four : at + 4 - at ≡ 4 = omega arith in
     ap (λ (xs : List ℕ). put_mid at (at + 4 - at) (put_mid 1 (1 + n - 1) (set c.args.to.now 0 n) xs) c.write_u32.new.buf) same

@@ -1,7 +1,8 @@
 use Rattle.std.proofs.Common.{◌≡◌, true, false, Some, ap, get_or, arith}
 use Rattle.extents.proofs.FirstSectors.{first_byte, past_first, first_spelled, version_said}
 use Rattle.extents.proofs.version.version_of.Goals as goal
-use Rattle.extents.proofs.version.version_of.Goals.{then-byte-ge-LAST_VERSION-via-then-byte-ge-LAST_VERSION, then-byte-ge-LAST_VERSION-via-else-byte-ge-LAST_VERSION+then-not-is_zero_beyond}
+use Rattle.extents.proofs.version.version_of.Goals.{then-byte-ge-LAST_VERSION-via-then-byte-ge-LAST_VERSION}
+use Rattle.extents.proofs.version.version_of.Goals.{then-byte-ge-LAST_VERSION-via-else-byte-ge-LAST_VERSION+then-not-is_zero_beyond}
 
 pub returns-then-byte-ge-LAST_VERSION-clause-exact : goal.returns-then-byte-ge-LAST_VERSION-clause-exact
 returns-then-byte-ge-LAST_VERSION-clause-exact c = λ version one is. absurd (
@@ -21,4 +22,5 @@ returns-clause-some c =
     ((omega arith, omega arith), first_spelled c.args.first.now c.told-first (c.is_zero_beyond.ensures.0 c.if-not-is_zero_beyond.false))
 
 pub returns-clause-exact : goal.returns-clause-exact
-returns-clause-exact c = λ version one is. ap (λ (n : _). Some n) (version_said (get_or c.args.first.now 0 0) version one (first_byte c.args.first.now version is))
+returns-clause-exact c = λ version one is. ap (λ (n : _). Some n)
+    (version_said (get_or c.args.first.now 0 0) version one (first_byte c.args.first.now version is))

@@ -10,17 +10,21 @@ returns-then-eq c =
     let records = c.args.records.now in
     let number = c.loop-number.number in
     let one = c.in-Some.record in
-    let at : record_of records number ≡ Some one = read_at records number c.index-records-number.result c.loop-number-test.true c.index-records-number.is ∙ c.in-Some.is in
-    let same : one.name.bytes.items ≡ c.args.name.now = sym c.bytes.ensures ∙ (bytes_eq-Decides c.bytes.result.now c.args.name.now).0 (sym c.eq.ensures ∙ c.if-eq.true) in
+    let at : record_of records number ≡ Some one = read_at records number c.index-records-number.result c.loop-number-test.true c.index-records-number.is
+    ∙ c.in-Some.is in
+    let same : one.name.bytes.items ≡ c.args.name.now = sym c.bytes.ensures
+    ∙ (bytes_eq-Decides c.bytes.result.now c.args.name.now).0 (sym c.eq.ensures ∙ c.if-eq.true) in
     record { entry = one; used = at; named = same; as_long = refl }
 
 pub loop-number-preserved : goal.loop-number-preserved
 loop-number-preserved c =
     let records = c.args.records.now in
     let number = c.loop-number.number in
-    let read : record_of records number ≡ c.index-records-number.result = read_at records number c.index-records-number.result c.loop-number-test.true c.index-records-number.is in
+    let read : record_of records number ≡ c.index-records-number.result =
+    read_at records number c.index-records-number.result c.loop-number-test.true c.index-records-number.is in
     below_more _ _ c.loop-number.invariant (elim c.match-record.branch [
-      | in-Some+else-eq w ↦ not_named records number w.in-Some.record c.args.name.now (read ∙ w.in-Some.is) (rw (← w.bytes.ensures) (sym w.eq.ensures ∙ w.if-eq.false))
+      | in-Some+else-eq w ↦ not_named records number w.in-Some.record c.args.name.now (read ∙ w.in-Some.is)
+          (rw (← w.bytes.ensures) (sym w.eq.ensures ∙ w.if-eq.false))
       | in_default w ↦ λ named. w.in_default.not-Some named.0 (sym read ∙ named.1)
     ])
 

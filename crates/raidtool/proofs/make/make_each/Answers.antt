@@ -21,7 +21,8 @@ loop-slot-preserved g c =
           (inv.kept tells) inv.untouched done.others (done.kept tells);
       noted = λ tells. noted_next g.D.File.Growing.told (λ k. g.D.SlotFiles.creates c.args.disk.now (slot_path c.args.folder.now k))
           (λ k. 512 * least_sectors c.args.geometry.now k) first was is c.args.files.now.before c.loop-slot.files.before c.lengthen_slot.new.files.before
-          c.loop-slot.slot c.bytes_of-bytes.result (inv.noted tells) inv.untouched inv.unnoted c.bytes_of-bytes.ensures done.others done.other_notes (done.noted tells);
+          c.loop-slot.slot c.bytes_of-bytes.result (inv.noted tells) inv.untouched inv.unnoted c.bytes_of-bytes.ensures done.others done.other_notes
+          (done.noted tells);
       unnoted = notes_next c.args.files.now.before c.loop-slot.files.before c.lengthen_slot.new.files.before c.loop-slot.slot inv.unnoted done.other_notes;
       safe = made_after (λ k file. IsSomeAnd file g.D.File.Growing.is_safe) was is c.loop-slot.slot inv.safe done.others done.safe;
       untouched = untouched_next first was is c.loop-slot.slot inv.untouched done.others;

@@ -11,7 +11,8 @@ invariant-loop-slot g l = record {
       (λ old new. g.D.File.Growing.told new ≡ lengthened (512 * least_sectors l.geometry k) (g.D.File.Growing.told old));
   kept : IsTrue g.D.File.Growing.tells → (k : ℕ) → StaysOrMade (IsCreated (g.D.SlotFiles.creates l.disk (slot_path l.folder k)))
       (file_in l.initial.files.files.items k) (file_in l.files.files.items k) (λ old new. Begins (g.D.File.Growing.told old) (g.D.File.Growing.told new));
-  noted : IsTrue g.D.File.Growing.tells → (k : ℕ) → IsNotedIn g.D.File.Growing.told (g.D.SlotFiles.creates l.disk (slot_path l.folder k)) (512 * least_sectors l.geometry k)
+  noted : IsTrue g.D.File.Growing.tells → (k : ℕ) → IsNotedIn g.D.File.Growing.told (g.D.SlotFiles.creates l.disk (slot_path l.folder k))
+      (512 * least_sectors l.geometry k)
       (before_in l.initial.files.before k) (file_in l.initial.files.files.items k) (file_in l.files.files.items k) (before_in l.files.before k);
   unnoted : (k : ℕ) → l.slot ≤ k → before_in l.files.before k ≡ before_in l.initial.files.before k;
   safe : (k : ℕ) → k < l.slot → IsSomeAnd (file_in l.files.files.items k) g.D.File.Growing.is_safe;

@@ -5,7 +5,8 @@ use Rattle.raidtool.proofs.Taken.{at_any_rate, barred_blamed, barred_passing, ba
 use Rattle.raidtool.proofs.make.make_in.Goals as goal
 
 pub returns-clause-opened : goal.returns-clause-opened
-returns-clause-opened g c = at_any_rate c.make_over-made.result (were_taken _ _ _ _ (λ slot. g.D.SlotFiles.opens c.args.disk.now (slot_path c.args.folder.now slot))
+returns-clause-opened g c = at_any_rate c.make_over-made.result
+    (were_taken _ _ _ _ (λ slot. g.D.SlotFiles.opens c.args.disk.now (slot_path c.args.folder.now slot))
     c.in_ok-files.files.files.items c.in_ok-files.files.unsynced c.in_ok-files.files.barred (λ slot. slot < c.args.geometry.members + 2) (λ _. ⊥)
     c.in_ok-files.ensures.safe (λ slot under needed. let from : 0 ≤ slot = omega arith in c.in_ok-refuse_unsynced.ensures.none slot from needed under)
     (none_barred (λ _. ⊥) c.in_ok-files.files.barred
@@ -15,7 +16,8 @@ pub returns-in_err-refuse_unsynced-clause-named : goal.returns-in_err-refuse_uns
 returns-in_err-refuse_unsynced-clause-named g c =
     let from = err_from_is_err_and c.from_residual-in_err-refuse_unsynced.result c.from_residual-in_err-refuse_unsynced.ensures.1 in
     rw (from.1, from.2) (unsynced_blamed _ _ _ _ _ (λ slot. g.D.SlotFiles.opens c.args.disk.now (slot_path c.args.folder.now slot))
-    c.in_ok-files.files.files.items c.in_ok-files.files.unsynced c.in_ok-files.files.barred (g.D.SlotFiles.opens c.args.disk.now) (g.D.SlotFiles.creates c.args.disk.now) c.args.folder.now
+    c.in_ok-files.files.files.items c.in_ok-files.files.unsynced c.in_ok-files.files.barred (g.D.SlotFiles.opens c.args.disk.now)
+    (g.D.SlotFiles.creates c.args.disk.now) c.args.folder.now
     _ _ _ c.in_ok-files.ensures.safe c.in_err-refuse_unsynced.ensures.fault)
 
 pub returns-in_err-refuse_barred-clause-fault : goal.returns-in_err-refuse_barred-clause-fault

@@ -26,7 +26,8 @@ pub returns-then-not-is_whole-clause-whole : goal.returns-then-not-is_whole-clau
 returns-then-not-is_whole-clause-whole g c = λ is. absurd (false≢true is)
 
 pub returns-then-not-is_whole-clause-lost : goal.returns-then-not-is_whole-clause-lost
-returns-then-not-is_whole-clause-lost g c = λ is all. c.is_whole.ensures.lost c.if-not-is_whole.true (all c.loop-other.other c.loop-other-test.true c.if-other-slot.true)
+returns-then-not-is_whole-clause-lost g c = λ is all. c.is_whole.ensures.lost c.if-not-is_whole.true
+    (all c.loop-other.other c.loop-other-test.true c.if-other-slot.true)
 
 pub returns-clause-whole : goal.returns-clause-whole
 returns-clause-whole g c = λ is other below. c.loop-other.invariant other (omega (arith, below, c.loop-other-test.false))

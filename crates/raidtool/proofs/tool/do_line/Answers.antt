@@ -10,7 +10,8 @@ pub returns-in_ok-geometry-in-Make-clause-does : goal.returns-in_ok-geometry-in-
 returns-in_ok-geometry-in-Make-clause-does g c =
     let geometry = c.in_ok-geometry-in-Make in
     rw c.in-Make.is (made_done c.in-Make.folder c.in-Make.id c.in-Make.members c.in-Make.chunk c.in-Make.stripes geometry.geometry c.make_set.result
-    (streams (g.R.Read.remaining c.args.reader.now) (g.W.Write.contents c.args.out.now)) (streams (g.R.Read.remaining c.args.reader.now) (g.W.Write.contents c.make_set.new.out))
+    (streams (g.R.Read.remaining c.args.reader.now) (g.W.Write.contents c.args.out.now))
+    (streams (g.R.Read.remaining c.args.reader.now) (g.W.Write.contents c.make_set.new.out))
     (record {
       members_is = geometry.ensures.members;
       chunk_is = geometry.ensures.chunk;
@@ -30,14 +31,16 @@ returns-in-Replace-clause-in_folder g c =
 pub returns-in-Replace-clause-does : goal.returns-in-Replace-clause-does
 returns-in-Replace-clause-does g c =
     rw c.in-Replace.is (replaced_done c.in-Replace.folder c.in-Replace.id c.in-Replace.slot c.replace_in_folder.result
-    (streams (g.R.Read.remaining c.args.reader.now) (g.W.Write.contents c.args.out.now)) (streams (g.R.Read.remaining c.args.reader.now) (g.W.Write.contents c.replace_in_folder.new.out))
+    (streams (g.R.Read.remaining c.args.reader.now) (g.W.Write.contents c.args.out.now))
+    (streams (g.R.Read.remaining c.args.reader.now) (g.W.Write.contents c.replace_in_folder.new.out))
     c.replace_in_folder.ensures.replaced c.replace_in_folder.ensures.written)
 
 pub returns-in_default : goal.returns-in_default
 returns-in_default g c =
     let served = c.serve_folder.ensures in
     record {
-      in_folder = served_in (g.D.SlotFiles.opens c.args.disk.now) _ (g.D.InspectFiles.inspects c.args.disk.now) (λ folder. g.D.FolderSync.is_safe c.args.disk.now folder ⊎ g.D.FolderSync.is_never c.args.disk.now folder)
+      in_folder = served_in (g.D.SlotFiles.opens c.args.disk.now) _ (g.D.InspectFiles.inspects c.args.disk.now)
+          (λ folder. g.D.FolderSync.is_safe c.args.disk.now folder ⊎ g.D.FolderSync.is_never c.args.disk.now folder)
           c.args.line c.serve_folder.result c.in_default.not-Make c.in_default.not-Replace c.in_default.not-Examine served.opened;
       does = served.does;
       read = served.read;

@@ -7,28 +7,35 @@ use Rattle.raidtool.proofs.Statuses.{cut_status}
 use Rattle.raidtool.proofs.tool.do_on.Goals as goal
 
 pub returns-in-Status-clause-cut : goal.returns-in-Status-clause-cut
-returns-in-Status-clause-cut g c = λ _. IfErr-weaker c.tell_on.result _ _ (λ refusal part cut. rw c.in-Status.is (cut_status _ _ _ _ _ _ (part cut))) c.tell_on.ensures.cut
+returns-in-Status-clause-cut g c = λ _. IfErr-weaker c.tell_on.result _ _ (λ refusal part cut. rw c.in-Status.is (cut_status _ _ _ _ _ _ (part cut)))
+    c.tell_on.ensures.cut
 
 pub returns-in-Fail-clause-does : goal.returns-in-Fail-clause-does
 returns-in-Fail-clause-does g c = rw c.in-Fail.is (ok_then _ _ _ (failed_by _ _ _ _ _) c.apply_on.ensures.applied)
 
 pub returns-in-Fail-clause-cut : goal.returns-in-Fail-clause-cut
-returns-in-Fail-clause-cut g c = λ _. IfErr-weaker c.apply_on.result _ _ (λ refusal part cut. rw c.in-Fail.is (failed_by _ _ _ _ _ (part cut)).1) c.apply_on.ensures.cut
+returns-in-Fail-clause-cut g c = λ _. IfErr-weaker c.apply_on.result _ _ (λ refusal part cut. rw c.in-Fail.is (failed_by _ _ _ _ _ (part cut)).1)
+    c.apply_on.ensures.cut
 
 pub returns-in-Rebuild-clause-cut : goal.returns-in-Rebuild-clause-cut
-returns-in-Rebuild-clause-cut g c = λ _. IfErr-weaker c.rebuild_on.result _ _ (λ refusal part cut. rw c.in-Rebuild.is (told_progress _ _ _ _ _ (part cut))) c.rebuild_on.ensures.cut
+returns-in-Rebuild-clause-cut g c = λ _. IfErr-weaker c.rebuild_on.result _ _ (λ refusal part cut. rw c.in-Rebuild.is (told_progress _ _ _ _ _ (part cut)))
+    c.rebuild_on.ensures.cut
 
 pub returns-in-Scrub-clause-does : goal.returns-in-Scrub-clause-does
-returns-in-Scrub-clause-does g c = rw (c.in-Scrub.is, sym c.of_set-bank-in-Scrub.ensures.bank) (ok_then _ _ _ (scrubbed_by _ _ _ _) c.apply_on-in-Scrub.ensures.applied)
+returns-in-Scrub-clause-does g c = rw (c.in-Scrub.is, sym c.of_set-bank-in-Scrub.ensures.bank)
+    (ok_then _ _ _ (scrubbed_by _ _ _ _) c.apply_on-in-Scrub.ensures.applied)
 
 pub returns-in-Scrub-clause-cut : goal.returns-in-Scrub-clause-cut
-returns-in-Scrub-clause-cut g c = λ _. IfErr-weaker c.apply_on-in-Scrub.result _ _ (λ refusal part cut. rw c.in-Scrub.is (told_scrub _ _ _ _ (scrubbed_by _ _ _ _ (part cut)))) c.apply_on-in-Scrub.ensures.cut
+returns-in-Scrub-clause-cut g c = λ _. IfErr-weaker c.apply_on-in-Scrub.result _ _
+    (λ refusal part cut. rw c.in-Scrub.is (told_scrub _ _ _ _ (scrubbed_by _ _ _ _ (part cut)))) c.apply_on-in-Scrub.ensures.cut
 
 pub returns-in-Upgrade-clause-does : goal.returns-in-Upgrade-clause-does
 returns-in-Upgrade-clause-does g c = rw c.in-Upgrade.is (ok_then _ _ _ (upgraded_by _ _ _ _) c.apply_on-in-Upgrade.ensures.applied)
 
 pub returns-in-Upgrade-clause-end : goal.returns-in-Upgrade-clause-end
-returns-in-Upgrade-clause-end g c = IfErr-weaker c.apply_on-in-Upgrade.result _ _ (λ refusal ends. rw c.in-Upgrade.is (upgrade_end refusal ends)) c.apply_on-in-Upgrade.ensures.end
+returns-in-Upgrade-clause-end g c = IfErr-weaker c.apply_on-in-Upgrade.result _ _ (λ refusal ends. rw c.in-Upgrade.is (upgrade_end refusal ends))
+    c.apply_on-in-Upgrade.ensures.end
 
 pub returns-in-Upgrade-clause-cut : goal.returns-in-Upgrade-clause-cut
-returns-in-Upgrade-clause-cut g c = λ _. IfErr-weaker c.apply_on-in-Upgrade.result _ _ (λ refusal part cut. rw c.in-Upgrade.is (upgraded_by _ _ _ _ (part cut)).1) c.apply_on-in-Upgrade.ensures.cut
+returns-in-Upgrade-clause-cut g c = λ _. IfErr-weaker c.apply_on-in-Upgrade.result _ _
+    (λ refusal part cut. rw c.in-Upgrade.is (upgraded_by _ _ _ _ (part cut)).1) c.apply_on-in-Upgrade.ensures.cut

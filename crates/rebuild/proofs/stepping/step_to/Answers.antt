@@ -47,7 +47,8 @@ next_of-next-requires-clause-generation g c = omega (
 )
 
 pub publish_last-requires-clause-step : goal.publish_last-requires-clause-step
-publish_last-requires-clause-step g c = next_step c.write_rows.new.table c.next_of-next.result c.args.member c.args.end (subst (λ (t : Table). IsRebuilding t c.args.member)
+publish_last-requires-clause-step g c = next_step c.write_rows.new.table c.next_of-next.result c.args.member c.args.end
+    (subst (λ (t : Table). IsRebuilding t c.args.member)
     (sym ((c.write_rows.ensures.writes 0).written (c.in_ok-write_rows.was ∙ ap Ok c.if-not-branch.false)).0) c.requires.rebuilding) c.next_of-next.ensures
 
 pub publish_last-requires-clause-out : goal.publish_last-requires-clause-out
@@ -55,14 +56,16 @@ publish_last-requires-clause-out g c = rebuilding_out c.write_rows.new.table c.a
     (sym ((c.write_rows.ensures.writes 0).written (c.in_ok-write_rows.was ∙ ap Ok c.if-not-branch.false)).0) c.requires.rebuilding)
 
 pub publish_last-requires-clause-there : goal.publish_last-requires-clause-there
-publish_last-requires-clause-there g c = next_there c.write_rows.new.table c.next_of-next.result c.args.member c.args.end (subst (λ (t : Table). IsRebuilding t c.args.member)
+publish_last-requires-clause-there g c = next_there c.write_rows.new.table c.next_of-next.result c.args.member c.args.end
+    (subst (λ (t : Table). IsRebuilding t c.args.member)
     (sym ((c.write_rows.ensures.writes 0).written (c.in_ok-write_rows.was ∙ ap Ok c.if-not-branch.false)).0) c.requires.rebuilding) c.next_of-next.ensures
 
 pub publish_last-requires-clause-up : goal.publish_last-requires-clause-up
 publish_last-requires-clause-up g c = ((c.write_rows.ensures.writes 0).written (c.in_ok-write_rows.was ∙ ap Ok c.if-not-branch.false)).1
 
 pub publish_last-requires-clause-fits : goal.publish_last-requires-clause-fits
-publish_last-requires-clause-fits g c = rebuilding_fits c.write_rows.new.table c.args.member (g.B.Bank.panel c.write_rows.new.bank) (subst (λ (t : Table). IsRebuilding t c.args.member)
+publish_last-requires-clause-fits g c = rebuilding_fits c.write_rows.new.table c.args.member (g.B.Bank.panel c.write_rows.new.bank)
+    (subst (λ (t : Table). IsRebuilding t c.args.member)
     (sym ((c.write_rows.ensures.writes 0).written (c.in_ok-write_rows.was ∙ ap Ok c.if-not-branch.false)).0) c.requires.rebuilding)
     c.write_rows.ensures.its_slots ((c.write_rows.ensures.writes 0).written (c.in_ok-write_rows.was ∙ ap Ok c.if-not-branch.false)).1
 
@@ -72,29 +75,43 @@ invariant_of-array-2 g c = record { its_slots = (c.publish_last.ensures.publishe
 pub returns-in_err-publish_last-clause-steps : goal.returns-in_err-publish_last-clause-steps
 returns-in_err-publish_last-clause-steps g c rows is least =
     let p = err_from_is_err_and c.from_residual-in_err-publish_last.result c.from_residual-in_err-publish_last.ensures.1 in
-    rw (p.1, p.2) ((steps_by (g.B.Bank.honest c.args.array.now.bank) c.args.member c.args.end rows c.args.array.now.entry c.args.array.now.table c.write_rows.new.table c.next_of-next.result
-    c.publish_last.new.table (g.B.Bank.panel c.args.array.now.bank) (g.B.Bank.panel c.write_rows.new.bank) (g.B.Bank.panel c.publish_last.new.bank) (g.B.Bank.history c.args.array.now.bank)
-    (g.B.Bank.history c.write_rows.new.bank) (g.B.Bank.history c.publish_last.new.bank) c.write_rows.result c.publish_last.result c.requires.rebuilding (c.requires.further, is, least)
+    rw (p.1, p.2) ((steps_by (g.B.Bank.honest c.args.array.now.bank) c.args.member c.args.end rows c.args.array.now.entry c.args.array.now.table
+    c.write_rows.new.table c.next_of-next.result
+    c.publish_last.new.table (g.B.Bank.panel c.args.array.now.bank) (g.B.Bank.panel c.write_rows.new.bank) (g.B.Bank.panel c.publish_last.new.bank)
+    (g.B.Bank.history c.args.array.now.bank)
+    (g.B.Bank.history c.write_rows.new.bank) (g.B.Bank.history c.publish_last.new.bank) c.write_rows.result c.publish_last.result c.requires.rebuilding
+    (c.requires.further, is, least)
     (c.write_rows.ensures.writes c.args.array.now.entry) (c.in_ok-write_rows.was ∙ ap Ok c.if-not-branch.false) c.next_of-next.ensures
     (λ fair. g.met.B.Bank.true_to c.write_rows.new.bank (c.write_rows.ensures.honest.0 fair))
-    (published_as c.write_rows.ensures.honest.0 (c.publish_last.ensures.publishes c.args.array.now.entry))).ended c.in_err-publish_last.field-0.0 c.in_err-publish_last.was)
+    (published_as c.write_rows.ensures.honest.0 (c.publish_last.ensures.publishes c.args.array.now.entry))).ended c.in_err-publish_last.field-0.0
+    c.in_err-publish_last.was)
 
 pub returns-then-not-branch-2-clause-steps : goal.returns-then-not-branch-2-clause-steps
-returns-then-not-branch-2-clause-steps g c rows is least = (steps_by (g.B.Bank.honest c.args.array.now.bank) c.args.member c.args.end rows c.args.array.now.entry c.args.array.now.table c.write_rows.new.table c.next_of-next.result
-    c.publish_last.new.table (g.B.Bank.panel c.args.array.now.bank) (g.B.Bank.panel c.write_rows.new.bank) (g.B.Bank.panel c.publish_last.new.bank) (g.B.Bank.history c.args.array.now.bank)
-    (g.B.Bank.history c.write_rows.new.bank) (g.B.Bank.history c.publish_last.new.bank) c.write_rows.result c.publish_last.result c.requires.rebuilding (c.requires.further, is, least)
+returns-then-not-branch-2-clause-steps g c rows is least =
+    (steps_by (g.B.Bank.honest c.args.array.now.bank) c.args.member c.args.end rows c.args.array.now.entry c.args.array.now.table c.write_rows.new.table
+    c.next_of-next.result
+    c.publish_last.new.table (g.B.Bank.panel c.args.array.now.bank) (g.B.Bank.panel c.write_rows.new.bank) (g.B.Bank.panel c.publish_last.new.bank)
+    (g.B.Bank.history c.args.array.now.bank)
+    (g.B.Bank.history c.write_rows.new.bank) (g.B.Bank.history c.publish_last.new.bank) c.write_rows.result c.publish_last.result c.requires.rebuilding
+    (c.requires.further, is, least)
     (c.write_rows.ensures.writes c.args.array.now.entry) (c.in_ok-write_rows.was ∙ ap Ok c.if-not-branch.false) c.next_of-next.ensures
     (λ fair. g.met.B.Bank.true_to c.write_rows.new.bank (c.write_rows.ensures.honest.0 fair))
-    (published_as c.write_rows.ensures.honest.0 (c.publish_last.ensures.publishes c.args.array.now.entry))).failed (c.in_ok-publish_last.was ∙ ap Ok c.if-not-branch-2.true)
+    (published_as c.write_rows.ensures.honest.0 (c.publish_last.ensures.publishes c.args.array.now.entry))).failed
+    (c.in_ok-publish_last.was ∙ ap Ok c.if-not-branch-2.true)
 
 pub progress_at-requires : goal.progress_at-requires
 progress_at-requires g c = subst (λ (x : Geometry). c.args.end ≤ rows_of x.chunk x.stripes)
-    (sym ((c.publish_last.ensures.publishes 0).goes_on.not_older.same_geometry ∙ (c.write_rows.ensures.writes 0).goes_on.not_older.same_geometry)) c.requires.of_set
+    (sym ((c.publish_last.ensures.publishes 0).goes_on.not_older.same_geometry ∙ (c.write_rows.ensures.writes 0).goes_on.not_older.same_geometry))
+    c.requires.of_set
 
 pub returns-clause-steps : goal.returns-clause-steps
-returns-clause-steps g c rows is least = (steps_by (g.B.Bank.honest c.args.array.now.bank) c.args.member c.args.end rows c.args.array.now.entry c.args.array.now.table c.write_rows.new.table c.next_of-next.result
-    c.publish_last.new.table (g.B.Bank.panel c.args.array.now.bank) (g.B.Bank.panel c.write_rows.new.bank) (g.B.Bank.panel c.publish_last.new.bank) (g.B.Bank.history c.args.array.now.bank)
-    (g.B.Bank.history c.write_rows.new.bank) (g.B.Bank.history c.publish_last.new.bank) c.write_rows.result c.publish_last.result c.requires.rebuilding (c.requires.further, is, least)
+returns-clause-steps g c rows is least = (steps_by (g.B.Bank.honest c.args.array.now.bank) c.args.member c.args.end rows c.args.array.now.entry
+    c.args.array.now.table c.write_rows.new.table c.next_of-next.result
+    c.publish_last.new.table (g.B.Bank.panel c.args.array.now.bank) (g.B.Bank.panel c.write_rows.new.bank) (g.B.Bank.panel c.publish_last.new.bank)
+    (g.B.Bank.history c.args.array.now.bank)
+    (g.B.Bank.history c.write_rows.new.bank) (g.B.Bank.history c.publish_last.new.bank) c.write_rows.result c.publish_last.result c.requires.rebuilding
+    (c.requires.further, is, least)
     (c.write_rows.ensures.writes c.args.array.now.entry) (c.in_ok-write_rows.was ∙ ap Ok c.if-not-branch.false) c.next_of-next.ensures
     (λ fair. g.met.B.Bank.true_to c.write_rows.new.bank (c.write_rows.ensures.honest.0 fair))
-    (published_as c.write_rows.ensures.honest.0 (c.publish_last.ensures.publishes c.args.array.now.entry))).done (c.in_ok-publish_last.was ∙ ap Ok c.if-not-branch-2.false) c.progress_at.result c.progress_at.ensures
+    (published_as c.write_rows.ensures.honest.0 (c.publish_last.ensures.publishes c.args.array.now.entry))).done
+    (c.in_ok-publish_last.was ∙ ap Ok c.if-not-branch-2.false) c.progress_at.result c.progress_at.ensures

@@ -25,7 +25,8 @@ loop-i-preserved g c =
     let i = c.loop-i.i in
     let none : c.is_among.result ≡ false = search rules in
     record {
-      of_set = below_one_more (λ (k : ℕ). logical_at sectors k < data_sectors_of c.args.table.now.geometry.members c.args.table.now.geometry.chunk c.args.table.now.geometry.stripes)
+      of_set = below_one_more (λ (k : ℕ). logical_at sectors k < data_sectors_of c.args.table.now.geometry.members c.args.table.now.geometry.chunk
+          c.args.table.now.geometry.stripes)
           i c.loop-i.invariant.of_set (omega (arith, c.data_sectors.ensures));
       apart = λ j k below within. elim (cases_eq k i) [
         | inl same ↦ λ equal. false≢true (sym none ∙ c.is_among.ensures.1

@@ -14,25 +14,37 @@ returns-in_err-table-clause-assembles g c =
 pub returns-in_err-number-clause-assembles : goal.returns-in_err-number-clause-assembles
 returns-in_err-number-clause-assembles g c =
     let p = err_from_is_err_and c.from_residual-in_err-number.result c.from_residual-in_err-number.ensures.1 in
-    rw (p.1, p.2) (unassembled_set spellings (g.B.Bank.honest c.args.bank.now) (g.B.Bank.honest c.put_in_order.new.bank) (λ fair. c.put_in_order.ensures.honest.0 fair) c.args.id.now
-    (bank_view (g.B.Bank.panel c.args.bank.now) (g.B.Bank.history c.args.bank.now)) (g.B.Bank.panel c.put_in_order.new.bank) (g.B.Bank.panel c.settle_entry.new.bank)
+    rw (p.1, p.2) (unassembled_set spellings (g.B.Bank.honest c.args.bank.now) (g.B.Bank.honest c.put_in_order.new.bank)
+    (λ fair. c.put_in_order.ensures.honest.0 fair) c.args.id.now
+    (bank_view (g.B.Bank.panel c.args.bank.now) (g.B.Bank.history c.args.bank.now)) (g.B.Bank.panel c.put_in_order.new.bank)
+    (g.B.Bank.panel c.settle_entry.new.bank)
     (g.B.Bank.history c.put_in_order.new.bank) (g.B.Bank.history c.settle_entry.new.bank) c.in_ok-table.table c.settle_entry.new.table
-    (λ fair. g.met.B.Bank.true_to _ (c.put_in_order.ensures.honest.0 fair)) (λ fair. g.met.B.Bank.true_to _ (c.settle_entry.ensures.honest.0 (c.put_in_order.ensures.honest.0 fair)))
+    (λ fair. g.met.B.Bank.true_to _ (c.put_in_order.ensures.honest.0 fair))
+    (λ fair. g.met.B.Bank.true_to _ (c.settle_entry.ensures.honest.0 (c.put_in_order.ensures.honest.0 fair)))
     c.in_ok-table.ensures.puts (Err c.in_err-number.field-0.0) c.in_err-number.ensures.settles c.in_err-number.field-0.0 refl)
 
 pub returns-clause-assembles : goal.returns-clause-assembles
 returns-clause-assembles g c =
-    assembled_set spellings (g.B.Bank.honest c.args.bank.now) (g.B.Bank.honest c.put_in_order.new.bank) (λ fair. c.put_in_order.ensures.honest.0 fair) c.args.id.now
-    (bank_view (g.B.Bank.panel c.args.bank.now) (g.B.Bank.history c.args.bank.now)) (g.B.Bank.panel c.put_in_order.new.bank) (g.B.Bank.panel c.settle_entry.new.bank)
+    assembled_set spellings (g.B.Bank.honest c.args.bank.now) (g.B.Bank.honest c.put_in_order.new.bank) (λ fair. c.put_in_order.ensures.honest.0 fair)
+    c.args.id.now
+    (bank_view (g.B.Bank.panel c.args.bank.now) (g.B.Bank.history c.args.bank.now)) (g.B.Bank.panel c.put_in_order.new.bank)
+    (g.B.Bank.panel c.settle_entry.new.bank)
     (g.B.Bank.history c.put_in_order.new.bank) (g.B.Bank.history c.settle_entry.new.bank) c.in_ok-table.table c.settle_entry.new.table
-    (λ fair. g.met.B.Bank.true_to _ (c.put_in_order.ensures.honest.0 fair)) (λ fair. g.met.B.Bank.true_to _ (c.settle_entry.ensures.honest.0 (c.put_in_order.ensures.honest.0 fair)))
+    (λ fair. g.met.B.Bank.true_to _ (c.put_in_order.ensures.honest.0 fair))
+    (λ fair. g.met.B.Bank.true_to _ (c.settle_entry.ensures.honest.0 (c.put_in_order.ensures.honest.0 fair)))
     c.in_ok-table.ensures.puts (Ok c.in_ok-number.number) c.in_ok-number.ensures.settles c.in_ok-number.number refl
 
 pub returns-in_err-number-clause-honest : goal.returns-in_err-number-clause-honest
-returns-in_err-number-clause-honest g c = (λ honest. c.settle_entry.ensures.honest.0 (c.put_in_order.ensures.honest.0 honest), λ honest. c.put_in_order.ensures.honest.1 (c.settle_entry.ensures.honest.1 honest))
+returns-in_err-number-clause-honest g c = (
+  λ honest. c.settle_entry.ensures.honest.0 (c.put_in_order.ensures.honest.0 honest),
+  λ honest. c.put_in_order.ensures.honest.1 (c.settle_entry.ensures.honest.1 honest),
+)
 
 pub returns-clause-honest : goal.returns-clause-honest
-returns-clause-honest g c = (λ honest. c.settle_entry.ensures.honest.0 (c.put_in_order.ensures.honest.0 honest), λ honest. c.put_in_order.ensures.honest.1 (c.settle_entry.ensures.honest.1 honest))
+returns-clause-honest g c = (
+  λ honest. c.settle_entry.ensures.honest.0 (c.put_in_order.ensures.honest.0 honest),
+  λ honest. c.put_in_order.ensures.honest.1 (c.settle_entry.ensures.honest.1 honest),
+)
 
 pub returns-clause-its_slots : goal.returns-clause-its_slots
 returns-clause-its_slots g c = c.settle_entry.ensures.its_slots
@@ -45,18 +57,24 @@ returns-in_err-table-clause-unwritten g c =
 pub returns-in_err-number-clause-unwritten : goal.returns-in_err-number-clause-unwritten
 returns-in_err-number-clause-unwritten g c =
     let p = err_from_is_err_and c.from_residual-in_err-number.result c.from_residual-in_err-number.ensures.1 in
-    rw (p.1, p.2) (set_unwritten spellings (g.B.Bank.honest c.args.bank.now) (g.B.Bank.honest c.put_in_order.new.bank) (λ fair. c.put_in_order.ensures.honest.0 fair) c.args.id.now
-    (bank_view (g.B.Bank.panel c.args.bank.now) (g.B.Bank.history c.args.bank.now)) (g.B.Bank.panel c.put_in_order.new.bank) (g.B.Bank.panel c.settle_entry.new.bank)
+    rw (p.1, p.2) (set_unwritten spellings (g.B.Bank.honest c.args.bank.now) (g.B.Bank.honest c.put_in_order.new.bank)
+    (λ fair. c.put_in_order.ensures.honest.0 fair) c.args.id.now
+    (bank_view (g.B.Bank.panel c.args.bank.now) (g.B.Bank.history c.args.bank.now)) (g.B.Bank.panel c.put_in_order.new.bank)
+    (g.B.Bank.panel c.settle_entry.new.bank)
     (g.B.Bank.history c.put_in_order.new.bank) (g.B.Bank.history c.settle_entry.new.bank) c.in_ok-table.table c.settle_entry.new.table
-    (λ fair. g.met.B.Bank.true_to _ (c.put_in_order.ensures.honest.0 fair)) (λ fair. g.met.B.Bank.true_to _ (c.settle_entry.ensures.honest.0 (c.put_in_order.ensures.honest.0 fair)))
+    (λ fair. g.met.B.Bank.true_to _ (c.put_in_order.ensures.honest.0 fair))
+    (λ fair. g.met.B.Bank.true_to _ (c.settle_entry.ensures.honest.0 (c.put_in_order.ensures.honest.0 fair)))
     c.in_ok-table.ensures.puts (Err c.in_err-number.field-0.0) c.in_err-number.ensures.settles
     (given_back (g.B.Bank.panel c.settle_entry.new.bank) (g.B.Bank.history c.settle_entry.new.bank) c.in_err-number.field-0.0) refl)
 
 pub returns-clause-unwritten : goal.returns-clause-unwritten
 returns-clause-unwritten g c =
-    set_unwritten spellings (g.B.Bank.honest c.args.bank.now) (g.B.Bank.honest c.put_in_order.new.bank) (λ fair. c.put_in_order.ensures.honest.0 fair) c.args.id.now
-    (bank_view (g.B.Bank.panel c.args.bank.now) (g.B.Bank.history c.args.bank.now)) (g.B.Bank.panel c.put_in_order.new.bank) (g.B.Bank.panel c.settle_entry.new.bank)
+    set_unwritten spellings (g.B.Bank.honest c.args.bank.now) (g.B.Bank.honest c.put_in_order.new.bank) (λ fair. c.put_in_order.ensures.honest.0 fair)
+    c.args.id.now
+    (bank_view (g.B.Bank.panel c.args.bank.now) (g.B.Bank.history c.args.bank.now)) (g.B.Bank.panel c.put_in_order.new.bank)
+    (g.B.Bank.panel c.settle_entry.new.bank)
     (g.B.Bank.history c.put_in_order.new.bank) (g.B.Bank.history c.settle_entry.new.bank) c.in_ok-table.table c.settle_entry.new.table
-    (λ fair. g.met.B.Bank.true_to _ (c.put_in_order.ensures.honest.0 fair)) (λ fair. g.met.B.Bank.true_to _ (c.settle_entry.ensures.honest.0 (c.put_in_order.ensures.honest.0 fair)))
+    (λ fair. g.met.B.Bank.true_to _ (c.put_in_order.ensures.honest.0 fair))
+    (λ fair. g.met.B.Bank.true_to _ (c.settle_entry.ensures.honest.0 (c.put_in_order.ensures.honest.0 fair)))
     c.in_ok-table.ensures.puts (Ok c.in_ok-number.number) c.in_ok-number.ensures.settles
     (opened (g.B.Bank.panel c.settle_entry.new.bank) (g.B.Bank.history c.settle_entry.new.bank) c.settle_entry.new.table c.in_ok-number.number) refl

@@ -9,5 +9,6 @@ abbrev pub invariant-loop-slot : goal.invariant-loop-slot
 invariant-loop-slot g l = record {
   ten : length l.slots ≡ 10;
   below : (k : ℕ) → k < l.slot
-      → IsExaminedSlot (g.B.Bank.honest l.bank) (bank_view (g.B.Bank.panel l.bank) (g.B.Bank.history l.bank)) l.survey.table k (slice_index_or l.slots k unexamined);
+      → IsExaminedSlot (g.B.Bank.honest l.bank) (bank_view (g.B.Bank.panel l.bank) (g.B.Bank.history l.bank)) l.survey.table k
+      (slice_index_or l.slots k unexamined);
 }

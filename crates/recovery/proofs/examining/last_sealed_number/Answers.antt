@@ -10,7 +10,8 @@ use Rattle.recovery.proofs.examining.last_sealed_number.Goals as goal
 pub returns-in-Ok-clause-reads : goal.returns-in-Ok-clause-reads
 returns-in-Ok-clause-reads g c =
     last_read (g.B.Bank.honest c.args.bank.now) (bank_view (g.B.Bank.panel c.args.bank.now) (g.B.Bank.history c.args.bank.now))
-    (bank_view (g.B.Bank.panel c.last_sealed.new.bank) (g.B.Bank.history c.last_sealed.new.bank)) c.args.table.now c.args.journal c.in-Ok.last c.number_in.result
+    (bank_view (g.B.Bank.panel c.last_sealed.new.bank) (g.B.Bank.history c.last_sealed.new.bank)) c.args.table.now c.args.journal c.in-Ok.last
+    c.number_in.result
     c.last_sealed.ensures.panel (λ fair. two_reads (c.last_sealed.ensures.made fair)) (λ fair. c.in-Ok.ensures.last fair) c.number_in.ensures
 
 pub returns-in-Err-Down-clause-reads : goal.returns-in-Err-Down-clause-reads

@@ -18,8 +18,10 @@ returns-in_err-lower-clause-finds g c =
     rw (p.1, p.2) (λ number.
     let old = array_on g.B.Bank c.args.bank.now c.args.table.now number in
     let mid = array_on g.B.Bank c.seal_or_fail_slot.new.bank c.seal_or_fail_slot.new.table number in
-    brings_from honest (KnowsSeals unknown) MayWrite found old mid (Err c.in_err-lower.field-0.0) (λ from writes. begins_unknown from c.args.table.now (g.B.Bank.history c.args.bank.now) writes)
-    (brings_refused honest (KnowsSeals unknown) (λ last. KnowsSeals (also_known unknown first last)) old mid c.seal_or_fail_slot.result (c.seal_or_fail_slot.ensures.finds number unknown)
+    brings_from honest (KnowsSeals unknown) MayWrite found old mid (Err c.in_err-lower.field-0.0)
+    (λ from writes. begins_unknown from c.args.table.now (g.B.Bank.history c.args.bank.now) writes)
+    (brings_refused honest (KnowsSeals unknown) (λ last. KnowsSeals (also_known unknown first last)) old mid c.seal_or_fail_slot.result
+    (c.seal_or_fail_slot.ensures.finds number unknown)
     found c.in_err-lower.field-0.0 c.in_err-lower.was))
 
 pub returns-in_err-upper-clause-finds : goal.returns-in_err-upper-clause-finds
@@ -34,10 +36,14 @@ returns-in_err-upper-clause-finds g c =
     let old = array_on g.B.Bank c.args.bank.now c.args.table.now number in
     let mid = array_on g.B.Bank c.seal_or_fail_slot.new.bank c.seal_or_fail_slot.new.table number in
     let new = array_on g.B.Bank c.seal_or_fail_slot-2.new.bank c.seal_or_fail_slot-2.new.table number in
-    brings_from honest (KnowsSeals unknown) MayWrite found old new (Err c.in_err-upper.field-0.0) (λ from writes. begins_unknown from c.args.table.now (g.B.Bank.history c.args.bank.now) writes)
-    (brings_then honest still (λ fair. c.seal_or_fail_slot.ensures.honest.0 fair) (KnowsSeals unknown) (KnowsSeals one) found old mid new (Err c.in_err-upper.field-0.0)
-    (brings_value honest (KnowsSeals unknown) (λ last. KnowsSeals (also_known unknown first last)) old mid c.seal_or_fail_slot.result (c.seal_or_fail_slot.ensures.finds number unknown) c.in_ok-lower.lower c.in_ok-lower.was)
-    (brings_refused still (KnowsSeals one) (λ last. KnowsSeals (also_known one (first + 1) last)) mid new c.seal_or_fail_slot-2.result (c.seal_or_fail_slot-2.ensures.finds number one)
+    brings_from honest (KnowsSeals unknown) MayWrite found old new (Err c.in_err-upper.field-0.0)
+    (λ from writes. begins_unknown from c.args.table.now (g.B.Bank.history c.args.bank.now) writes)
+    (brings_then honest still (λ fair. c.seal_or_fail_slot.ensures.honest.0 fair) (KnowsSeals unknown) (KnowsSeals one) found old mid new
+    (Err c.in_err-upper.field-0.0)
+    (brings_value honest (KnowsSeals unknown) (λ last. KnowsSeals (also_known unknown first last)) old mid c.seal_or_fail_slot.result
+    (c.seal_or_fail_slot.ensures.finds number unknown) c.in_ok-lower.lower c.in_ok-lower.was)
+    (brings_refused still (KnowsSeals one) (λ last. KnowsSeals (also_known one (first + 1) last)) mid new c.seal_or_fail_slot-2.result
+    (c.seal_or_fail_slot-2.ensures.finds number one)
     found c.in_err-upper.field-0.0 c.in_err-upper.was)))
 
 pub load_latest-requires-clause-latest : goal.load_latest-requires-clause-latest
@@ -46,9 +52,12 @@ load_latest-requires-clause-latest g c =
     let old = array_on g.B.Bank c.args.bank.now c.args.table.now 0 in
     let mid = array_on g.B.Bank c.seal_or_fail_slot.new.bank c.seal_or_fail_slot.new.table 0 in
     let later = array_on g.B.Bank c.seal_or_fail_slot-2.new.bank c.seal_or_fail_slot-2.new.table 0 in
-    found_of_set old mid later c.in_ok-lower.lower c.in_ok-upper.upper (c.seal_or_fail_slot-2.ensures.finds 0 unknown).goes_on.not_older.same_id c.seal_or_fail_slot.ensures.geometry c.seal_or_fail_slot-2.ensures.geometry
-    c.seal_or_fail_slot-2.ensures.others_stay (IfOk-at_ok (λ last. IsFoundOn c.seal_or_fail_slot.new.table first last) c.in_ok-lower.was c.seal_or_fail_slot.ensures.of_set)
-    (IfOk-at_ok (λ last. IsFoundOn c.seal_or_fail_slot-2.new.table (first + 1) last) c.in_ok-upper.was c.seal_or_fail_slot-2.ensures.of_set) (Some c.in-Some.latest) c.in-Some.ensures
+    found_of_set old mid later c.in_ok-lower.lower c.in_ok-upper.upper (c.seal_or_fail_slot-2.ensures.finds 0 unknown).goes_on.not_older.same_id
+    c.seal_or_fail_slot.ensures.geometry c.seal_or_fail_slot-2.ensures.geometry
+    c.seal_or_fail_slot-2.ensures.others_stay (IfOk-at_ok (λ last. IsFoundOn c.seal_or_fail_slot.new.table first last) c.in_ok-lower.was
+    c.seal_or_fail_slot.ensures.of_set)
+    (IfOk-at_ok (λ last. IsFoundOn c.seal_or_fail_slot-2.new.table (first + 1) last) c.in_ok-upper.was c.seal_or_fail_slot-2.ensures.of_set)
+    (Some c.in-Some.latest) c.in-Some.ensures
 
 pub returns-in-Some-clause-finds : goal.returns-in-Some-clause-finds
 returns-in-Some-clause-finds g c = λ number.
@@ -59,12 +68,18 @@ returns-in-Some-clause-finds g c = λ number.
     let old = array_on g.B.Bank c.args.bank.now c.args.table.now number in
     let mid = array_on g.B.Bank c.seal_or_fail_slot.new.bank c.seal_or_fail_slot.new.table number in
     let later = array_on g.B.Bank c.seal_or_fail_slot-2.new.bank c.seal_or_fail_slot-2.new.table number in
-    then_loaded old mid later c.in_ok-lower.lower c.in_ok-upper.upper (c.seal_or_fail_slot-2.ensures.finds number unknown).goes_on.not_older.same_id c.seal_or_fail_slot.ensures.geometry c.seal_or_fail_slot-2.ensures.geometry
-    c.seal_or_fail_slot-2.ensures.others_stay (IfOk-at_ok (λ last. IsFoundOn c.seal_or_fail_slot.new.table first last) c.in_ok-lower.was c.seal_or_fail_slot.ensures.of_set)
-    (IfOk-at_ok (λ last. IsFoundOn c.seal_or_fail_slot-2.new.table (first + 1) last) c.in_ok-upper.was c.seal_or_fail_slot-2.ensures.of_set) honest still (λ fair. c.seal_or_fail_slot.ensures.honest.0 fair)
-    (brings_value honest (KnowsSeals unknown) (λ last. KnowsSeals (also_known unknown first last)) old mid c.seal_or_fail_slot.result (c.seal_or_fail_slot.ensures.finds number unknown) c.in_ok-lower.lower c.in_ok-lower.was)
-    (brings_value still (KnowsSeals one) (λ last. KnowsSeals (also_known one (first + 1) last)) mid later c.seal_or_fail_slot-2.result (c.seal_or_fail_slot-2.ensures.finds number one) c.in_ok-upper.upper c.in_ok-upper.was)
-    c.in-Some.latest c.in-Some.ensures (g.B.Bank.honest c.seal_or_fail_slot-2.new.bank) (λ fair. c.seal_or_fail_slot-2.ensures.honest.0 (c.seal_or_fail_slot.ensures.honest.0 fair))
+    then_loaded old mid later c.in_ok-lower.lower c.in_ok-upper.upper (c.seal_or_fail_slot-2.ensures.finds number unknown).goes_on.not_older.same_id
+    c.seal_or_fail_slot.ensures.geometry c.seal_or_fail_slot-2.ensures.geometry
+    c.seal_or_fail_slot-2.ensures.others_stay (IfOk-at_ok (λ last. IsFoundOn c.seal_or_fail_slot.new.table first last) c.in_ok-lower.was
+    c.seal_or_fail_slot.ensures.of_set)
+    (IfOk-at_ok (λ last. IsFoundOn c.seal_or_fail_slot-2.new.table (first + 1) last) c.in_ok-upper.was c.seal_or_fail_slot-2.ensures.of_set) honest still
+    (λ fair. c.seal_or_fail_slot.ensures.honest.0 fair)
+    (brings_value honest (KnowsSeals unknown) (λ last. KnowsSeals (also_known unknown first last)) old mid c.seal_or_fail_slot.result
+    (c.seal_or_fail_slot.ensures.finds number unknown) c.in_ok-lower.lower c.in_ok-lower.was)
+    (brings_value still (KnowsSeals one) (λ last. KnowsSeals (also_known one (first + 1) last)) mid later c.seal_or_fail_slot-2.result
+    (c.seal_or_fail_slot-2.ensures.finds number one) c.in_ok-upper.upper c.in_ok-upper.was)
+    c.in-Some.latest c.in-Some.ensures (g.B.Bank.honest c.seal_or_fail_slot-2.new.bank)
+    (λ fair. c.seal_or_fail_slot-2.ensures.honest.0 (c.seal_or_fail_slot.ensures.honest.0 fair))
     (array_on g.B.Bank c.load_latest.new.bank c.load_latest.new.table number) c.load_latest.new.entry c.load_latest.result (c.load_latest.ensures.loads number)
 
 pub returns-in-None-clause-finds : goal.returns-in-None-clause-finds
@@ -76,9 +91,14 @@ returns-in-None-clause-finds g c = λ number.
     let old = array_on g.B.Bank c.args.bank.now c.args.table.now number in
     let mid = array_on g.B.Bank c.seal_or_fail_slot.new.bank c.seal_or_fail_slot.new.table number in
     let later = array_on g.B.Bank c.seal_or_fail_slot-2.new.bank c.seal_or_fail_slot-2.new.table number in
-    none_found old mid later c.in_ok-lower.lower c.in_ok-upper.upper (c.seal_or_fail_slot-2.ensures.finds number unknown).goes_on.not_older.same_id c.seal_or_fail_slot.ensures.geometry c.seal_or_fail_slot-2.ensures.geometry
-    c.seal_or_fail_slot-2.ensures.others_stay (IfOk-at_ok (λ last. IsFoundOn c.seal_or_fail_slot.new.table first last) c.in_ok-lower.was c.seal_or_fail_slot.ensures.of_set)
-    (IfOk-at_ok (λ last. IsFoundOn c.seal_or_fail_slot-2.new.table (first + 1) last) c.in_ok-upper.was c.seal_or_fail_slot-2.ensures.of_set) honest still (λ fair. c.seal_or_fail_slot.ensures.honest.0 fair)
-    (brings_value honest (KnowsSeals unknown) (λ last. KnowsSeals (also_known unknown first last)) old mid c.seal_or_fail_slot.result (c.seal_or_fail_slot.ensures.finds number unknown) c.in_ok-lower.lower c.in_ok-lower.was)
-    (brings_value still (KnowsSeals one) (λ last. KnowsSeals (also_known one (first + 1) last)) mid later c.seal_or_fail_slot-2.result (c.seal_or_fail_slot-2.ensures.finds number one) c.in_ok-upper.upper c.in_ok-upper.was)
+    none_found old mid later c.in_ok-lower.lower c.in_ok-upper.upper (c.seal_or_fail_slot-2.ensures.finds number unknown).goes_on.not_older.same_id
+    c.seal_or_fail_slot.ensures.geometry c.seal_or_fail_slot-2.ensures.geometry
+    c.seal_or_fail_slot-2.ensures.others_stay (IfOk-at_ok (λ last. IsFoundOn c.seal_or_fail_slot.new.table first last) c.in_ok-lower.was
+    c.seal_or_fail_slot.ensures.of_set)
+    (IfOk-at_ok (λ last. IsFoundOn c.seal_or_fail_slot-2.new.table (first + 1) last) c.in_ok-upper.was c.seal_or_fail_slot-2.ensures.of_set) honest still
+    (λ fair. c.seal_or_fail_slot.ensures.honest.0 fair)
+    (brings_value honest (KnowsSeals unknown) (λ last. KnowsSeals (also_known unknown first last)) old mid c.seal_or_fail_slot.result
+    (c.seal_or_fail_slot.ensures.finds number unknown) c.in_ok-lower.lower c.in_ok-lower.was)
+    (brings_value still (KnowsSeals one) (λ last. KnowsSeals (also_known one (first + 1) last)) mid later c.seal_or_fail_slot-2.result
+    (c.seal_or_fail_slot-2.ensures.finds number one) c.in_ok-upper.upper c.in_ok-upper.was)
     spellings c.in-None.ensures (body_of first c.args.entry.now)

@@ -15,13 +15,16 @@ returns-in_err-load_or_fail_slot-clause-loads g c =
     let body = body_of c.args.table.now.geometry.members c.load_or_fail_slot.new.entry in
     rw (p.1, p.2) (λ number.
     brings_refused (g.B.Bank.honest c.args.bank.now) (IsLatestOn c.args.latest) (IsLoaded c.args.latest body)
-    (array_on g.B.Bank c.args.bank.now c.args.table.now number) (array_on g.B.Bank c.load_or_fail_slot.new.bank c.load_or_fail_slot.new.table number) c.load_or_fail_slot.result (c.load_or_fail_slot.ensures.loads number)
+    (array_on g.B.Bank c.args.bank.now c.args.table.now number) (array_on g.B.Bank c.load_or_fail_slot.new.bank c.load_or_fail_slot.new.table number)
+    c.load_or_fail_slot.result (c.load_or_fail_slot.ensures.loads number)
     (IsFound body) c.in_err-load_or_fail_slot.field-0.0 c.in_err-load_or_fail_slot.was)
 
 pub returns-then-branch-clause-loads : goal.returns-then-branch-clause-loads
 returns-then-branch-clause-loads g c = λ number.
-    brings_value (g.B.Bank.honest c.args.bank.now) (IsLatestOn c.args.latest) (IsLoaded c.args.latest (body_of c.args.table.now.geometry.members c.load_or_fail_slot.new.entry))
-    (array_on g.B.Bank c.args.bank.now c.args.table.now number) (array_on g.B.Bank c.load_or_fail_slot.new.bank c.load_or_fail_slot.new.table number) c.load_or_fail_slot.result (c.load_or_fail_slot.ensures.loads number)
+    brings_value (g.B.Bank.honest c.args.bank.now) (IsLatestOn c.args.latest)
+    (IsLoaded c.args.latest (body_of c.args.table.now.geometry.members c.load_or_fail_slot.new.entry))
+    (array_on g.B.Bank c.args.bank.now c.args.table.now number) (array_on g.B.Bank c.load_or_fail_slot.new.bank c.load_or_fail_slot.new.table number)
+    c.load_or_fail_slot.result (c.load_or_fail_slot.ensures.loads number)
     true (c.in_ok-load_or_fail_slot.was ∙ ap Ok c.if-branch.true)
 
 pub load_alone-requires-clause-latest : goal.load_alone-requires-clause-latest
@@ -41,9 +44,11 @@ returns-in-Some-clause-loads g c = λ number.
     let old = array_on g.B.Bank c.args.bank.now c.args.table.now number in
     let mid = array_on g.B.Bank c.load_or_fail_slot.new.bank c.load_or_fail_slot.new.table number in
     load_beside honest c.args.latest old mid c.requires.latest (c.load_or_fail_slot.ensures.marked failed).0
-    (brings_value honest (IsLatestOn c.args.latest) (IsLoaded c.args.latest (body_of c.args.table.now.geometry.members c.load_or_fail_slot.new.entry)) old mid c.load_or_fail_slot.result
+    (brings_value honest (IsLatestOn c.args.latest) (IsLoaded c.args.latest (body_of c.args.table.now.geometry.members c.load_or_fail_slot.new.entry)) old mid
+    c.load_or_fail_slot.result
     (c.load_or_fail_slot.ensures.loads number) false failed)
-    (g.B.Bank.honest c.load_or_fail_slot.new.bank) (λ fair. c.load_or_fail_slot.ensures.honest.0 fair) (array_on g.B.Bank c.load_alone.new.bank c.load_alone.new.table number) c.in-Some.latest c.load_alone.new.entry
+    (g.B.Bank.honest c.load_or_fail_slot.new.bank) (λ fair. c.load_or_fail_slot.ensures.honest.0 fair)
+    (array_on g.B.Bank c.load_alone.new.bank c.load_alone.new.table number) c.in-Some.latest c.load_alone.new.entry
     c.load_alone.result c.in-Some.ensures (c.load_alone.ensures.loads number)
 
 pub returns-in-None-clause-loads : goal.returns-in-None-clause-loads
@@ -54,5 +59,6 @@ returns-in-None-clause-loads g c = λ number.
     let mid = array_on g.B.Bank c.load_or_fail_slot.new.bank c.load_or_fail_slot.new.table number in
     let body = body_of c.args.table.now.geometry.members c.load_or_fail_slot.new.entry in
     none_beside honest c.args.latest old mid c.requires.latest (c.load_or_fail_slot.ensures.marked failed).0
-    (brings_value honest (IsLatestOn c.args.latest) (IsLoaded c.args.latest body) old mid c.load_or_fail_slot.result (c.load_or_fail_slot.ensures.loads number) false failed)
+    (brings_value honest (IsLatestOn c.args.latest) (IsLoaded c.args.latest body) old mid c.load_or_fail_slot.result (c.load_or_fail_slot.ensures.loads number)
+    false failed)
     spellings c.in-None.ensures body

@@ -35,7 +35,8 @@ returns-then-is_down-clause-cause g c = elim c.then-is_down.branch [
 
 pub loop-slot-preserved : goal.loop-slot-preserved
 loop-slot-preserved g c = record {
-  up = below_one_more (λ (k : ℕ). (g.B.Bank.panel c.args.bank.now).down k ≡ false) c.loop-slot.slot c.loop-slot.invariant.up (sym c.is_down.ensures ∙ c.if-is_down.false);
+  up = below_one_more (λ (k : ℕ). (g.B.Bank.panel c.args.bank.now).down k ≡ false) c.loop-slot.slot c.loop-slot.invariant.up
+      (sym c.is_down.ensures ∙ c.if-is_down.false);
   fit = below_one_more (λ (k : ℕ). least_sectors c.args.geometry.now k ≤ (g.B.Bank.panel c.args.bank.now).sectors k) c.loop-slot.slot c.loop-slot.invariant.fit
       (omega (arith, c.sectors.ensures, c.least_of.ensures.least, c.if-sectors-least_of.false));
 }

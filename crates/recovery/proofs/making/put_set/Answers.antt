@@ -62,7 +62,8 @@ returns-in-Err-Down-clause-rests g c = λ _ _. tt
 
 pub returns-in-Err-Down-clause-cause : goal.returns-in-Err-Down-clause-cause
 returns-in-Err-Down-clause-cause g c =
-    let stop = subst (λ (s : Stop). IsStopIn (slots_of c.args.table.now) (g.B.Bank.panel c.write_set.new.bank) s) c.in-Err-Down.field-0-is c.in-Err-Down.ensures.err in
+    let stop = subst (λ (s : Stop). IsStopIn (slots_of c.args.table.now) (g.B.Bank.panel c.write_set.new.bank) s) c.in-Err-Down.field-0-is
+    c.in-Err-Down.ensures.err in
     record { slot = c.in-Err-Down.field-0-0; of_set = stop.0; unusable = inl stop.1 }
 
 pub returns-in-Err-Worn-clause-panel : goal.returns-in-Err-Worn-clause-panel

@@ -56,7 +56,8 @@ returns-in_err-flush_slots-clause-honest g c = (
 )
 
 pub returns-in_err-flush_slots-clause-rests : goal.returns-in_err-flush_slots-clause-rests
-returns-in_err-flush_slots-clause-rests g c = λ _ _. rw (err_from_is_err_and c.from_residual-in_err-flush_slots.result c.from_residual-in_err-flush_slots.ensures.1).1 tt
+returns-in_err-flush_slots-clause-rests g c = λ _ _. rw (err_from_is_err_and c.from_residual-in_err-flush_slots.result
+    c.from_residual-in_err-flush_slots.ensures.1).1 tt
 
 pub returns-in_err-flush_slots-clause-err : goal.returns-in_err-flush_slots-clause-err
 returns-in_err-flush_slots-clause-err g c =

@@ -8,17 +8,20 @@ use Rattle.recovery.proofs.stale_superblocks.bring_up.Goals as goal
 pub bring_up_in-requires-2-clause-can : goal.bring_up_in-requires-2-clause-can
 bring_up_in-requires-2-clause-can g c =
     let table = c.args.table.now in
-    can_later (g.B.Bank.panel c.args.bank.now) (g.B.Bank.panel c.bring_up_in.new.bank) table (c.bring_up_in.ensures.brings (sector_for table) (sector_stands table)).later c.requires
+    can_later (g.B.Bank.panel c.args.bank.now) (g.B.Bank.panel c.bring_up_in.new.bank) table
+    (c.bring_up_in.ensures.brings (sector_for table) (sector_stands table)).later c.requires
 
 pub returns-in_err-bring_up_in-clause-brings : goal.returns-in_err-bring_up_in-clause-brings
 returns-in_err-bring_up_in-clause-brings g c =
     let p = err_from_is_err_and c.from_residual.result c.from_residual.ensures.1 in
-    brings_up_short c.args.table.now (g.B.Bank.panel c.args.bank.now) (g.B.Bank.panel c.bring_up_in.new.bank) c.from_residual.result c.in_err-bring_up_in.field-0.0
+    brings_up_short c.args.table.now (g.B.Bank.panel c.args.bank.now) (g.B.Bank.panel c.bring_up_in.new.bank) c.from_residual.result
+    c.in_err-bring_up_in.field-0.0
     (p.1 ∙ ap (λ s. Err s) p.2) c.in_err-bring_up_in.ensures.brings
 
 pub returns-clause-brings : goal.returns-clause-brings
 returns-clause-brings g c =
-    brings_up c.args.table.now (g.B.Bank.panel c.args.bank.now) (g.B.Bank.panel c.bring_up_in.new.bank) (g.B.Bank.panel c.bring_up_in-2.new.bank) c.bring_up_in-2.result
+    brings_up c.args.table.now (g.B.Bank.panel c.args.bank.now) (g.B.Bank.panel c.bring_up_in.new.bank) (g.B.Bank.panel c.bring_up_in-2.new.bank)
+    c.bring_up_in-2.result
     c.bring_up_in.ensures.honest.0 c.in_ok-bring_up_in.ensures.brings c.bring_up_in-2.ensures.brings
 
 pub bring_up_in-requires-clause-can : goal.bring_up_in-requires-clause-can

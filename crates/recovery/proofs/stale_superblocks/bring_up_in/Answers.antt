@@ -15,7 +15,8 @@ loop-slot-init g c = record {
   panel = later_same _;
   honest = λ honest. honest;
   still = λ honest. honest;
-  brings = λ sectors spelled. brings_none (HasStateBelow c.args.table.now c.args.state 0) c.args.table.now sectors (g.B.Bank.panel c.args.bank.now) (g.B.Bank.history c.args.bank.now)
+  brings = λ sectors spelled. brings_none (HasStateBelow c.args.table.now c.args.state 0) c.args.table.now sectors (g.B.Bank.panel c.args.bank.now)
+      (g.B.Bank.history c.args.bank.now)
       (λ slot is. omega (arith, is.0));
 }
 
@@ -28,7 +29,8 @@ returns-in_err-bring_up_slot-clause-brings g c = λ sectors spelled.
     let p = err_from_is_err_and c.from_residual.result c.from_residual.ensures.1 in
     let is = p.1 ∙ ap (λ s. Err s) p.2 in
     let stands = spelled slot c.loop-slot-test.true (λ missing. c.requires.there (sym in_state ∙ missing)) in
-    rw is (brings_ended table c.args.state slot sectors (g.B.Bank.panel c.args.bank.now) (g.B.Bank.panel c.loop-slot.bank) (g.B.Bank.panel c.bring_up_slot.new.bank)
+    rw is (brings_ended table c.args.state slot sectors (g.B.Bank.panel c.args.bank.now) (g.B.Bank.panel c.loop-slot.bank)
+    (g.B.Bank.panel c.bring_up_slot.new.bank)
     (Err c.in_err-bring_up_slot.field-0.0) c.in_err-bring_up_slot.field-0.0 refl has c.loop-slot.invariant.honest (c.loop-slot.invariant.brings sectors spelled)
     (c.in_err-bring_up_slot.ensures.brings sectors stands))
 
@@ -41,10 +43,12 @@ loop-slot-preserved g c = elim c.if-is_in.branch [
       let has : HasState table c.args.state slot = (c.loop-slot-test.true, in_state) in
       let there : state_at table.states slot ≢ Missing = λ missing. c.requires.there (sym in_state ∙ missing) in
       rw w.bank-is record {
-        panel = later_both _ _ _ c.loop-slot.invariant.panel (w.in_ok-bring_up_slot.ensures.brings (sector_for table) (sector_stands table slot c.loop-slot-test.true there)).later;
+        panel = later_both _ _ _ c.loop-slot.invariant.panel
+            (w.in_ok-bring_up_slot.ensures.brings (sector_for table) (sector_stands table slot c.loop-slot-test.true there)).later;
         honest = λ honest. w.bring_up_slot.ensures.honest.0 (c.loop-slot.invariant.honest honest);
         still = λ honest. c.loop-slot.invariant.still (w.bring_up_slot.ensures.honest.1 honest);
-        brings = λ sectors spelled. brings_next table c.args.state slot sectors (g.B.Bank.panel c.args.bank.now) (g.B.Bank.panel c.loop-slot.bank) (g.B.Bank.panel w.bring_up_slot.new.bank)
+        brings = λ sectors spelled. brings_next table c.args.state slot sectors (g.B.Bank.panel c.args.bank.now) (g.B.Bank.panel c.loop-slot.bank)
+            (g.B.Bank.panel w.bring_up_slot.new.bank)
             has c.loop-slot.invariant.honest (c.loop-slot.invariant.brings sectors spelled)
             (w.in_ok-bring_up_slot.ensures.brings sectors (spelled slot c.loop-slot-test.true there));
       }
@@ -77,11 +81,13 @@ bring_up_slot-requires-clause-there g c = λ missing. c.requires.there (sym (c.i
 
 pub bring_up_slot-requires-clause-device : goal.bring_up_slot-requires-clause-device
 bring_up_slot-requires-clause-device g c =
-    device_there (g.B.Bank.panel c.args.bank.now) (g.B.Bank.panel c.loop-slot.bank) c.args.table.now c.loop-slot.slot c.loop-slot.invariant.panel c.requires.can c.loop-slot-test.true
+    device_there (g.B.Bank.panel c.args.bank.now) (g.B.Bank.panel c.loop-slot.bank) c.args.table.now c.loop-slot.slot c.loop-slot.invariant.panel c.requires.can
+    c.loop-slot-test.true
 
 pub bring_up_slot-requires-clause-within : goal.bring_up_slot-requires-clause-within
 bring_up_slot-requires-clause-within g c =
-    place_there (g.B.Bank.panel c.args.bank.now) (g.B.Bank.panel c.loop-slot.bank) c.args.table.now c.loop-slot.slot c.loop-slot.invariant.panel c.requires.can c.loop-slot-test.true
+    place_there (g.B.Bank.panel c.args.bank.now) (g.B.Bank.panel c.loop-slot.bank) c.args.table.now c.loop-slot.slot c.loop-slot.invariant.panel c.requires.can
+    c.loop-slot-test.true
     (λ missing. c.requires.there (sym (c.is_in.ensures.0 c.if-is_in.true) ∙ missing))
 
 pub returns-in_err-bring_up_slot-clause-honest : goal.returns-in_err-bring_up_slot-clause-honest

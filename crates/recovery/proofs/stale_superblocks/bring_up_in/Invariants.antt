@@ -12,6 +12,7 @@ invariant-loop-slot g l = record {
   honest : g.B.Bank.honest l.initial.bank → g.B.Bank.honest l.bank;
   still : g.B.Bank.honest l.bank → g.B.Bank.honest l.initial.bank;
   brings : (sectors : ℕ → Bytes) → AreSpelled l.table sectors
-      → BringsUpSlots (g.B.Bank.honest l.initial.bank) (HasStateBelow l.table l.state l.slot) l.table sectors (g.B.Bank.panel l.initial.bank) (g.B.Bank.panel l.bank)
+      → BringsUpSlots (g.B.Bank.honest l.initial.bank) (HasStateBelow l.table l.state l.slot) l.table sectors (g.B.Bank.panel l.initial.bank)
+      (g.B.Bank.panel l.bank)
       (g.B.Bank.history l.initial.bank) (g.B.Bank.history l.bank) (Ok tt);
 }

@@ -10,7 +10,8 @@ use Rattle.sector_model.proofs.Reading.{read_one}
 use Rattle.superblock.specs.Publishing.{place_of}
 use Rattle.array_io.specs.Steps.Bringing.{CountsOn}
 use Rattle.recovery.proofs.Finding.{still_up}
-use Rattle.recovery.proofs.StaleSlots.{IsReadOf, brings_flushed, brings_read, brings_stop, but_tried, is_stale, moments_read, moments_write, place_within, read_of, rests_but}
+use Rattle.recovery.proofs.StaleSlots.{IsReadOf, brings_flushed, brings_read, brings_stop, but_tried, is_stale, moments_read, moments_write, place_within}
+use Rattle.recovery.proofs.StaleSlots.{read_of, rests_but}
 use Rattle.recovery.proofs.stale_superblocks.bring_up_slot.Goals as goal
 
 pub returns-in_err-read_sector-clause-brings : goal.returns-in_err-read_sector-clause-brings
@@ -19,7 +20,8 @@ returns-in_err-read_sector-clause-brings g c = λ sectors stands.
     let slot = c.args.slot in
     let counted : CountsOn table slot = record { of_set = c.requires.of_set; there = c.requires.there } in
     let p = err_from_is_err_and c.from_residual.result c.from_residual.ensures.1 in
-    brings_stop table sectors slot (g.B.Bank.panel c.args.bank.now) (g.B.Bank.panel c.read_sector.new.bank) c.from_residual.result c.in_err-read_sector.field-0.0
+    brings_stop table sectors slot (g.B.Bank.panel c.args.bank.now) (g.B.Bank.panel c.read_sector.new.bank) c.from_residual.result
+    c.in_err-read_sector.field-0.0
     (p.1 ∙ ap (λ s. Err s) p.2) c.read_sector.ensures.panel c.in_err-read_sector.ensures.err
     (λ honest. g.met.B.Bank.true_to _ (c.read_sector.ensures.honest.0 honest))
     (λ honest. moments_read table sectors slot counted c.read_sector.result (c.read_sector.ensures.history honest))
@@ -33,9 +35,11 @@ returns-then-eq-clause-brings g c = λ sectors stands.
     let counted : CountsOn table slot = record { of_set = c.requires.of_set; there = c.requires.there } in
     let same : c.read_sector.new.to ≡ sectors slot =
     same_text c.read_sector.new.to c.own_sector-own.result (sym c.if-eq.true ∙ c.eq.ensures) ∙ c.own_sector-own.ensures (sectors slot) stands in
-    brings_read table sectors slot c.read_sector.new.to (g.B.Bank.panel c.args.bank.now) (g.B.Bank.panel c.read_sector.new.bank) counted c.read_sector.ensures.panel
+    brings_read table sectors slot c.read_sector.new.to (g.B.Bank.panel c.args.bank.now) (g.B.Bank.panel c.read_sector.new.bank) counted
+    c.read_sector.ensures.panel
     (λ honest. read_of slot (place_of table) c.read_sector.new.to (g.B.Bank.panel c.read_sector.new.bank) c.in_ok-read_sector.field-0
-    (c.in_ok-read_sector.ensures.history honest) c.in_ok-read_sector.ensures.up (g.met.B.Bank.true_to _ (c.read_sector.ensures.honest.0 honest)) (c.in_ok-read_sector.ensures.bytes honest))
+    (c.in_ok-read_sector.ensures.history honest) c.in_ok-read_sector.ensures.up (g.met.B.Bank.true_to _ (c.read_sector.ensures.honest.0 honest))
+    (c.in_ok-read_sector.ensures.bytes honest))
     same
 
 pub returns-in_err-write_sector-clause-brings : goal.returns-in_err-write_sector-clause-brings
@@ -44,18 +48,24 @@ returns-in_err-write_sector-clause-brings g c = λ sectors stands.
     let slot = c.args.slot in
     let counted : CountsOn table slot = record { of_set = c.requires.of_set; there = c.requires.there } in
     let own = c.own_sector-own.ensures (sectors slot) stands in
-    let other : c.read_sector.new.to ≢ sectors slot = λ is. other_text c.read_sector.new.to c.own_sector-own.result (sym c.if-eq.false ∙ c.eq.ensures) (is ∙ sym own) in
+    let other : c.read_sector.new.to ≢ sectors slot = λ is. other_text c.read_sector.new.to c.own_sector-own.result (sym c.if-eq.false ∙ c.eq.ensures)
+    (is ∙ sym own) in
     let p = err_from_is_err_and c.from_residual-in_err-write_sector.result c.from_residual-in_err-write_sector.ensures.1 in
-    let reads : g.B.Bank.honest c.args.bank.now → IsReadOf slot (place_of table) c.read_sector.new.to (g.B.Bank.history c.args.bank.now) (g.B.Bank.history c.read_sector.new.bank) =
+    let reads : g.B.Bank.honest c.args.bank.now → IsReadOf slot (place_of table) c.read_sector.new.to (g.B.Bank.history c.args.bank.now)
+    (g.B.Bank.history c.read_sector.new.bank) =
     λ honest. read_of slot (place_of table) c.read_sector.new.to (g.B.Bank.panel c.read_sector.new.bank) c.in_ok-read_sector.field-0
-    (c.in_ok-read_sector.ensures.history honest) c.in_ok-read_sector.ensures.up (g.met.B.Bank.true_to _ (c.read_sector.ensures.honest.0 honest)) (c.in_ok-read_sector.ensures.bytes honest) in
-    brings_stop table sectors slot (g.B.Bank.panel c.args.bank.now) (g.B.Bank.panel c.write_sector.new.bank) c.from_residual-in_err-write_sector.result c.in_err-write_sector.field-0.0
+    (c.in_ok-read_sector.ensures.history honest) c.in_ok-read_sector.ensures.up (g.met.B.Bank.true_to _ (c.read_sector.ensures.honest.0 honest))
+    (c.in_ok-read_sector.ensures.bytes honest) in
+    brings_stop table sectors slot (g.B.Bank.panel c.args.bank.now) (g.B.Bank.panel c.write_sector.new.bank) c.from_residual-in_err-write_sector.result
+    c.in_err-write_sector.field-0.0
     (p.1 ∙ ap (λ s. Err s) p.2) (later_both _ _ _ c.read_sector.ensures.panel c.write_sector.ensures.panel) c.in_err-write_sector.ensures.err
     (λ honest. g.met.B.Bank.true_to _ (c.write_sector.ensures.honest.0 (c.read_sector.ensures.honest.0 honest)))
     (λ honest. moments_write table sectors slot counted c.write_sector.result (moments_read table sectors slot counted (Ok tt) (reads honest).is)
-    (subst (λ (bytes : Bytes). g.B.Bank.history c.write_sector.new.bank ≡ after_try (after_write slot (place_of table) bytes) c.write_sector.result (g.B.Bank.history c.read_sector.new.bank)) own
+    (subst (λ (bytes : Bytes). g.B.Bank.history c.write_sector.new.bank ≡ after_try (after_write slot (place_of table) bytes) c.write_sector.result
+    (g.B.Bank.history c.read_sector.new.bank)) own
     (c.write_sector.ensures.history (c.read_sector.ensures.honest.0 honest))))
-    (λ honest nothing. but_tried (Write slot (place_of table) c.own_sector-own.result) c.write_sector.result (c.write_sector.ensures.history (c.read_sector.ensures.honest.0 honest))
+    (λ honest nothing. but_tried (Write slot (place_of table) c.own_sector-own.result) c.write_sector.result
+    (c.write_sector.ensures.history (c.read_sector.ensures.honest.0 honest))
     (but_tried (Read slot (place_of table)) (Ok tt) (reads honest).is (rests_but slot nothing)))
     (λ honest none. is_stale table sectors slot c.read_sector.new.to (reads honest) other none)
 
@@ -71,15 +81,21 @@ returns-clause-brings g c = λ sectors stands.
     let slot = c.args.slot in
     let counted : CountsOn table slot = record { of_set = c.requires.of_set; there = c.requires.there } in
     let own = c.own_sector-own.ensures (sectors slot) stands in
-    let other : c.read_sector.new.to ≢ sectors slot = λ is. other_text c.read_sector.new.to c.own_sector-own.result (sym c.if-eq.false ∙ c.eq.ensures) (is ∙ sym own) in
-    let reads : g.B.Bank.honest c.args.bank.now → IsReadOf slot (place_of table) c.read_sector.new.to (g.B.Bank.history c.args.bank.now) (g.B.Bank.history c.read_sector.new.bank) =
+    let other : c.read_sector.new.to ≢ sectors slot = λ is. other_text c.read_sector.new.to c.own_sector-own.result (sym c.if-eq.false ∙ c.eq.ensures)
+    (is ∙ sym own) in
+    let reads : g.B.Bank.honest c.args.bank.now → IsReadOf slot (place_of table) c.read_sector.new.to (g.B.Bank.history c.args.bank.now)
+    (g.B.Bank.history c.read_sector.new.bank) =
     λ honest. read_of slot (place_of table) c.read_sector.new.to (g.B.Bank.panel c.read_sector.new.bank) c.in_ok-read_sector.field-0
-    (c.in_ok-read_sector.ensures.history honest) c.in_ok-read_sector.ensures.up (g.met.B.Bank.true_to _ (c.read_sector.ensures.honest.0 honest)) (c.in_ok-read_sector.ensures.bytes honest) in
-    brings_flushed table sectors slot c.read_sector.new.to (g.B.Bank.panel c.args.bank.now) (g.B.Bank.panel c.flush_device.new.bank) c.flush_device.result counted
+    (c.in_ok-read_sector.ensures.history honest) c.in_ok-read_sector.ensures.up (g.met.B.Bank.true_to _ (c.read_sector.ensures.honest.0 honest))
+    (c.in_ok-read_sector.ensures.bytes honest) in
+    brings_flushed table sectors slot c.read_sector.new.to (g.B.Bank.panel c.args.bank.now) (g.B.Bank.panel c.flush_device.new.bank) c.flush_device.result
+    counted
     (later_both _ _ _ (later_both _ _ _ c.read_sector.ensures.panel c.write_sector.ensures.panel) c.flush_device.ensures.panel) c.flush_device.ensures.err
     reads other
-    (λ honest. place_within table slot (g.B.Bank.panel c.args.bank.now) (g.B.Bank.history c.args.bank.now) (g.met.B.Bank.true_to _ honest) c.requires.within (reads honest).up)
-    (λ honest. subst (λ (bytes : Bytes). g.B.Bank.history c.write_sector.new.bank ≡ after_write slot (place_of table) bytes true (g.B.Bank.history c.read_sector.new.bank)) own
+    (λ honest. place_within table slot (g.B.Bank.panel c.args.bank.now) (g.B.Bank.history c.args.bank.now) (g.met.B.Bank.true_to _ honest) c.requires.within
+    (reads honest).up)
+    (λ honest. subst (λ (bytes : Bytes). g.B.Bank.history c.write_sector.new.bank ≡ after_write slot (place_of table) bytes true
+    (g.B.Bank.history c.read_sector.new.bank)) own
     (c.in_ok-write_sector.ensures.history (c.read_sector.ensures.honest.0 honest)))
     (λ honest. c.flush_device.ensures.history (c.write_sector.ensures.honest.0 (c.read_sector.ensures.honest.0 honest)))
     (λ honest. g.met.B.Bank.true_to _ (c.flush_device.ensures.honest.0 (c.write_sector.ensures.honest.0 (c.read_sector.ensures.honest.0 honest))))

@@ -10,7 +10,8 @@ presence_of-requires g c = omega (arith, c.requires.of_set, c.requires.surveyed.
 
 pub returns-in-Absent-clause-dead : goal.returns-in-Absent-clause-dead
 returns-in-Absent-clause-dead g c = λ dead.
-    dead_down (g.B.Bank.honest c.args.bank.now) (bank_view (g.B.Bank.panel c.args.bank.now) (g.B.Bank.history c.args.bank.now)) c.args.survey.now.table c.args.slot
+    dead_down (g.B.Bank.honest c.args.bank.now) (bank_view (g.B.Bank.panel c.args.bank.now) (g.B.Bank.history c.args.bank.now)) c.args.survey.now.table
+    c.args.slot
     (λ honest. g.met.B.Bank.true_to c.args.bank.now honest) c.in-Absent.ensures
 
 pub returns-in-Absent-clause-there : goal.returns-in-Absent-clause-there
@@ -18,7 +19,8 @@ returns-in-Absent-clause-there g c = λ live. absurd (false≢true (sym live))
 
 pub returns-in-TooShort-clause-dead : goal.returns-in-TooShort-clause-dead
 returns-in-TooShort-clause-dead g c = λ dead.
-    dead_short (g.B.Bank.honest c.args.bank.now) (bank_view (g.B.Bank.panel c.args.bank.now) (g.B.Bank.history c.args.bank.now)) c.args.survey.now.table c.args.slot
+    dead_short (g.B.Bank.honest c.args.bank.now) (bank_view (g.B.Bank.panel c.args.bank.now) (g.B.Bank.history c.args.bank.now)) c.args.survey.now.table
+    c.args.slot
     (λ honest. g.met.B.Bank.true_to c.args.bank.now honest) c.in-TooShort.ensures.0 c.in-TooShort.ensures.1
     (least_fits c.args.survey.now.table.geometry c.args.slot)
 

@@ -33,7 +33,8 @@ returns-then-eq-clause-full g c = λ live.
 
 pub returns-then-eq-clause-out : goal.returns-then-eq-clause-out
 returns-then-eq-clause-out g c = λ dead.
-    not_full_dead (g.B.Bank.honest c.args.bank.now) (bank_view (g.B.Bank.panel c.args.bank.now) (g.B.Bank.history c.args.bank.now)) c.args.survey.now.table c.args.slot
+    not_full_dead (g.B.Bank.honest c.args.bank.now) (bank_view (g.B.Bank.panel c.args.bank.now) (g.B.Bank.history c.args.bank.now)) c.args.survey.now.table
+    c.args.slot
     c.requires.of_set (c.is_dead.ensures.dead (set c.is_dead.result dead))
 
 pub returns-else-eq-clause-full : goal.returns-else-eq-clause-full
@@ -41,5 +42,7 @@ returns-else-eq-clause-full g c = λ same. absurd (false≢true (sym c.if-eq.fal
 
 pub returns-else-eq-clause-out : goal.returns-else-eq-clause-out
 returns-else-eq-clause-out g c = λ other.
-    not_full_state (g.B.Bank.honest c.args.bank.now) (bank_view (g.B.Bank.panel c.args.bank.now) (g.B.Bank.history c.args.bank.now)) c.args.survey.now.table c.args.slot
-    c.requires.of_set (unlike (λ (state : State). sameb the_type state InSync) (state_at c.args.survey.now.table.states c.args.slot) InSync (sym c.eq.ensures ∙ other) refl)
+    not_full_state (g.B.Bank.honest c.args.bank.now) (bank_view (g.B.Bank.panel c.args.bank.now) (g.B.Bank.history c.args.bank.now)) c.args.survey.now.table
+    c.args.slot
+    c.requires.of_set (unlike (λ (state : State). sameb the_type state InSync) (state_at c.args.survey.now.table.states c.args.slot) InSync
+    (sym c.eq.ensures ∙ other) refl)

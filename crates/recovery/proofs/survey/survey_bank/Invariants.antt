@@ -8,5 +8,6 @@ invariant-loop-slot g l = record {
   honest : g.B.Bank.honest l.initial.bank → g.B.Bank.honest l.bank;
   still : g.B.Bank.honest l.bank → g.B.Bank.honest l.initial.bank;
   surveyed : SurveyedTo (g.B.Bank.honest l.initial.bank) l.id (g.B.Bank.panel l.initial.bank).devices l.slot
-      (bank_view (g.B.Bank.panel l.initial.bank) (g.B.Bank.history l.initial.bank)) (bank_view (g.B.Bank.panel l.bank) (g.B.Bank.history l.bank)) l.best l.own l.generations;
+      (bank_view (g.B.Bank.panel l.initial.bank) (g.B.Bank.history l.initial.bank)) (bank_view (g.B.Bank.panel l.bank) (g.B.Bank.history l.bank)) l.best l.own
+      l.generations;
 }

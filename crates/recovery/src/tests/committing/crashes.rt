@@ -18,8 +18,8 @@ fn last_number(rt: &impl Abort, image: &Image, slot: usize) -> u64 {
     }
 }
 
-// The bank of a set of this shape to which these sectors were committed, the second ones by so many calls; and how many calls
-// came before these.
+// The bank of a set of this shape to which these sectors were committed, the second ones by so many calls; and how many
+// calls came before these.
 fn committed_twice(
     rt: &(impl Abort + AllocGlobal),
     shape: Shape,
@@ -114,8 +114,8 @@ fn degraded_reads_after_stop(rt: HostRuntime) {
     }
 }
 
-// Checks a crash after so many calls, with a slot absent afterwards if it is one of the set's. Whether assembling shows what
-// is new.
+// Checks a crash after so many calls, with a slot absent afterwards if it is one of the set's. Whether assembling shows
+// what is new.
 fn shows_new_after(
     rt: &(impl Abort + AllocGlobal),
     bank: &MemBank,
@@ -158,7 +158,8 @@ static EARLIER: [(u64, u8); 3] = [(64, 0x11), (65, 0x77), (72, 0x05)];
 
 static LATER: [(u64, u8); 3] = [(64, 0x22), (65, 0x88), (72, 0x66)];
 
-// Checks whether what is new is shown after so many calls of the second of two commits, with a slot absent afterwards or none.
+// Checks whether what is new is shown after so many calls of the second of two commits, with a slot absent afterwards
+// or none.
 fn check_second_crash(
     rt: &(impl Abort + AllocGlobal),
     twice: &(MemBank, u64),
@@ -173,8 +174,8 @@ fn check_second_crash(
 }
 
 // The crashes with this choice in the second of two commits, with each one slot absent or none: the entry shows where a
-// journal that is there has its seal. A crash after so many calls from the first seal on, and no fewer, leaves it on slot 3,
-// and on slot 4.
+// journal that is there has its seal. A crash after so many calls from the first seal on, and no fewer, leaves it on
+// slot 3, and on slot 4.
 fn check_second_commit(rt: &(impl Abort + AllocGlobal), choice: Choice, sealed: [u64; 2]) {
     let calls = SECOND.calls();
     let seals = SECOND.before_seals();
@@ -188,8 +189,8 @@ fn check_second_commit(rt: &(impl Abort + AllocGlobal), choice: Choice, sealed: 
     }
 }
 
-// The seals of entry 2 stand in sector 2 and are written one after the other, each flushed by the next call. Until then they
-// have two candidates, of which `Mixed(3)` takes the older on slot 3, and the newer on slot 4.
+// The seals of entry 2 stand in sector 2 and are written one after the other, each flushed by the next call. Until then
+// they have two candidates, of which `Mixed(3)` takes the older on slot 3, and the newer on slot 4.
 #[test]
 fn stops_in_commit_oldest(rt: HostRuntime) {
     check_second_commit(&rt, Choice::Oldest, [2, 4]);
@@ -205,7 +206,8 @@ fn stops_in_commit_mixed(rt: HostRuntime) {
     check_second_commit(&rt, Choice::Mixed(3), [2, 3]);
 }
 
-// Checks the crash with this choice after so many calls of the second of two commits, with a slot absent afterwards or none.
+// Checks the crash with this choice after so many calls of the second of two commits, with a slot absent afterwards or
+// none.
 fn check_crash(
     rt: &(impl Abort + AllocGlobal),
     twice: &(MemBank, u64),
@@ -224,7 +226,8 @@ fn check_crash(
     same(rt, (call, is_new, may_be), (call, is_new, true));
 }
 
-// The crashes at each call of the commit of `written_twice`, which changes row 32, each with this slot absent afterwards, or none.
+// The crashes at each call of the commit of `written_twice`, which changes row 32, each with this slot absent
+// afterwards, or none.
 fn check_crashes_of_64(rt: &(impl Abort + AllocGlobal), twice: &(MemBank, u64), absent: usize) {
     let change = Change {
         old: &BEFORE,
@@ -296,8 +299,8 @@ fn size_of(members: u8, masks: &[u8]) -> CommitSize {
     CommitSize { members, masks }
 }
 
-// What changes in rows 16 to 31 of 4 members, where logical sectors 60 to 91 do: the parity is on member 1, and from row 24 on
-// on member 0.
+// What changes in rows 16 to 31 of 4 members, where logical sectors 60 to 91 do: the parity is on member 1, and from
+// row 24 on on member 0.
 static MANY_OF_4: [u8; 16] = [
     0x03, 0x03, 0x03, 0x03, 0x0b, 0x0b, 0x0b, 0x0b, 0x0f, 0x0f, 0x0f, 0x0f, 0x07, 0x07, 0x07, 0x07,
 ];

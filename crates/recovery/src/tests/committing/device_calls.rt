@@ -119,8 +119,8 @@ fn calls_of(rt: &(impl Abort + AllocGlobal), array: &mut Array<Counted>, list: L
     counts
 }
 
-// Asks that a commit to an array that is all there makes as many reads, writes and flushes as it takes, where these masks say
-// what it changes in its rows.
+// Asks that a commit to an array that is all there makes as many reads, writes and flushes as it takes, where these
+// masks say what it changes in its rows.
 fn check_calls(
     rt: &(impl Abort + AllocGlobal),
     array: &mut Array<Counted>,
@@ -134,8 +134,8 @@ fn check_calls(
     same(rt, calls_of(rt, array, list), size.counts());
 }
 
-// Of 3 members, the 32 sectors fill rows 32 to 47. Of 8 members, 64 and 72 lie in row 8, and the sectors from 60 to 91 in
-// rows 8 to 15, four in each: the parity is on member 6.
+// Of 3 members, the 32 sectors fill rows 32 to 47. Of 8 members, 64 and 72 lie in row 8, and the sectors from 60 to 91
+// in rows 8 to 15, four in each: the parity is on member 6.
 #[test]
 fn calls_of_commits(rt: HostRuntime) {
     let mut array = tallied(&rt, SET_A, 5);
@@ -177,8 +177,8 @@ fn calls_of_reads(rt: HostRuntime) {
     check_reads(&rt, SET_A, 2, 64, [1, 1, 0, 0, 0, 0, 0, 0, 0, 0]);
 }
 
-// Asks that a commit of sectors to a set of 5 members without a slot makes so many reads of each member, and the calls that
-// belong to these, where these masks say what it changes in its rows.
+// Asks that a commit of sectors to a set of 5 members without a slot makes so many reads of each member, and the calls
+// that belong to these, where these masks say what it changes in its rows.
 fn check_without(
     rt: &(impl Abort + AllocGlobal),
     missing: u8,
@@ -195,8 +195,8 @@ fn check_without(
     same(rt, (missing, array.bank.reads), (missing, of_slots));
 }
 
-// Of members 2 and 3, which change, and the three others, those are read of which none is missing; where a journal is, the
-// fewer. So no other member is read for one that is missing.
+// Of members 2 and 3, which change, and the three others, those are read of which none is missing; where a journal is,
+// the fewer. So no other member is read for one that is missing.
 #[test]
 fn calls_of_commits_without_a_slot(rt: HostRuntime) {
     let one = [(64, 0x11)];

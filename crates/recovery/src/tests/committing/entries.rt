@@ -34,8 +34,8 @@ fn check_journals(rt: &impl Abort, image: &Image, at: usize, sector: &Sector) {
     }
 }
 
-// Checks both journals of an image: the seals in sectors 2 and 3, and a body from a sector on, each of its sectors full of a
-// byte.
+// Checks both journals of an image: the seals in sectors 2 and 3, and a body from a sector on, each of its sectors full
+// of a byte.
 fn check_entry_in(rt: &impl Abort, image: &Image, seals: &[Sector; 2], from: u16, body: &[u8]) {
     check_journals(rt, image, 2, &seals[0]);
     check_journals(rt, image, 3, &seals[1]);
@@ -105,8 +105,8 @@ fn check_with_old(
     same(rt, checked(rt, image, missing, list).table.generation, 2);
 }
 
-// Checks all logical sectors of an array: by reads, and by reads of the set assembled again on what is safe. Where a slot is
-// missing, also with the device that the slot had when the set was made.
+// Checks all logical sectors of an array: by reads, and by reads of the set assembled again on what is safe. Where a
+// slot is missing, also with the device that the slot had when the set was made.
 fn check_all(
     rt: &(impl Abort + AllocGlobal),
     array: &mut Array<MemBank>,
@@ -166,8 +166,8 @@ fn check_each_row(rt: &(impl Abort + AllocGlobal), array: &Array<MemBank>) {
     }
 }
 
-/// Checks commits of runs of sectors, one after another, to a set of this shape, of which a slot is missing if it is one of
-/// the set's. All rows are sound in the end, where all slots are there.
+/// Checks commits of runs of sectors, one after another, to a set of this shape, of which a slot is missing if it is
+/// one of the set's. All rows are sound in the end, where all slots are there.
 pub(crate) fn check_commits(
     rt: &(impl Abort + AllocGlobal),
     shape: Shape,

@@ -14,8 +14,8 @@ fn is_down(rt: &impl Abort, bank: &MemBank, slot: u8) -> bool {
     bank.is_down(slot)
 }
 
-// The flush of slot 2 is the last call of the first commit of set A, which changes members 1 and 2; the four other slots are
-// written and flushed to mark it missing.
+// The flush of slot 2 is the last call of the first commit of set A, which changes members 1 and 2; the four other
+// slots are written and flushed to mark it missing.
 #[test]
 fn commit_with_member_down(rt: HostRuntime) {
     let mut array = made(&rt, SET_A);
@@ -45,8 +45,8 @@ struct Case<'a> {
     new: List<'a>,
 }
 
-// Of 3 members, logical sectors 64 and 72 are the data of row 32, on members 2 and 0, with the parity on member 1; 65 and 73
-// are that of row 33.
+// Of 3 members, logical sectors 64 and 72 are the data of row 32, on members 2 and 0, with the parity on member 1; 65
+// and 73 are that of row 33.
 static OF_3: Case = Case {
     shape: SHORT,
     size: CommitSize {
@@ -85,8 +85,8 @@ static OF_5: Case = Case {
     ],
 };
 
-// The array of a case, before what is committed. In that these slots go down, each at its first call from one on, counted
-// from the commit's first.
+// The array of a case, before what is committed. In that these slots go down, each at its first call from one on,
+// counted from the commit's first.
 fn failing(
     rt: &(impl Abort + AllocGlobal),
     case: &Case,
@@ -101,14 +101,15 @@ fn failing(
     array
 }
 
-// Checks what is assembled on these devices: this slot is missing, if it is one of the set's, and these sectors are read. So
-// it is by the members alone where all of them are there.
+// Checks what is assembled on these devices: this slot is missing, if it is one of the set's, and these sectors are
+// read. So it is by the members alone where all of them are there.
 fn check_again(rt: &(impl Abort + AllocGlobal), image: Image, missing: usize, list: List) {
     let array = checked(rt, image, missing, list);
     check_members(rt, &array.bank, &[], list);
 }
 
-// Checks what a crash now leaves, where this slot is missing, if it is one of the set's; and without the device of a slot.
+// Checks what a crash now leaves, where this slot is missing, if it is one of the set's; and without the device of a
+// slot.
 fn check_crashes(
     rt: &(impl Abort + AllocGlobal),
     bank: &MemBank,
@@ -173,8 +174,8 @@ fn check_lost(rt: &(impl Abort + AllocGlobal), bank: &MemBank, case: &Case, firs
     check_either(rt, image_now(rt, bank, Choice::Newest), case.new, case.old);
 }
 
-// Checks a commit in which two slots go down, each at its first call from one on: whichever goes down first, the other is
-// called to mark it missing.
+// Checks a commit in which two slots go down, each at its first call from one on: whichever goes down first, the other
+// is called to mark it missing.
 fn check_two_failures(
     rt: &(impl Abort + AllocGlobal),
     case: &Case,

@@ -1,5 +1,5 @@
-//! Sets of 3 members, chunk 8 and 8 stripes whose journals have entries of both forms: of a whole row, and of what changes in
-//! it. Row 32 has logical sectors 72 and 64 on members 0 and 2, and the parity on member 1.
+//! Sets of 3 members, chunk 8 and 8 stripes whose journals have entries of both forms: of a whole row, and of what
+//! changes in it. Row 32 has logical sectors 72 and 64 on members 0 and 2, and the parity on member 1.
 use super::{Change, List, check_members, checked, commit, shows_new};
 use crate::testing::{
     AssemblySize, BLANK, CommitSize, ID, SHORT, assembled, fresh, image_now, left, made,
@@ -47,8 +47,8 @@ fn put_whole(rt: &impl Abort, image: &mut Image, slot: usize, number: u8) {
     put_sector(rt, image, slot, 2 + half, &whole_seal(number));
 }
 
-// Asks that both journals have these seals in sectors 2 and 3, and this body from a sector on, each of its sectors full of a
-// byte.
+// Asks that both journals have these seals in sectors 2 and 3, and this body from a sector on, each of its sectors full
+// of a byte.
 fn check_journals(rt: &impl Abort, image: &Image, seals: &[Sector; 2], from: u16, body: &[u8]) {
     assert!(rt; body.len() <= 256);
     for slot in [3, 4] {
@@ -64,7 +64,8 @@ fn check_journals(rt: &impl Abort, image: &Image, seals: &[Sector; 2], from: u16
     }
 }
 
-// The array that is assembled on a set whose journals have entry 1 of the whole row, and whose members are as they were made.
+// The array that is assembled on a set whose journals have entry 1 of the whole row, and whose members are as they were
+// made.
 fn replayed(rt: &(impl Abort + AllocGlobal)) -> Array<MemBank> {
     let mut image = fresh(rt, SHORT);
     put_whole(rt, &mut image, 3, 1);
@@ -119,9 +120,9 @@ fn check_crash(
     same(rt, (crash, absent, is_new), (crash, absent, is_sealed));
 }
 
-// Checks the crashes with this choice in the commit that follows the entry of the whole row, with each one slot absent or none:
-// its entry shows where a journal that is there has its seal. A crash after so many calls from the first seal on, and no fewer,
-// leaves it on slot 3, and on slot 4.
+// Checks the crashes with this choice in the commit that follows the entry of the whole row, with each one slot absent
+// or none: its entry shows where a journal that is there has its seal. A crash after so many calls from the first seal
+// on, and no fewer, leaves it on slot 3, and on slot 4.
 fn check_crashes(rt: &(impl Abort + AllocGlobal), choice: Choice, sealed: [u64; 2]) {
     let mut array = replayed(rt);
     let from = array.bank.now();
@@ -160,7 +161,8 @@ const COPIED: AssemblySize = AssemblySize {
     is_copied: true,
 };
 
-// Checks what is assembled after a crash, with the device of slot 3, and without it: then entry 2 is there from this call on.
+// Checks what is assembled after a crash, with the device of slot 3, and without it: then entry 2 is there from this
+// call on.
 fn check_copy(
     rt: &(impl Abort + AllocGlobal),
     bank: &MemBank,
@@ -173,7 +175,8 @@ fn check_copy(
     let _ = checked(rt, left(rt, bank, crash, choice, 3), 3, list);
 }
 
-// Entry 2 of the whole row stands on slot 3 alone, beside entry 1, which holds what changed in that row and stands on both.
+// Entry 2 of the whole row stands on slot 3 alone, beside entry 1, which holds what changed in that row and stands on
+// both.
 #[test]
 fn whole_entry_after_a_held_one(rt: HostRuntime) {
     let mut first = made(&rt, SHORT);

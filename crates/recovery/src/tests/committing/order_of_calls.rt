@@ -1,4 +1,5 @@
-//! The order in which a commit writes and flushes: the body on each live journal, then the seal on each, then the members.
+//! The order in which a commit writes and flushes: the body on each live journal, then the seal on each, then the
+//! members.
 ghost use Rattle.std.specs.Prelude.{◌≡◌};
 
 use super::{List, commit};
@@ -102,8 +103,8 @@ fn array_without(rt: &(impl Abort + AllocGlobal), missing: usize) -> Array<Noted
     array
 }
 
-// Asks that the first commit to set A without a slot, where it is one of the set's, makes these calls in this order, and no
-// others that change something.
+// Asks that the first commit to set A without a slot, where it is one of the set's, makes these calls in this order,
+// and no others that change something.
 fn check_order(rt: &(impl Abort + AllocGlobal), missing: usize, list: List, order: &[Done]) {
     let mut array = array_without(rt, missing);
     commit(rt, &mut array, list);
@@ -114,8 +115,8 @@ fn check_order(rt: &(impl Abort + AllocGlobal), missing: usize, list: List, orde
     same(rt, array.bank.done, wanted);
 }
 
-// Entry 1 has its seal in sector 3 of each journal and its body from sector 264 on; of row 32, in sector 40 of the members, it
-// holds the parity of member 1 and the data of member 2.
+// Entry 1 has its seal in sector 3 of each journal and its body from sector 264 on; of row 32, in sector 40 of the
+// members, it holds the parity of member 1 and the data of member 2.
 #[test]
 fn both_bodies_before_a_seal(rt: HostRuntime) {
     let order = [

@@ -1,6 +1,7 @@
-//! Assembling a set of 3 members, chunk 8 and 32 stripes whose last entry is copied to a journal or replayed on members:
-//! crashes in it, devices that fail in it, and how many device calls it makes. Row 32 has logical sectors 72 and 64 on
-//! members 0 and 2, row 33 has 73 and 65; the parity of both is on member 1. An entry holds what was committed, and parity.
+//! Assembling a set of 3 members, chunk 8 and 32 stripes whose last entry is copied to a journal or replayed on
+//! members: crashes in it, devices that fail in it, and how many device calls it makes. Row 32 has logical sectors 72
+//! and 64 on members 0 and 2, row 33 has 73 and 65; the parity of both is on member 1. An entry holds what was
+//! committed, and parity.
 use super::{List, check_members, check_sectors, checked, commit, table_of};
 use crate::Returned;
 use crate::testing::{
@@ -113,7 +114,8 @@ fn journals_equal_after_assembly(rt: HostRuntime) {
     check_journals_after(&rt, &bank, between_seals());
 }
 
-// Checks that a set is complete at generation 1 and reads so, and that its members say so by themselves, each row sound.
+// Checks that a set is complete at generation 1 and reads so, and that its members say so by themselves, each row
+// sound.
 fn check_whole(rt: &(impl Abort + AllocGlobal), array: &mut Array<MemBank>, list: List) {
     same(rt, array.table.generation, 1);
     check_missing(rt, &array.table, NONE);
@@ -138,8 +140,8 @@ fn check_crash(
     }
 }
 
-// Checks a crash at each call of the commit of `TWO`. After `first` calls from the first seal on, which the second of them makes
-// safe, the new sectors are there.
+// Checks a crash at each call of the commit of `TWO`. After `first` calls from the first seal on, which the second of
+// them makes safe, the new sectors are there.
 fn check_crashes(rt: &(impl Abort + AllocGlobal), choice: Choice, first: u64) {
     let bank = committed(rt, &TWO);
     let from = BEGINNING.calls();
@@ -205,8 +207,8 @@ const COPIED: AssemblySize = AssemblySize {
     is_copied: true,
 };
 
-// Checks what is assembled after a crash that leaves each device: by the table that they choose, in which this slot is missing
-// from generation 2 on.
+// Checks what is assembled after a crash that leaves each device: by the table that they choose, in which this slot is
+// missing from generation 2 on.
 fn check_with(rt: &(impl Abort + AllocGlobal), image: Image, slot: u8, list: List) {
     let table = table_of(rt, &image);
     let missing = if table.generation == 1 {
@@ -227,8 +229,8 @@ fn check_without(rt: &(impl Abort + AllocGlobal), bank: &MemBank, call: u64, slo
     );
 }
 
-// The array that is assembled where a slot goes down at its first call from this one on: the slot is missing where it is
-// called then.
+// The array that is assembled where a slot goes down at its first call from this one on: the slot is missing where it
+// is called then.
 fn with_failure(
     rt: &(impl Abort + AllocGlobal),
     bank: &MemBank,
@@ -246,7 +248,8 @@ fn with_failure(
     array
 }
 
-// Checks a crash at each call of an assembly from this one on, with the device of the slot that goes down and without it.
+// Checks a crash at each call of an assembly from this one on, with the device of the slot that goes down and without
+// it.
 fn check_later_crashes(rt: &(impl Abort + AllocGlobal), bank: &MemBank, slot: u8, call: u64) {
     let calls = bank.now();
     assert!(rt; calls < 1_000);
@@ -257,8 +260,8 @@ fn check_later_crashes(rt: &(impl Abort + AllocGlobal), bank: &MemBank, slot: u8
     }
 }
 
-// Checks the assembly in which a slot goes down at its first call from this one on, and a crash at each later call of it, with
-// the device of the slot and without it.
+// Checks the assembly in which a slot goes down at its first call from this one on, and a crash at each later call of
+// it, with the device of the slot and without it.
 fn check_failure(
     rt: &(impl Abort + AllocGlobal),
     bank: &MemBank,
@@ -296,8 +299,8 @@ fn each_journal_down_in_assembly(rt: HostRuntime) {
     }
 }
 
-// Checks a crash at each call of an assembly without the device of slot 3, which alone has entry 2 when it begins: the entry
-// before is there until slot 4 has the seal, which is flushed before the first write to a member.
+// Checks a crash at each call of an assembly without the device of slot 3, which alone has entry 2 when it begins: the
+// entry before is there until slot 4 has the seal, which is flushed before the first write to a member.
 #[test]
 fn source_lost_in_a_copy(rt: HostRuntime) {
     let bank = committed(&rt, &ONE);
@@ -315,8 +318,8 @@ fn source_lost_in_a_copy(rt: HostRuntime) {
     }
 }
 
-// Checks a crash at each call from this one on of an assembly in which slot 3 goes down: with its device back the entry is
-// there until generation 2 calls the slot missing, and without it the entry before.
+// Checks a crash at each call from this one on of an assembly in which slot 3 goes down: with its device back the entry
+// is there until generation 2 calls the slot missing, and without it the entry before.
 fn check_crashes_without_source(rt: &(impl Abort + AllocGlobal), bank: &MemBank, call: u64) {
     let calls = bank.now();
     assert!(rt; calls < 1_000);
@@ -328,8 +331,8 @@ fn check_crashes_without_source(rt: &(impl Abort + AllocGlobal), bank: &MemBank,
     }
 }
 
-// Checks an assembly in which slot 3 goes down at its first call from this one on, which alone had entry 2, and a crash at
-// each later call of it.
+// Checks an assembly in which slot 3 goes down at its first call from this one on, which alone had entry 2, and a crash
+// at each later call of it.
 fn check_lost_source(rt: &(impl Abort + AllocGlobal), bank: &MemBank, call: u64) {
     let mut array = with_failure(rt, bank, &stale_journal(), 3, call);
     check_sectors(rt, &mut array, &OLD);
@@ -360,8 +363,8 @@ fn check_one_lost(rt: &impl Abort, array: &mut Array<MemBank>) {
     check_sectors(rt, array, &AFTER_ONE);
 }
 
-// Checks an assembly in which a second slot is lost: all that was committed is there once the device of slot 0 is back, and
-// the one that went down.
+// Checks an assembly in which a second slot is lost: all that was committed is there once the device of slot 0 is back,
+// and the one that went down.
 fn check_two_lost(rt: &(impl Abort + AllocGlobal), returned: &Returned<MemBank>, first: &MemBank) {
     same(rt, returned.refusal, Refusal::TwoLost);
     for choice in [Choice::Oldest, Choice::Newest] {
@@ -398,8 +401,8 @@ fn two_slots_down_in_assembly(rt: HostRuntime) {
     }
 }
 
-// Checks what is assembled with the old device back in slot 2, which failed in a commit of logical sector 64, after another
-// one without it.
+// Checks what is assembled with the old device back in slot 2, which failed in a commit of logical sector 64, after
+// another one without it.
 fn check_old_device(rt: &(impl Abort + AllocGlobal), bank: &MemBank, choice: Choice) {
     let image = left(rt, bank, bank.now(), choice, 2);
     let mut array = checked(rt, image, 2, &[(64, 0x66), (65, 0x77), (72, 0x05)]);
@@ -457,8 +460,8 @@ static REPLAYS: [Replay; 3] = [
     },
 ];
 
-// The array that is assembled on these devices by the calls of this size, and reads of which give these logical sectors: each
-// write or flush takes room in the log.
+// The array that is assembled on these devices by the calls of this size, and reads of which give these logical
+// sectors: each write or flush takes room in the log.
 fn assembled_by(
     rt: &(impl Abort + AllocGlobal),
     image: Image,
@@ -491,8 +494,8 @@ fn check_assembly(
     let _ = assembled_by(rt, image, size, list);
 }
 
-// Checks the assemblies of an entry that one journal has after so many calls, and both have after so many: with all there,
-// without a member, and without a journal.
+// Checks the assemblies of an entry that one journal has after so many calls, and both have after so many: with all
+// there, without a member, and without a journal.
 fn check_assemblies(
     rt: &(impl Abort + AllocGlobal),
     bank: &MemBank,

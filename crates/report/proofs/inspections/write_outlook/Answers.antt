@@ -14,5 +14,6 @@ returns-in-Rebuilding c =
     ++ (codes "would assemble: slot " ++ (decimal c.in-Rebuilding.slot ++ (codes " rebuilding at " ++ decimal c.in-Rebuilding.position))))
     = c.write-in-Rebuilding.ensures.bytes in
     on_ok_weaker c.write-in-Rebuilding.result (λ same. same
-    ∙ line_of (string_bytes c.args.text.now) (codes "would assemble: slot ") (decimal c.in-Rebuilding.slot) (codes " rebuilding at ") (decimal c.in-Rebuilding.position)
+    ∙ line_of (string_bytes c.args.text.now) (codes "would assemble: slot ") (decimal c.in-Rebuilding.slot) (codes " rebuilding at ")
+    (decimal c.in-Rebuilding.position)
     ∙ ap (λ o. string_bytes c.args.text.now ++ outlook_text o) (sym c.in-Rebuilding.is)) told

@@ -21,7 +21,8 @@ returns c =
     let told : OnOk c.write.result (string_bytes c.write.new.self ≡ string_bytes c.args.text.now ++ written number_text role_text) = c.write.ensures.bytes in
     let number : number_text ≡ at_right 2 (decimal slot) = ap (λ s. styled_decimal s slot) c.laid_out.ensures ∙ number_padded slot c.requires in
     let role : role_text ≡ at_left 8 (role_word c.args.members slot) =
-    ap (λ s. styled_text s c.role_word-role.result.now) c.laid_out-2.ensures ∙ ap (λ (text : List ℕ). padded_in 8 text) c.role_word-role.ensures ∙ role_padded c.args.members slot in
+    ap (λ s. styled_text s c.role_word-role.result.now) c.laid_out-2.ensures ∙ ap (λ (text : List ℕ). padded_in 8 text) c.role_word-role.ensures
+    ∙ role_padded c.args.members slot in
     let line : written number_text role_text ≡ place_text c.args.members slot =
     ap (λ (text : List ℕ). written text role_text) number
     ∙ ap (λ (text : List ℕ). written (at_right 2 (decimal slot)) text) role

@@ -1,10 +1,12 @@
-use Rattle.std.proofs.Common.{◌≡◌, ◌<◌, ◌==◌, ℕ, zero, suc, [], length, vec_len, Bool, false, true, not, Ok, OnSome, sym, ap, arith, eqb-true, drop_of_length-le}
+use Rattle.std.proofs.Common.{◌≡◌, ◌<◌, ◌==◌, ℕ, zero, suc, [], length, vec_len, Bool, false, true, not, Ok, OnSome, sym, ap, arith, eqb-true}
+use Rattle.std.proofs.Common.{drop_of_length-le}
 use Rattle.std.proofs.KnownBytes.{Keeps-refl}
 use Rattle.std.specs.Io.KnownBytes.{IsAtEnd}
 use Rattle.std.proofs.lemmas.Result.{err_from_is_err_and}
 use Rattle.report.specs.Lines.{ReadsPart}
 use Rattle.report.specs.declared.lines.Met.TheVariants.{LineEnd, ScriptEnd}
-use Rattle.report.proofs.LineLemmas.{ReadsPart-trans, line_from_parts, unbroken_from_parts, end_from_parts, last_line_from_parts, no_line_from_parts, stop_from_parts}
+use Rattle.report.proofs.LineLemmas.{ReadsPart-trans, line_from_parts, unbroken_from_parts, end_from_parts, last_line_from_parts, no_line_from_parts}
+use Rattle.report.proofs.LineLemmas.{stop_from_parts}
 use Rattle.report.proofs.lines.next_line.Given.{Over}
 use Rattle.report.proofs.lines.next_line.Goals.{After-is_empty}
 use Rattle.report.proofs.lines.next_line.Goals as goal
@@ -25,7 +27,8 @@ pub returns-clause-fault : goal.returns-clause-fault
 returns-clause-fault g c = stop_from_parts _ _ _ _ c.loop.invariant.read (Keeps-refl _)
 
 pub returns-in-LineEnd-clause-line : goal.returns-in-LineEnd-clause-line
-returns-in-LineEnd-clause-line g c = λ _. line_from_parts _ _ _ (ReadsPart-trans _ _ _ LineEnd _ _ _ c.loop.invariant.read (rw c.in-LineEnd.is at c.in_ok-read_part.ensures.read))
+returns-in-LineEnd-clause-line g c = λ _. line_from_parts _ _ _
+    (ReadsPart-trans _ _ _ LineEnd _ _ _ c.loop.invariant.read (rw c.in-LineEnd.is at c.in_ok-read_part.ensures.read))
 
 pub returns-in-LineEnd-clause-unbroken : goal.returns-in-LineEnd-clause-unbroken
 returns-in-LineEnd-clause-unbroken g c = unbroken_from_parts _ _ _ _ (ReadsPart-trans _ _ _ _ _ _ _ c.loop.invariant.read c.in_ok-read_part.ensures.read)
@@ -49,7 +52,8 @@ no_byte g c h = let none : vec_len c.read_part.new.line ≡ 0 = zero_if_true _ _
 ends : (g : Over) (c : After-is_empty g) → OnSome (g.R.Read.remaining c.args.reader.now) (IsAtEnd (g.R.Read.remaining c.read_part.new.reader))
 ends g c = end_from_parts _ _ _ _ _ c.loop.invariant.read (c.in_ok-read_part.ensures.end (ap Ok c.in-ScriptEnd.is))
 
-all_read : (g : Over) (c : After-is_empty g) → ReadsPart (g.R.Read.remaining c.args.reader.now) (g.R.Read.remaining c.read_part.new.reader) ScriptEnd [] c.read_part.new.line.items
+all_read : (g : Over) (c : After-is_empty g) → ReadsPart (g.R.Read.remaining c.args.reader.now) (g.R.Read.remaining c.read_part.new.reader) ScriptEnd []
+    c.read_part.new.line.items
 all_read g c = ReadsPart-trans _ _ _ ScriptEnd _ _ _ c.loop.invariant.read (rw c.in-ScriptEnd.is at c.in_ok-read_part.ensures.read)
 
 pub returns-in-ScriptEnd-clause-line : goal.returns-in-ScriptEnd-clause-line

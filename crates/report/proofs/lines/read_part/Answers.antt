@@ -13,7 +13,8 @@ returns-then-eq-clause-read g c = ReadsPart-nothing _ _ _ _ c.fill_buf.follows.h
 
 -- the bytes of the part and of its end are gone, and where none was shown none is left
 moved : (g : Over) (c : After-consume g)
-    → Consumes (g.R.Read.remaining c.args.reader.now) (g.R.Read.remaining c.consume.new.self) (take (c.find_end-part_len.result.0 + c.end_len.result) c.in-Ok.shown.now)
+    → Consumes (g.R.Read.remaining c.args.reader.now) (g.R.Read.remaining c.consume.new.self)
+    (take (c.find_end-part_len.result.0 + c.end_len.result) c.in-Ok.shown.now)
     × (length c.in-Ok.shown.now ≡ 0 → OnSome (g.R.Read.remaining c.args.reader.now) (IsAtEnd (g.R.Read.remaining c.consume.new.self)))
 moved g c =
     let found = c.find_end-part_len.ensures in

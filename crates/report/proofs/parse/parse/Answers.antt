@@ -1,6 +1,7 @@
 use Rattle.std.proofs.Common.{Some, refl, sym, ap, ◌∙◌}
 use Rattle.volume_table.specs.VolumeStep.{Create, Extend}
-use Rattle.report.proofs.CommandLemmas.{create_unsaid, extend_unsaid, list_said, list_unsaid, other_unsaid, read_said, read_unsaid, remove_said, remove_unsaid, rename_said, rename_unsaid, sized_said, write_said, write_unsaid}
+use Rattle.report.proofs.CommandLemmas.{create_unsaid, extend_unsaid, list_said, list_unsaid, other_unsaid, read_said, read_unsaid, remove_said, remove_unsaid}
+use Rattle.report.proofs.CommandLemmas.{rename_said, rename_unsaid, sized_said, write_said, write_unsaid}
 use Rattle.report.proofs.parse.parse.Goals as goal
 
 pub returns-in_err-of-clause-unsaid : goal.returns-in_err-of-clause-unsaid

@@ -20,7 +20,8 @@ returns-in-None-clause-said c =
       second,
       record {
         place = record {
-          spelled = one.spelled ∙ ap (λ (rest : List (List ℕ)). first ∷ rest) (other.spelled ∙ ap (λ (rest : List (List ℕ)). second ∷ rest) c.in-None.ensures.steps.0);
+          spelled = one.spelled ∙ ap (λ (rest : List (List ℕ)). first ∷ rest)
+              (other.spelled ∙ ap (λ (rest : List (List ℕ)). second ∷ rest) c.in-None.ensures.steps.0);
           is_name = one.is_name;
         };
         is_name = other.is_name;

@@ -11,6 +11,7 @@ returns-in_err-write_volume g c =
     let it = c.in_err-write_volume.ensures in
     rw (p.1, p.2) (record {
       ok = tt;
-      part = AppendsPart-item (λ volume. volume_line (volume_of volume)) _ _ _ c.args.volumes.now c.loop-volume.volume-index c.volume-item.result c.loop-volume-test.true c.loop-volume.invariant (rw (sym c.volume-item.is) it.part);
+      part = AppendsPart-item (λ volume. volume_line (volume_of volume)) _ _ _ c.args.volumes.now c.loop-volume.volume-index c.volume-item.result
+          c.loop-volume-test.true c.loop-volume.invariant (rw (sym c.volume-item.is) it.part);
       kind = it.kind;
     })

@@ -11,7 +11,9 @@ pub returns : goal.returns
 returns c =
     let its = c.args.status.now in
     let told : OnOk c.writeln.result (string_bytes c.writeln.new.self ≡ string_bytes c.args.text.now
-    ++ (codes "members " ++ (decimal its.members ++ (codes " chunk " ++ (decimal its.chunk ++ (codes " stripes " ++ (decimal its.stripes ++ (codes " rows " ++ (decimal its.rows ++ codes "\n")))))))))
+    ++ (codes "members " ++ (decimal its.members ++ (codes " chunk "
+    ++ (decimal its.chunk ++ (codes " stripes " ++ (decimal its.stripes ++ (codes " rows " ++ (decimal its.rows ++ codes "\n")))))))))
     = c.writeln.ensures.bytes in
     on_ok_weaker c.writeln.result (λ same. same ∙ ap (λ (text : List ℕ). string_bytes c.args.text.now ++ text)
-    (line_of (codes "members ") (decimal its.members) (codes " chunk ") (decimal its.chunk) (codes " stripes ") (decimal its.stripes) (codes " rows ") (decimal its.rows) (codes "\n"))) told
+    (line_of (codes "members ") (decimal its.members) (codes " chunk ") (decimal its.chunk) (codes " stripes ") (decimal its.stripes) (codes " rows ")
+    (decimal its.rows) (codes "\n"))) told

@@ -11,8 +11,11 @@ pub returns : goal.returns
 returns c =
     let its = c.args.status.now in
     let told : OnOk c.writeln.result (string_bytes c.writeln.new.self ≡ string_bytes c.args.text.now
-    ++ (codes "generation " ++ (decimal its.generation ++ (codes " position " ++ (decimal its.position ++ (codes " left " ++ (decimal c.left_of-left.result ++ codes "\n")))))))
+    ++ (codes "generation " ++ (decimal its.generation
+    ++ (codes " position " ++ (decimal its.position ++ (codes " left " ++ (decimal c.left_of-left.result ++ codes "\n")))))))
     = c.writeln.ensures.bytes in
     on_ok_weaker c.writeln.result (λ same. same ∙ ap (λ (text : List ℕ). string_bytes c.args.text.now ++ text)
-    (line_of (codes "generation ") (decimal its.generation) (codes " position ") (decimal its.position) (codes " left ") (decimal c.left_of-left.result) (codes "\n")
-    ∙ ap (λ (n : ℕ). codes "generation " ++ decimal its.generation ++ codes " position " ++ decimal its.position ++ codes " left " ++ decimal n ++ codes "\n") c.left_of-left.ensures)) told
+    (line_of (codes "generation ") (decimal its.generation) (codes " position ") (decimal its.position) (codes " left ") (decimal c.left_of-left.result)
+    (codes "\n")
+    ∙ ap (λ (n : ℕ). codes "generation " ++ decimal its.generation ++ codes " position " ++ decimal its.position ++ codes " left " ++ decimal n ++ codes "\n")
+    c.left_of-left.ensures)) told

@@ -7,4 +7,5 @@ use Rattle.report.proofs.value.put_numbers.Given as goal
 
 abbrev pub invariant-loop-key : goal.invariant-loop-key
 invariant-loop-key l = members_view l.object.entries
-    ≡ fold (λ (done : Members) (number : Bor (List ℕ) × ℕ). put number.0.now (whole number.1) done) (members_view l.initial.object.entries) (take l.key-index l.numbers)
+    ≡ fold (λ (done : Members) (number : Bor (List ℕ) × ℕ). put number.0.now (whole number.1) done) (members_view l.initial.object.entries)
+    (take l.key-index l.numbers)

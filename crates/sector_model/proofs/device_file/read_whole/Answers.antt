@@ -8,7 +8,8 @@ loop-preserved g c = elim c.match-read_rest.branch [
   | in-Ok w ↦ record {
     done = omega (arith, w.done-is, w.in-Ok.ensures.bound);
     same = λ tells. c.read_rest.ensures.same tells ∙ c.loop.invariant.same tells;
-    read = λ tells. read_more _ _ _ _ _ _ w.done-is (c.loop.invariant.same tells) (c.loop.invariant.read tells) c.read_rest.ensures.front (w.in-Ok.ensures.read tells);
+    read = λ tells. read_more _ _ _ _ _ _ w.done-is (c.loop.invariant.same tells) (c.loop.invariant.read tells) c.read_rest.ensures.front
+        (w.in-Ok.ensures.read tells);
   }
   | in-Err+else-ne w ↦ record {
     done = omega (arith, w.done-is, c.loop.invariant.done);

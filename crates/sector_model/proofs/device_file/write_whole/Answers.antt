@@ -7,7 +7,8 @@ pub loop-preserved : goal.loop-preserved
 loop-preserved g c = elim c.match-write_part.branch [
   | in-Ok w ↦ record {
     done = omega (arith, w.done-is, w.in-Ok.ensures.bound);
-    written = λ tells. written_more _ _ _ _ _ _ w.done-is w.in-Ok.ensures.bound c.rest_of.ensures.each (c.loop.invariant.written tells) (w.in-Ok.ensures.written tells);
+    written = λ tells. written_more _ _ _ _ _ _ w.done-is w.in-Ok.ensures.bound c.rest_of.ensures.each (c.loop.invariant.written tells)
+        (w.in-Ok.ensures.written tells);
   }
   | in-Err+else-ne w ↦ record {
     done = omega (arith, w.done-is, c.loop.invariant.done);

@@ -11,7 +11,8 @@ loop-file-preserved g c = record {
   so_far = omega (arith, c.in_ok-push.ensures.len, c.loop-file.invariant.so_far, length-append c.loop-file.yielded (c.in-Some.file ∷ []));
   opened = rw (c.in_ok-push.ensures.items) (opened_more c.loop-file.slots.items c.over.result c.loop-file.invariant.opened c.over.ensures.opened);
   made = λ tells. rw (c.in_ok-push.ensures.items)
-      (made_more c.loop-file.yielded c.loop-file.slots.items c.in-Some.file c.over.result (sym c.loop-file.slots.ok.0 ∙ c.loop-file.invariant.so_far) (c.loop-file.invariant.made tells) (c.over.ensures.made tells));
+      (made_more c.loop-file.yielded c.loop-file.slots.items c.in-Some.file c.over.result (sym c.loop-file.slots.ok.0 ∙ c.loop-file.invariant.so_far)
+      (c.loop-file.invariant.made tells) (c.over.ensures.made tells));
 }
 
 pub returns-in_err-slots-clause-len : goal.returns-in_err-slots-clause-len
@@ -45,11 +46,14 @@ loop-file-init g c = record {
 pub returns-clause-len : goal.returns-clause-len
 returns-clause-len g c =
     let gives = c.into_iter-file-iterator.ensures.into_iter_gives in
-    let all = YieldsList-end (YieldsList-from_vec c.args.files.items gives.0 (gives.1 ∙ c.args.files.ok.0)) c.loop-file.yielded c.loop-file.file-iterator c.loop-file.yielded_by c.next.result c.next.new.self c.in-None.is c.next.ensures.steps in
+    let all = YieldsList-end (YieldsList-from_vec c.args.files.items gives.0 (gives.1 ∙ c.args.files.ok.0)) c.loop-file.yielded c.loop-file.file-iterator
+    c.loop-file.yielded_by c.next.result c.next.new.self c.in-None.is c.next.ensures.steps in
     c.loop-file.invariant.so_far ∙ all.1 ∙ sym c.args.files.ok.0
 
 pub returns-clause-made : goal.returns-clause-made
 returns-clause-made g c = λ tells d within.
     let gives = c.into_iter-file-iterator.ensures.into_iter_gives in
-    let all = YieldsList-end (YieldsList-from_vec c.args.files.items gives.0 (gives.1 ∙ c.args.files.ok.0)) c.loop-file.yielded c.loop-file.file-iterator c.loop-file.yielded_by c.next.result c.next.new.self c.in-None.is c.next.ensures.steps in
-    made_all c.args.files.items c.loop-file.yielded c.loop-file.slots.items (sym (map-id c.loop-file.yielded) ∙ all.0) c.args.files.ok.0 (c.loop-file.invariant.made tells) d within
+    let all = YieldsList-end (YieldsList-from_vec c.args.files.items gives.0 (gives.1 ∙ c.args.files.ok.0)) c.loop-file.yielded c.loop-file.file-iterator
+    c.loop-file.yielded_by c.next.result c.next.new.self c.in-None.is c.next.ensures.steps in
+    made_all c.args.files.items c.loop-file.yielded c.loop-file.slots.items (sym (map-id c.loop-file.yielded) ∙ all.0) c.args.files.ok.0
+    (c.loop-file.invariant.made tells) d within

@@ -4,7 +4,8 @@ use Rattle.std.proofs.lemmas.Result.{err_from_is_err_and}
 use Rattle.sector_model.specs.declared.refusal.Refusal.{Refusal}
 use Rattle.sector_model.specs.declared.refusal.Refusal.TheVariants.{Memory, ReadFault, WriteFault}
 use Rattle.array_io.specs.Believed.Views.{EndsIt}
-use Rattle.set_commands.proofs.Scripts.{come_cut, come_ended, come_first, come_last, come_more, come_too_far, come_unread, gives_line, has_no_line, memory_not_writing, not_memory, not_reading, reading_not_memory, reading_not_writing, same_refusal, script_refusal}
+use Rattle.set_commands.proofs.Scripts.{come_cut, come_ended, come_first, come_last, come_more, come_too_far, come_unread, gives_line, has_no_line}
+use Rattle.set_commands.proofs.Scripts.{memory_not_writing, not_memory, not_reading, reading_not_memory, reading_not_writing, same_refusal, script_refusal}
 use Rattle.set_commands.proofs.script.run_script.Goals as goal
 
 pub loop-init : goal.loop-init
@@ -130,7 +131,8 @@ returns-in_err-answer_line-clause-honest g c = (
 )
 
 pub returns-in_err-answer_line-clause-done : goal.returns-in_err-answer_line-clause-done
-returns-in_err-answer_line-clause-done g c = rw (err_from_is_err_and c.from_residual-in_err-answer_line.result c.from_residual-in_err-answer_line.ensures.1).1 tt
+returns-in_err-answer_line-clause-done g c = rw (err_from_is_err_and c.from_residual-in_err-answer_line.result c.from_residual-in_err-answer_line.ensures.1).1
+    tt
 
 pub returns-in_err-answer_line-clause-err : goal.returns-in_err-answer_line-clause-err
 returns-in_err-answer_line-clause-err g c =

@@ -1,7 +1,8 @@
 use Rattle.std.proofs.lemmas.Result.{err_from_is_err_and, IfErr-weaker, on_ok_weaker}
 use Rattle.std.proofs.Common.{inl, refl}
 use Rattle.set_commands.proofs.FreshLemmas.{read_whole, unchanged_if_early}
-use Rattle.set_commands.proofs.Served.{opening_is_end, opening_not_reading, opening_not_writing, script_is_end, served_opened, served_ran, served_until_loss, served_until_read, served_until_write}
+use Rattle.set_commands.proofs.Served.{opening_is_end, opening_not_reading, opening_not_writing, script_is_end, served_opened, served_ran, served_until_loss}
+use Rattle.set_commands.proofs.Served.{served_until_read, served_until_write}
 use Rattle.set_commands.proofs.serving.serve_on.Goals as goal
 
 pub returns-clause-ran : goal.returns-clause-ran
@@ -18,13 +19,16 @@ pub returns-clause-unopened : goal.returns-clause-unopened
 returns-clause-unopened g c = served_opened _ _ _ c.run_script.result c.run_script.ensures.err
 
 pub returns-clause-loss : goal.returns-clause-loss
-returns-clause-loss g c = served_until_loss _ _ c.in_ok-store.ensures.honest.0 _ _ _ _ c.in_ok-store.ensures.opened _ _ _ c.run_script.result c.run_script.ensures.loss
+returns-clause-loss g c = served_until_loss _ _ c.in_ok-store.ensures.honest.0 _ _ _ _ c.in_ok-store.ensures.opened _ _ _ c.run_script.result
+    c.run_script.ensures.loss
 
 pub returns-clause-read_fault : goal.returns-clause-read_fault
-returns-clause-read_fault g c = served_until_read _ _ c.in_ok-store.ensures.honest.0 _ _ _ _ c.in_ok-store.ensures.opened _ _ c.run_script.result c.run_script.ensures.read_fault
+returns-clause-read_fault g c = served_until_read _ _ c.in_ok-store.ensures.honest.0 _ _ _ _ c.in_ok-store.ensures.opened _ _ c.run_script.result
+    c.run_script.ensures.read_fault
 
 pub returns-clause-write_fault : goal.returns-clause-write_fault
-returns-clause-write_fault g c = served_until_write _ _ c.in_ok-store.ensures.honest.0 _ _ _ _ c.in_ok-store.ensures.opened _ _ c.run_script.result c.run_script.ensures.write_fault
+returns-clause-write_fault g c = served_until_write _ _ c.in_ok-store.ensures.honest.0 _ _ _ _ c.in_ok-store.ensures.opened _ _ c.run_script.result
+    c.run_script.ensures.write_fault
 
 pub returns-clause-end : goal.returns-clause-end
 returns-clause-end g c = IfErr-weaker c.run_script.result _ _ (λ refusal. script_is_end refusal) c.run_script.ensures.err

@@ -7,7 +7,8 @@ use Rattle.set_commands.proofs.serving.tell_on.Goals as goal
 
 pub returns-clause-told : goal.returns-clause-told
 returns-clause-told g c =
-    let told : StatusOn (g.B.Bank.honest c.args.bank) c.args.id _ c.in_ok-status.status = record { store = _; opened = c.in_ok-store.ensures.opened; tells = c.in_ok-status.ensures } in
+    let told : StatusOn (g.B.Bank.honest c.args.bank) c.args.id _ c.in_ok-status.status =
+    record { store = _; opened = c.in_ok-store.ensures.opened; tells = c.in_ok-status.ensures } in
     tells_on _ _ _ c.args.json _ _ c.in_ok-status.status told c.write_status.result c.write_status.ensures.ok
 
 pub returns-clause-unopened : goal.returns-clause-unopened
@@ -15,7 +16,8 @@ returns-clause-unopened g c = untold_for _ _ _ _ c.write_status.result _ c.write
 
 pub returns-clause-cut : goal.returns-clause-cut
 returns-clause-cut g c =
-    let told : StatusOn (g.B.Bank.honest c.args.bank) c.args.id _ c.in_ok-status.status = record { store = _; opened = c.in_ok-store.ensures.opened; tells = c.in_ok-status.ensures } in
+    let told : StatusOn (g.B.Bank.honest c.args.bank) c.args.id _ c.in_ok-status.status =
+    record { store = _; opened = c.in_ok-store.ensures.opened; tells = c.in_ok-status.ensures } in
     tells_part_on _ _ _ c.args.json _ _ c.in_ok-status.status told _ c.write_status.result c.write_status.ensures.err
 
 pub returns-in_err-store-clause-told : goal.returns-in_err-store-clause-told
@@ -33,7 +35,8 @@ pub returns-in_err-status-clause-told : goal.returns-in_err-status-clause-told
 returns-in_err-status-clause-told g c = rw (err_from_is_err_and c.from_residual-in_err-status.result c.from_residual-in_err-status.ensures.1).1 tt
 
 pub returns-in_err-status-clause-unwritten : goal.returns-in_err-status-clause-unwritten
-returns-in_err-status-clause-unwritten g c = rw (err_from_is_err_and c.from_residual-in_err-status.result c.from_residual-in_err-status.ensures.1).1 (λ other. refl)
+returns-in_err-status-clause-unwritten g c = rw (err_from_is_err_and c.from_residual-in_err-status.result c.from_residual-in_err-status.ensures.1).1
+    (λ other. refl)
 
 pub returns-in_err-store-clause-end : goal.returns-in_err-store-clause-end
 returns-in_err-store-clause-end g c =

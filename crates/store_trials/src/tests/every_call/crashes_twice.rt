@@ -1,5 +1,5 @@
-//! A crash in the list, and a second one at each device call of the assembly that follows, with the same slot absent: the assembly after it gives
-//! the volumes that the first one gave.
+//! A crash in the list, and a second one at each device call of the assembly that follows, with the same slot absent:
+//! the assembly after it gives the volumes that the first one gave.
 use super::super::{NO_SLOT, again, check_missing};
 use super::crashes::{FIRST_CRASHES, all_done, events_shown};
 use super::{shown, wanted};
@@ -14,8 +14,9 @@ struct Commit {
     held: [u64; 3],
 }
 
-// The commits. The first call of the seals lies after the reads and two bodies with a flush each: the commits begin at calls 30, 99, 121, 136,
-// 214, 229, 258, 287, 309, 331, 440, 462 and 477, and read 6, 2, 1, 10, 1, 3, 3, 2, 2, 4, 2, 1 and 7 sectors.
+// The commits. The first call of the seals lies after the reads and two bodies with a flush each: the commits begin at
+// calls 30, 99, 121, 136, 214, 229, 258, 287, 309, 331, 440, 462 and 477, and read 6, 2, 1, 10, 1, 3, 3, 2, 2, 4, 2, 1
+// and 7 sectors.
 static COMMITS: [Commit; 13] = [
     // Rows 32 and 33 whole, and one block in each of 34 to 39, on member 2 with the parity on 1.
     Commit {
@@ -84,8 +85,8 @@ static COMMITS: [Commit; 13] = [
 // The first call of the seals of the upgrade.
 const UPGRADE_SEALS: u64 = 477 + 7 + 2 * 42;
 
-// What the last entry of a journal holds for each member after so many calls, all of which have landed: its seal is so many calls after the
-// first one of its commit's seals. Nothing where there is no entry.
+// What the last entry of a journal holds for each member after so many calls, all of which have landed: its seal is so
+// many calls after the first one of its commit's seals. Nothing where there is no entry.
 fn held_after(calls: u64, after: u64) -> [u64; 3] {
     let mut held = [0; 3];
     for commit in &COMMITS {
@@ -96,7 +97,8 @@ fn held_after(calls: u64, after: u64) -> [u64; 3] {
     held
 }
 
-// How many calls put an entry on the members: a write of each sector and a flush of each member that has some, but none on the one that is absent.
+// How many calls put an entry on the members: a write of each sector and a flush of each member that has some, but none
+// on the one that is absent.
 fn put_calls(held: [u64; 3], absent: usize) -> u64 {
     let mut calls = 0u64;
     for member in 0..3usize {
@@ -112,8 +114,8 @@ fn sectors_of(held: [u64; 3]) -> u64 {
     held[0].saturating_add(held[1]).saturating_add(held[2])
 }
 
-// Whether the table that is opened after so many calls, all of which have landed, has version 2: one journal that is there has the entry of the
-// upgrade.
+// Whether the table that is opened after so many calls, all of which have landed, has version 2: one journal that is
+// there has the entry of the upgrade.
 fn is_upgraded(calls: u64, absent: usize) -> bool {
     let seal = if absent == 3 {
         UPGRADE_SEALS + 2
@@ -123,8 +125,9 @@ fn is_upgraded(calls: u64, absent: usize) -> bool {
     seal < calls
 }
 
-// The calls of reading the table of volumes, without a slot or with all. In version 1 member 0 has sectors 0 to 7, and member 1 has 8 to 10. In version 2
-// member 0 has sectors 0 to 7 and 24, member 1 has 8 to 15, and member 2 has 16 to 23. A sector on the absent member takes a read of each other one.
+// The calls of reading the table of volumes, without a slot or with all. In version 1 member 0 has sectors 0 to 7, and
+// member 1 has 8 to 10. In version 2 member 0 has sectors 0 to 7 and 24, member 1 has 8 to 15, and member 2 has 16 to
+// 23. A sector on the absent member takes a read of each other one.
 fn open_calls(absent: usize, is_upgraded: bool) -> u64 {
     match (is_upgraded, absent) {
         (false, 0) => 3 + 2 * 8,
@@ -136,8 +139,9 @@ fn open_calls(absent: usize, is_upgraded: bool) -> u64 {
     }
 }
 
-// The calls of finding a set, without those of an entry. All there: two reads of each device, one for whether its table is stale, and two of seals of each
-// journal. With a slot out: two reads of each of four devices, a table published on four, and the seals of the journals that are there.
+// The calls of finding a set, without those of an entry. All there: two reads of each device, one for whether its table
+// is stale, and two of seals of each journal. With a slot out: two reads of each of four devices, a table published on
+// four, and the seals of the journals that are there.
 fn found_calls(absent: usize) -> u64 {
     match absent {
         0 | 1 | 2 => 8 + 8 + 4,
@@ -146,9 +150,9 @@ fn found_calls(absent: usize) -> u64 {
     }
 }
 
-// The calls of assembling and opening the set after a crash by Newest. The upper journal's seal comes two calls after the lower's. So the last
-// entry is the lower journal's, if that is there, and the upper one is stale where it does not have it: it gets the sectors, a seal and a flush
-// after each.
+// The calls of assembling and opening the set after a crash by Newest. The upper journal's seal comes two calls after
+// the lower's. So the last entry is the lower journal's, if that is there, and the upper one is stale where it does not
+// have it: it gets the sectors, a seal and a flush after each.
 fn assembly_calls(call: u64, absent: usize) -> u64 {
     let lower = held_after(call, 0);
     let upper = held_after(call, 2);
@@ -163,8 +167,8 @@ fn assembly_calls(call: u64, absent: usize) -> u64 {
     calls.saturating_add(open_calls(absent, is_upgraded(call, absent)))
 }
 
-// Checks the second crash at a call by each choice: so many events are shown, by the volumes and the version of their table. What fails is named by
-// both calls.
+// Checks the second crash at a call by each choice: so many events are shown, by the volumes and the version of their
+// table. What fails is named by both calls.
 fn check_second(
     rt: &(impl Abort + AllocGlobal),
     bank: &MemBank,
@@ -202,7 +206,8 @@ fn check_first(rt: &(impl Abort + AllocGlobal), bank: &MemBank, call: u64, absen
     images
 }
 
-// Checks the second crashes for each first crash at a multiple of 16, from 0 to 608, with this slot absent if it is one of the set's.
+// Checks the second crashes for each first crash at a multiple of 16, from 0 to 608, with this slot absent if it is one
+// of the set's.
 fn check_crashes(rt: &(impl Abort + AllocGlobal), absent: usize, wanted: u64) {
     let store = all_done(rt);
     let mut images = 0u64;
@@ -213,10 +218,12 @@ fn check_crashes(rt: &(impl Abort + AllocGlobal), absent: usize, wanted: u64) {
     same(rt, images, wanted);
 }
 
-// How many second crashes there are, by three choices: of k calls of an assembly there are k + 1. Of the 39 first crashes 36 find a table of version 1 and
-// the last 3 one of version 2. Of all 5 find no entry; 2 find the first commit's, 2, 3, 2, 2, 2, 1, 2, 5, 3 and 1 those of the second to the eleventh,
-// 6 that of the rename and 3 that of the upgrade. The first crash at 112 lies between the second commit's seals, and the upper journal lacks 4
-// sectors: 7 calls. Each entry costs its sectors and what puts them on the members: a sector each and a flush of each member, without the absent one.
+// How many second crashes there are, by three choices: of k calls of an assembly there are k + 1. Of the 39 first
+// crashes 36 find a table of version 1 and the last 3 one of version 2. Of all 5 find no entry; 2 find the first
+// commit's, 2, 3, 2, 2, 2, 1, 2, 5, 3 and 1 those of the second to the eleventh, 6 that of the rename and 3 that of the
+// upgrade. The first crash at 112 lies between the second commit's seals, and the upper journal lacks 4 sectors: 7
+// calls. Each entry costs its sectors and what puts them on the members: a sector each and a flush of each member,
+// without the absent one.
 const NONE_ABSENT: u64 = 3
     * (36 * 31
         + 3 * 45

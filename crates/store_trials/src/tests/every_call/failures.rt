@@ -1,4 +1,5 @@
-//! Each one device goes down at each call of the list, also of the assembly in front of it, and is back in the run after it.
+//! Each one device goes down at each call of the list, also of the assembly in front of it, and is back in the run
+//! after it.
 use super::super::{
     ID, NO_SLOT, SET_A, TestStore, again, bank_of, fail_devices, fresh_store, image_now, opened,
 };
@@ -11,14 +12,15 @@ use stripe_journal::Entry;
 use superblock::State;
 use volume_table::{Event, Reply};
 
-// The calls that assemble and open the set where no device fails: two superblock places of each of five slots, the place of the table in each, two
-// seals of each journal, and the eleven sectors of the table of volumes.
+// The calls that assemble and open the set where no device fails: two superblock places of each of five slots, the
+// place of the table in each, two seals of each journal, and the eleven sectors of the table of volumes.
 const OPEN_CALLS: u64 = 10 + 5 + 4 + 11;
 
-// The calls of each event where no device fails. Each sector that an entry holds is written three times, seals and journals make 6 calls, and each
-// member that is written is flushed. Ten new blocks lie in 8 rows, of which 2 are whole; those of the extension in 10 rows, on two members with the
-// parity; and twenty new ones in 12 rows, of which 8 are whole. Then comes the table, in two rows, or in one where only a length changes. A new name
-// is one row of the table, and an upgrade 16 rows, of which 9 are whole and 7 have two sectors.
+// The calls of each event where no device fails. Each sector that an entry holds is written three times, seals and
+// journals make 6 calls, and each member that is written is flushed. Ten new blocks lie in 8 rows, of which 2 are
+// whole; those of the extension in 10 rows, on two members with the parity; and twenty new ones in 12 rows, of which 8
+// are whole. Then comes the table, in two rows, or in one where only a length changes. A new name is one row of the
+// table, and an upgrade 16 rows, of which 9 are whole and 7 have two sectors.
 const EVENT_CALLS: [u64; 9] = [
     (6 + 3 * 18 + 6 + 3) + 22,
     15,
@@ -34,11 +36,12 @@ const EVENT_CALLS: [u64; 9] = [
 // All of them.
 const CALLS: u64 = 616;
 
-// The first call of the seals of the upgrade, after the first eight events, seven reads and two bodies with a flush each.
+// The first call of the seals of the upgrade, after the first eight events, seven reads and two bodies with a flush
+// each.
 const UPGRADE_SEALS: u64 = 477 + 7 + 2 * 42;
 
-// The last call to a slot, counted from the first: it is in the commit of the upgrade. Each journal gets a seal and a flush, and after these four calls
-// the members 0 to 2 get 9, 16 and 16 sectors and a flush, one after the other.
+// The last call to a slot, counted from the first: it is in the commit of the upgrade. Each journal gets a seal and a
+// flush, and after these four calls the members 0 to 2 get 9, 16 and 16 sectors and a flush, one after the other.
 fn last_call(slot: u8) -> u64 {
     match slot {
         0 => UPGRADE_SEALS + 4 + 9,
@@ -88,8 +91,8 @@ fn do_all(rt: &(impl Abort + AllocGlobal), store: &mut TestStore, at: Failure) {
     }
 }
 
-// Asks that the status of a store tells that the slot is missing, in the second table, where it failed, and else that all are in sync, in the first; and
-// that the table of volumes has version 2.
+// Asks that the status of a store tells that the slot is missing, in the second table, where it failed, and else that
+// all are in sync, in the first; and that the table of volumes has version 2.
 fn check_told(rt: &impl Abort, store: &TestStore, failure: Failure) {
     let status = store.status().expect(rt, "the status is told");
     let generation = if failure.happens() { 2 } else { 1 };
@@ -125,7 +128,8 @@ fn check_later(rt: &(impl Abort + AllocGlobal), bank: &MemBank, choice: Choice, 
     check_shown(rt, &mut store, failure);
 }
 
-// Asks that the slot went down where it has a call, and that there are as many calls as there have to be where it has none.
+// Asks that the slot went down where it has a call, and that there are as many calls as there have to be where it has
+// none.
 fn check_down(rt: &impl Abort, bank: &MemBank, at: Failure) {
     let number = at.number();
     assert!(rt; at.slot < bank.devices());
@@ -135,7 +139,8 @@ fn check_down(rt: &impl Abort, bank: &MemBank, at: Failure) {
     }
 }
 
-// Does the list on these devices, of which one fails, and assembles them twice again. How often they were assembled then.
+// Does the list on these devices, of which one fails, and assembles them twice again. How often they were assembled
+// then.
 fn check_failure(rt: &(impl Abort + AllocGlobal), image: Image, at: Failure) -> u64 {
     let mut store = begun_with(rt, image, at);
     do_all(rt, &mut store, at);
@@ -173,8 +178,8 @@ fn calls_of_all(rt: &(impl Abort + AllocGlobal)) -> u64 {
     calls_of(rt, &mut store, &EVENTS, &EVENT_CALLS)
 }
 
-// Checks the failures of a slot from each call on, and from the end on, where it does not fail: there are so many failures in 617 runs, and two later runs
-// after each.
+// Checks the failures of a slot from each call on, and from the end on, where it does not fail: there are so many
+// failures in 617 runs, and two later runs after each.
 fn check_slot(rt: &(impl Abort + AllocGlobal), slot: u8, failures: u64) {
     let store = fresh_store(rt, SET_A);
     let (mut runs, mut failed, mut later) = (0u64, 0u64, 0u64);
@@ -187,9 +192,9 @@ fn check_slot(rt: &(impl Abort + AllocGlobal), slot: u8, failures: u64) {
     same(rt, (runs, failed, later), (617, failures, 1_234));
 }
 
-// The last event is the upgrade, from call 477 on: a read of each of seven rows of member 0, to 483; 41 writes and a flush of bodies on each journal,
-// to 525 and 567; the seals with a flush each, 568 to 571; and 9, 16 and 16 writes and a flush on members 0, 1 and 2, to 581, 598 and 615. A slot
-// fails from call 0 to its last call on.
+// The last event is the upgrade, from call 477 on: a read of each of seven rows of member 0, to 483; 41 writes and a
+// flush of bodies on each journal, to 525 and 567; the seals with a flush each, 568 to 571; and 9, 16 and 16 writes and
+// a flush on members 0, 1 and 2, to 581, 598 and 615. A slot fails from call 0 to its last call on.
 #[test]
 fn member_0_down_at_every_call(rt: HostRuntime) {
     check_slot(&rt, 0, 582);

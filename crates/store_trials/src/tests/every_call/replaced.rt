@@ -1,5 +1,5 @@
-//! A crash in the list after which a slot has a device of zeros: the slot is replaced, a member's rows are rebuilt, and the set is whole and
-//! shows the volumes that it showed without the slot.
+//! A crash in the list after which a slot has a device of zeros: the slot is replaced, a member's rows are rebuilt, and
+//! the set is whole and shows the volumes that it showed without the slot.
 use super::super::Answer::{Done, Refused, Scrubbed, Stepped};
 use super::super::Call::{RebuildStep, Replace, Scrub};
 use super::super::Step::{Do, Holds, Shows, Version};
@@ -14,7 +14,8 @@ use sector_model::{Bank, Choice, Image, MemBank, Refusal, Sector};
 use std::mem;
 use std::process::Abort;
 
-// A device of zeros, as long as the slot needs it: 8 sectors and 256 rows of a member, 8 sectors and two entries of 256 sectors of a journal.
+// A device of zeros, as long as the slot needs it: 8 sectors and 256 rows of a member, 8 sectors and two entries of 256
+// sectors of a journal.
 fn blank(rt: &(impl Abort + AllocGlobal), slot: usize) -> Vec<Sector> {
     let sectors = if slot < 3 { 264 } else { 520 };
     vec![in rt.alloc(); [0; 512]; sectors].expect(rt, "memory")
@@ -46,7 +47,8 @@ fn make_whole(rt: &(impl Abort + AllocGlobal), store: &mut TestStore, number: us
     check_from(rt, store, number, &[Do(RebuildStep(64), none)]);
 }
 
-// Asks that the set is whole, no row of it is bad, and the volumes are those after so many events, as is the version of their table.
+// Asks that the set is whole, no row of it is bad, and the volumes are those after so many events, as is the version of
+// their table.
 fn check_whole(
     rt: &(impl Abort + AllocGlobal),
     store: &mut TestStore,
@@ -101,7 +103,8 @@ fn check_later(
     );
 }
 
-// Checks the crashes at each multiple of 16, from 0 to 608, with a device of zeros in a slot: 39, each with a later run.
+// Checks the crashes at each multiple of 16, from 0 to 608, with a device of zeros in a slot: 39, each with a later
+// run.
 fn check_crashes(rt: &(impl Abort + AllocGlobal), slot: u8) {
     let store = all_done(rt);
     let mut images = 0u64;

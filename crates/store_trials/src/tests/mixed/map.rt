@@ -1,4 +1,5 @@
-//! Volumes in a plain list, and the rules by which calls change it or are refused: docs/FORMATS.md, "Limits" and "Order of refusals".
+//! Volumes in a plain list, and the rules by which calls change it or are refused: docs/FORMATS.md, "Limits" and "Order
+//! of refusals".
 use sector_model::Refusal;
 use std::process::Abort;
 

@@ -67,7 +67,8 @@ fn rename(
     same(rt, (number, store.bank().is_down(slot)), (number, fails));
 }
 
-// Checks the rename on what this bank holds, in which a slot goes down at its first call from one on. What fails is named by that call.
+// Checks the rename on what this bank holds, in which a slot goes down at its first call from one on. What fails is
+// named by that call.
 fn check_failure(rt: &(impl Abort + AllocGlobal), bank: &MemBank, slot: u8, call: u64) {
     assert!(rt; slot < 5);
     let number = call as usize;
@@ -128,7 +129,8 @@ fn renames_in_a_degraded_set(rt: HostRuntime) {
     }
 }
 
-// Renames a volume of a set of which so many rows of a member are rebuilt, with row 1 or without it, and rebuilds the rest.
+// Renames a volume of a set of which so many rows of a member are rebuilt, with row 1 or without it, and rebuilds the
+// rest.
 fn check_rebuilding(rt: &(impl Abort + AllocGlobal), slot: u8, rows: u64) {
     static RENAMED: [Step; 2] = [Do(Rename(b"a", b"c"), Done), Holds(VOLUMES)];
     static REST: [Step; 3] = [

@@ -1,4 +1,5 @@
-//! Crashes in an upgrade: assembling and opening the set again finds the volumes as they were, in a table of one version or the other.
+//! Crashes in an upgrade: assembling and opening the set again finds the volumes as they were, in a table of one
+//! version or the other.
 use super::super::Answer::Done;
 use super::super::Call::Upgrade;
 use super::super::Step::{Do, Version};
@@ -11,8 +12,8 @@ use crate::testing::same;
 use sector_model::{Bank, MemBank};
 use std::process::Abort;
 
-// The version of the table after a crash at a call, with a slot absent if it is one of the set's. The volumes have to be as they were. The call counts
-// from the first of the upgrade.
+// The version of the table after a crash at a call, with a slot absent if it is one of the set's. The volumes have to
+// be as they were. The call counts from the first of the upgrade.
 fn version_after(
     rt: &(impl Abort + AllocGlobal),
     bank: &MemBank,
@@ -27,8 +28,8 @@ fn version_after(
     version_of(rt, &store)
 }
 
-// The version that a table may have after so many calls of the upgrade, where a crash finds this one: 1 where no seal is written, and 2 where both are
-// safe.
+// The version that a table may have after so many calls of the upgrade, where a crash finds this one: 1 where no seal
+// is written, and 2 where both are safe.
 fn wanted(call: u64, found: u8) -> u8 {
     if call <= BEFORE_SEALS {
         return 1;
@@ -56,7 +57,8 @@ fn check_crashed_call(
     images
 }
 
-// Upgrades a store that has the volume, and checks the crashes at each call of that: after none of them, after the first, and so on.
+// Upgrades a store that has the volume, and checks the crashes at each call of that: after none of them, after the
+// first, and so on.
 fn check_crashes(rt: &(impl Abort + AllocGlobal), store: &mut TestStore) {
     static STEPS: [Step; 3] = [Version(1), Do(Upgrade, Done), Version(2)];
     check(rt, store, &ONE);

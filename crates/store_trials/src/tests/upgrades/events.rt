@@ -1,4 +1,5 @@
-//! An upgrade after each number of the events of one list: each event is answered as without it, and the volumes are the same.
+//! An upgrade after each number of the events of one list: each event is answered as without it, and the volumes are
+//! the same.
 use super::super::every_call::{AFTER, EVENTS};
 use super::super::{SET_A, TestStore, fresh_store, next_run, unlike, version_of};
 use crate::testing::same;

@@ -23,8 +23,8 @@ static BEFORE: [Step; 4] = [
 
 const VOLUMES: Volumes = &[(b"a", &[0, 0x11, 0]), (b"b", &[0x22, 0])];
 
-// The last call to each slot, counted from 0: members 0 to 2 get 9, 16 and 16 sectors and a flush, one after the other, and each journal a seal and a
-// flush.
+// The last call to each slot, counted from 0: members 0 to 2 get 9, 16 and 16 sectors and a flush, one after the other,
+// and each journal a seal and a flush.
 static LAST_CALLS: [u64; 5] = [
     BEFORE_MEMBERS + 9,
     BEFORE_MEMBERS + 10 + 16,
@@ -65,7 +65,8 @@ fn upgrade(
     same(rt, (number, store.bank().is_down(slot)), (number, fails));
 }
 
-// Checks the upgrade on what this bank holds, in which a slot goes down at its first call from one on. What fails is named by that call.
+// Checks the upgrade on what this bank holds, in which a slot goes down at its first call from one on. What fails is
+// named by that call.
 fn check_failure(rt: &(impl Abort + AllocGlobal), bank: &MemBank, slot: u8, call: u64) {
     assert!(rt; slot < 5);
     let number = call as usize;

@@ -33,8 +33,8 @@ fn forge(rt: &impl Abort, image: &mut Image, logical: u64, by: &Sector) {
     turn(rt, image, parity, place.row, by);
 }
 
-/// The devices of set A as `make` left them, but for the sectors between the table of volumes and the first extent: each byte of those is 0xc3. In
-/// version 1 these are sectors that are neither read nor written.
+/// The devices of set A as `make` left them, but for the sectors between the table of volumes and the first extent:
+/// each byte of those is 0xc3. In version 1 these are sectors that are neither read nor written.
 pub(crate) fn with_old_bytes(rt: &(impl Abort + AllocGlobal)) -> Image {
     let mut image = fresh_image(rt);
     for logical in 11..64u64 {
@@ -81,7 +81,8 @@ fn with_first_byte(rt: &impl Abort, mut image: Image, by: u8) -> Image {
     image
 }
 
-// Checks the set on these devices: the version of its table, or that it is refused after a read of so many sectors of the table, without a write.
+// Checks the set on these devices: the version of its table, or that it is refused after a read of so many sectors of
+// the table, without a write.
 fn check_opened(rt: &(impl Abort + AllocGlobal), image: Image, byte: u8, wanted: Result<u8, u64>) {
     let array = assembled(rt, image);
     let (now, room) = (array.bank.now(), array.bank.room);
@@ -96,8 +97,8 @@ fn check_opened(rt: &(impl Abort + AllocGlobal), image: Image, byte: u8, wanted:
     }
 }
 
-// What has to be there where the first byte of the table has each value: what is wanted where it is 0, and where it is 1. Else it is no version, and
-// the sectors after it are not read.
+// What has to be there where the first byte of the table has each value: what is wanted where it is 0, and where it is
+// 1. Else it is no version, and the sectors after it are not read.
 fn check_versions(
     rt: &(impl Abort + AllocGlobal),
     steps: &[Step],
@@ -123,8 +124,8 @@ fn first_bytes_of_version_1(rt: HostRuntime) {
     check_versions(&rt, &ONE, 0, [Ok(1), Err(25)]);
 }
 
-// Record 0 of version 2 has no blocks where version 1 has them. A block is written after the upgrade, so that the last entry is of row 32 alone, and
-// assembling puts no sector of the table on its member again.
+// Record 0 of version 2 has no blocks where version 1 has them. A block is written after the upgrade, so that the last
+// entry is of row 32 alone, and assembling puts no sector of the table on its member again.
 #[test]
 fn first_bytes_of_version_2(rt: HostRuntime) {
     static STEPS: [Step; 3] = [

@@ -54,8 +54,8 @@ fn check_volumes(rt: &(impl Abort + AllocGlobal), store: &mut TestStore, end: u8
     }
 }
 
-// The last volume has the last record and the last extent, and its place is taken by the next one that is made. The run begins after the making of the
-// set, which writes each of its rows: a bank keeps so many writes and no more.
+// The last volume has the last record and the last extent, and its place is taken by the next one that is made. The run
+// begins after the making of the set, which writes each of its rows: a bank keeps so many writes and no more.
 #[test]
 fn sixty_four_volumes(rt: HostRuntime) {
     static BEFORE: [Step; 4] = [

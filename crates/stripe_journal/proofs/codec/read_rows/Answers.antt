@@ -5,4 +5,5 @@ use Rattle.stripe_journal.proofs.codec.read_rows.Goals as goal
 pub returns : goal.returns
 returns c = λ s is.
     c.truncate.ensures.items ∙ ap (take c.read_u32-count.result) c.from_array_in-rows.ensures.items
-    ∙ rows_back s.id s.number s.rows.items s.form c.args.from.now c.read_u32_into.new.dst c.read_u32-count.result s.allowed s.formed c.told-from is c.read_u32-count.ensures c.read_u32_into.auto.dst c.read_u32_into.ensures
+    ∙ rows_back s.id s.number s.rows.items s.form c.args.from.now c.read_u32_into.new.dst c.read_u32-count.result s.allowed s.formed c.told-from is
+    c.read_u32-count.ensures c.read_u32_into.auto.dst c.read_u32_into.ensures

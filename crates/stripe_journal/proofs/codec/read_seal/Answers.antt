@@ -14,7 +14,8 @@ returns-then-not-is_seal c = λ s is.
           absurd (false≢true (sym w.if-not-is_seal.true ∙ c.is_seal.ensures.1 (same_allowed _ s.number _ s.rows.items number rows s.allowed)))
       | then-not-is_seal-via-else-not-is_seal+then-not-is_form w ↦
           let form = c.read_form-form.ensures s is in
-          absurd (false≢true (sym w.if-not-is_form.true ∙ w.is_form.ensures.1 (same_formed _ s.form _ (length s.rows.items) form (w.len.ensures.value ∙ ap length rows) s.formed)))
+          absurd (false≢true (sym w.if-not-is_form.true
+          ∙ w.is_form.ensures.1 (same_formed _ s.form _ (length s.rows.items) form (w.len.ensures.value ∙ ap length rows) s.formed)))
     ]
 
 pub returns : goal.returns

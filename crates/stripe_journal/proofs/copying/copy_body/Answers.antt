@@ -28,12 +28,14 @@ loop-i-preserved g c = record {
   same = λ honest.
       let still = c.loop-i.invariant.honest honest in
       let then = c.read_sector.ensures.honest.0 still in
-      seen_copied _ _ _ _ _ tt c.requires.apart (c.in_ok-read_sector.ensures.history still) (c.in_ok-write_sector.ensures.history then) (c.loop-i.invariant.same honest);
+      seen_copied _ _ _ _ _ tt c.requires.apart (c.in_ok-read_sector.ensures.history still) (c.in_ok-write_sector.ensures.history then)
+      (c.loop-i.invariant.same honest);
   made = λ honest answered new rest.
       let still = c.loop-i.invariant.honest honest in
       let then = c.read_sector.ensures.honest.0 still in
       c.loop-i.invariant.made honest answered new
-      (copy_then _ _ _ _ _ _ _ tt (g.B.Bank.panel c.read_sector.new.bank) (g.B.Bank.panel c.write_sector.new.bank) c.loop-i-test.true (c.loop-i.invariant.same honest)
+      (copy_then _ _ _ _ _ _ _ tt (g.B.Bank.panel c.read_sector.new.bank) (g.B.Bank.panel c.write_sector.new.bank) c.loop-i-test.true
+      (c.loop-i.invariant.same honest)
       (c.in_ok-read_sector.ensures.history still) c.in_ok-read_sector.ensures.up (g.met.B.Bank.true_to _ then) (c.in_ok-read_sector.ensures.bytes still)
       (c.in_ok-write_sector.ensures.history then) c.in_ok-write_sector.ensures.up (g.met.B.Bank.true_to _ (c.write_sector.ensures.honest.0 then))
       rest);
@@ -43,10 +45,14 @@ pub returns-in_err-read_sector-clause-panel : goal.returns-in_err-read_sector-cl
 returns-in_err-read_sector-clause-panel g c = later_both _ _ _ c.loop-i.invariant.panel c.read_sector.ensures.panel
 
 pub returns-in_err-read_sector-clause-honest : goal.returns-in_err-read_sector-clause-honest
-returns-in_err-read_sector-clause-honest g c = (λ honest. c.read_sector.ensures.honest.0 (c.loop-i.invariant.honest honest), λ honest. c.loop-i.invariant.still (c.read_sector.ensures.honest.1 honest))
+returns-in_err-read_sector-clause-honest g c = (
+  λ honest. c.read_sector.ensures.honest.0 (c.loop-i.invariant.honest honest),
+  λ honest. c.loop-i.invariant.still (c.read_sector.ensures.honest.1 honest),
+)
 
 pub returns-in_err-write_sector-clause-panel : goal.returns-in_err-write_sector-clause-panel
-returns-in_err-write_sector-clause-panel g c = later_both _ _ _ c.loop-i.invariant.panel (later_both _ _ _ c.read_sector.ensures.panel c.write_sector.ensures.panel)
+returns-in_err-write_sector-clause-panel g c = later_both _ _ _ c.loop-i.invariant.panel
+    (later_both _ _ _ c.read_sector.ensures.panel c.write_sector.ensures.panel)
 
 pub returns-in_err-write_sector-clause-honest : goal.returns-in_err-write_sector-clause-honest
 returns-in_err-write_sector-clause-honest g c = (

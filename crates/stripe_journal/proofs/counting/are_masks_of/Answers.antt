@@ -6,6 +6,7 @@ use Rattle.stripe_journal.proofs.counting.are_masks_of.Goals as goal
 
 pub loop-i-preserved : goal.loop-i-preserved
 loop-i-preserved c = λ k within. elim (cases_eq k c.loop-i.i) [
-  | inl same ↦ subst (λ (j : ℕ). HoldsRow c.args.geometry.now (row_at c.args.rows.now j) (has_bit (mask_at c.args.masks.now j))) (sym same) (c.is_mask_of.ensures.0 c.if-not-is_mask_of.false)
+  | inl same ↦ subst (λ (j : ℕ). HoldsRow c.args.geometry.now (row_at c.args.rows.now j) (has_bit (mask_at c.args.masks.now j))) (sym same)
+      (c.is_mask_of.ensures.0 c.if-not-is_mask_of.false)
   | inr other ↦ c.loop-i.invariant k (omega (arith, within, other))
 ]

@@ -21,16 +21,20 @@ returns-in_err-at-clause-made g c = λ honest.
     let p = err_from_is_err_and c.from_residual.result c.from_residual.ensures.1 in
     let made = c.in_err-at.ensures.made (c.loop-i.invariant.honest honest) in
     let members = c.args.geometry.now.members in
-    let row = subst (λ (mask : ℕ). Made (writes_from c.args.dev c.loop-i.at (held_of members mask c.view.result.sectors.now)) false (g.B.Bank.history c.loop-i.bank) (g.B.Bank.history c.write_row.new.bank)) c.view.ensures.mask made in
-    let whole = subst (λ (row : List Bytes). Made (writes_from c.args.dev c.loop-i.at (held_of members (row_mask c.args.entry.now c.loop-i.i) row)) false (g.B.Bank.history c.loop-i.bank) (g.B.Bank.history c.write_row.new.bank)) c.view.ensures.sectors row in
+    let row = subst (λ (mask : ℕ). Made (writes_from c.args.dev c.loop-i.at (held_of members mask c.view.result.sectors.now)) false
+    (g.B.Bank.history c.loop-i.bank) (g.B.Bank.history c.write_row.new.bank)) c.view.ensures.mask made in
+    let whole = subst (λ (row : List Bytes). Made (writes_from c.args.dev c.loop-i.at (held_of members (row_mask c.args.entry.now c.loop-i.i) row)) false
+    (g.B.Bank.history c.loop-i.bank) (g.B.Bank.history c.write_row.new.bank)) c.view.ensures.sectors row in
     rw p.1 (c.loop-i.invariant.made honest _ _ (row_short _ _ _ c.args.entry.now _ _ c.loop-i-test.true whole))
 
 pub loop-i-preserved : goal.loop-i-preserved
 loop-i-preserved g c =
     let members = c.args.geometry.now.members in
     let form = form_of c.args.entry.now in
-    let count_is : count_held (has_bit c.view.result.mask) members ≡ count_held (holds members form c.loop-i.i) members = ap (λ (mask : ℕ). count_held (has_bit mask) members) c.view.ensures.mask in
-    let beyond : c.in_ok-at.at ≡ c.loop-i.at + count_held (holds members form c.loop-i.i) members = c.in_ok-at.ensures.beyond ∙ ap (λ (k : ℕ). c.loop-i.at + k) count_is in
+    let count_is : count_held (has_bit c.view.result.mask) members ≡ count_held (holds members form c.loop-i.i) members =
+    ap (λ (mask : ℕ). count_held (has_bit mask) members) c.view.ensures.mask in
+    let beyond : c.in_ok-at.at ≡ c.loop-i.at + count_held (holds members form c.loop-i.i) members = c.in_ok-at.ensures.beyond
+    ∙ ap (λ (k : ℕ). c.loop-i.at + k) count_is in
     record {
       place = omega (arith, c.loop-i.invariant.place, beyond, before_on members form c.loop-i.i);
       panel = later_both _ _ _ c.loop-i.invariant.panel c.write_row.ensures.panel;
@@ -38,7 +42,9 @@ loop-i-preserved g c =
       still = λ honest. c.loop-i.invariant.still (c.write_row.ensures.honest.1 honest);
       made = λ honest answered new rest.
           let made = c.in_ok-at.ensures.made (c.loop-i.invariant.honest honest) in
-          let row = subst (λ (mask : ℕ). Made (writes_from c.args.dev c.loop-i.at (held_of members mask c.view.result.sectors.now)) true (g.B.Bank.history c.loop-i.bank) (g.B.Bank.history c.write_row.new.bank)) c.view.ensures.mask made in
-          let whole = subst (λ (row : List Bytes). Made (writes_from c.args.dev c.loop-i.at (held_of members (row_mask c.args.entry.now c.loop-i.i) row)) true (g.B.Bank.history c.loop-i.bank) (g.B.Bank.history c.write_row.new.bank)) c.view.ensures.sectors row in
+          let row = subst (λ (mask : ℕ). Made (writes_from c.args.dev c.loop-i.at (held_of members mask c.view.result.sectors.now)) true
+          (g.B.Bank.history c.loop-i.bank) (g.B.Bank.history c.write_row.new.bank)) c.view.ensures.mask made in
+          let whole = subst (λ (row : List Bytes). Made (writes_from c.args.dev c.loop-i.at (held_of members (row_mask c.args.entry.now c.loop-i.i) row)) true
+          (g.B.Bank.history c.loop-i.bank) (g.B.Bank.history c.write_row.new.bank)) c.view.ensures.sectors row in
           c.loop-i.invariant.made honest answered new (row_then _ _ _ _ c.args.entry.now _ _ c.loop-i-test.true beyond whole rest);
     }

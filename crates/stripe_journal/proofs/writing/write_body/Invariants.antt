@@ -13,6 +13,7 @@ invariant-loop-i g l = record {
   panel : IsLater (g.B.Bank.panel l.initial.bank) (g.B.Bank.panel l.bank);
   honest : g.B.Bank.honest l.initial.bank → g.B.Bank.honest l.bank;
   still : g.B.Bank.honest l.bank → g.B.Bank.honest l.initial.bank;
-  made : g.B.Bank.honest l.initial.bank → (answered : Bool) (new : History) → Made (writes_from l.dev l.at (body_from l.geometry.members l.entry l.i l.i-end)) answered (g.B.Bank.history l.bank) new
+  made : g.B.Bank.honest l.initial.bank → (answered : Bool) (new : History)
+      → Made (writes_from l.dev l.at (body_from l.geometry.members l.entry l.i l.i-end)) answered (g.B.Bank.history l.bank) new
       → Made (writes_from l.dev (body_start l.number) (body_of l.geometry.members l.entry)) answered (g.B.Bank.history l.initial.bank) new;
 }

@@ -25,7 +25,13 @@ returns-in_err-write_sector-clause-made g c = λ honest.
 pub overflow_add-at : goal.overflow_add-at
 overflow_add-at g c =
     let held = c.in-Some.ensures.some.0 in
-    omega (arith, c.loop-member.invariant.place, c.requires.end, count_beyond (has_bit c.args.row.now.mask) c.loop-member.member c.args.members held c.loop-member-test.true)
+    omega (
+      arith,
+      c.loop-member.invariant.place,
+      c.requires.end,
+      count_beyond (has_bit c.args.row.now.mask) c.loop-member.member c.args.members held
+          c.loop-member-test.true,
+    )
 
 pub loop-member-preserved : goal.loop-member-preserved
 loop-member-preserved g c = elim c.match-member.branch [
@@ -39,7 +45,8 @@ loop-member-preserved g c = elim c.match-member.branch [
         made = λ honest answered new rest.
             let still = c.loop-member.invariant.honest honest in
             c.loop-member.invariant.made honest answered new
-            (held_then _ _ _ _ _ _ _ tt (g.B.Bank.panel w.write_sector.new.bank) c.loop-member-test.true held w.in-Some.ensures.some.1 (w.in_ok-write_sector.ensures.history still)
+            (held_then _ _ _ _ _ _ _ tt (g.B.Bank.panel w.write_sector.new.bank) c.loop-member-test.true held w.in-Some.ensures.some.1
+            (w.in_ok-write_sector.ensures.history still)
             w.in_ok-write_sector.ensures.up (g.met.B.Bank.true_to _ (w.write_sector.ensures.honest.0 still)) rest);
       }
   | in_default w ↦

@@ -15,11 +15,14 @@ loop-place-preserved c =
     let so_far : IsBest n found c.loop-place.best = c.loop-place.invariant in
     elim c.match-place.branch [
       | in-Some+then-is_below w ↦
-          best_from_greater n found c.loop-place.best c.match-place.best _ w.in-Some.superblock (there ∙ w.in-Some.is) (w.is_below.ensures.0 w.if-is_below.true) w.best-is so_far
+          best_from_greater n found c.loop-place.best c.match-place.best _ w.in-Some.superblock (there ∙ w.in-Some.is) (w.is_below.ensures.0 w.if-is_below.true)
+          w.best-is so_far
       | in-Some+else-is_below w ↦
           subst (λ (best : Option (Bor Superblock)). IsBest (n + 1) found best) (sym w.best-is)
-          (best_after_lower n found c.loop-place.best w.in-Some.superblock (there ∙ w.in-Some.is) (λ greater. let is_below = w.is_below.ensures.1 greater in let not_below = w.if-is_below.false in absurd cc) so_far)
-      | in_default w ↦ subst (λ (best : Option (Bor Superblock)). IsBest (n + 1) found best) (sym w.best-is) (best_after_none n found c.loop-place.best (there ∙ w.in_default.is) so_far)
+          (best_after_lower n found c.loop-place.best w.in-Some.superblock (there ∙ w.in-Some.is)
+          (λ greater. let is_below = w.is_below.ensures.1 greater in let not_below = w.if-is_below.false in absurd cc) so_far)
+      | in_default w ↦ subst (λ (best : Option (Bor Superblock)). IsBest (n + 1) found best) (sym w.best-is)
+          (best_after_none n found c.loop-place.best (there ∙ w.in_default.is) so_far)
     ]
 
 pub returns-in-Some-best-clause-some : goal.returns-in-Some-best-clause-some

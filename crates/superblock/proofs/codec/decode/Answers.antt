@@ -24,7 +24,8 @@ pub returns-in_err-read_fields-clause-some : goal.returns-in_err-read_fields-cla
 returns-in_err-read_fields-clause-some c = rw c.from_residual.ensures tt
 
 pub returns-in_err-read_fields-clause-exact : goal.returns-in_err-read_fields-clause-exact
-returns-in_err-read_fields-clause-exact c = λ s same. absurd (not_both c.read_fields.result (fields_of s) c.in_err-read_fields.was (c.read_fields.ensures s same))
+returns-in_err-read_fields-clause-exact c = λ s same. absurd
+    (not_both c.read_fields.result (fields_of s) c.in_err-read_fields.was (c.read_fields.ensures s same))
 
 pub returns-in_err-superblock-clause-some : goal.returns-in_err-superblock-clause-some
 returns-in_err-superblock-clause-some c = rw c.from_residual-in_err-superblock.ensures tt

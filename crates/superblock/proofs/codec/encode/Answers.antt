@@ -7,4 +7,5 @@ unfolding superblock_sector
 returns c =
     let s = c.args.superblock.now in
     c.write_tail.ensures
-    ∙ ap (λ (x : List ℕ). x ++ tail_bytes s) (c.write_entries.ensures ∙ ap (λ (x : List ℕ). x ++ entries_bytes 10 s.table.states s.table.incarnations) c.write_head.ensures)
+    ∙ ap (λ (x : List ℕ). x ++ tail_bytes s) (c.write_entries.ensures
+    ∙ ap (λ (x : List ℕ). x ++ entries_bytes 10 s.table.states s.table.incarnations) c.write_head.ensures)

@@ -24,8 +24,11 @@ loop-slot-preserved c =
     let within : slot < 10 = c.loop-slot-test.true in
     let said : c.byte.result ≡ state_byte state = c.byte.ensures in
     let stated = begins_byte at (at + 1) c.byte.result c.loop-slot.to _ c.loop-slot.invariant (omega arith) refl in
-    let filled = begins_field (at + 1) (at + 8 - (at + 1)) (at + 8) _ c.fill.new.self (zeros 7) _ stated (omega arith) (omega arith) (c.fill.ensures.after (λ y same. cc) ∙ zeros_are _ 7 (part_long (at + 1) (at + 8 - (at + 1)) _ _ stated (omega arith) ∙ omega arith)) (length-zeros 7 ∙ omega arith) in
-    let numbered = begins_number (at + 8) (512 - (at + 8)) (40 + 16 * (slot + 1)) 8 incarnation _ c.write_u64.new.buf _ filled (omega arith) (omega arith) (omega arith) c.write_u64.ensures in
+    let filled = begins_field (at + 1) (at + 8 - (at + 1)) (at + 8) _ c.fill.new.self (zeros 7) _ stated (omega arith) (omega arith)
+    (c.fill.ensures.after (λ y same. cc) ∙ zeros_are _ 7 (part_long (at + 1) (at + 8 - (at + 1)) _ _ stated (omega arith) ∙ omega arith))
+    (length-zeros 7 ∙ omega arith) in
+    let numbered = begins_number (at + 8) (512 - (at + 8)) (40 + 16 * (slot + 1)) 8 incarnation _ c.write_u64.new.buf _ filled (omega arith) (omega arith)
+    (omega arith) c.write_u64.ensures in
     let spelled =
     ap (λ (n : ℕ). (((before ++ entries_bytes slot c.args.states.now c.args.incarnations.now) ++ (n ∷ [])) ++ zeros 7) ++ little_bytes 8 incarnation) said
     ∙ entries_more before slot c.args.states.now c.args.incarnations.now in
@@ -34,5 +37,6 @@ loop-slot-preserved c =
 pub returns : goal.returns
 returns c =
     let ten : c.loop-slot.slot ≡ 10 = omega arith in
-    let whole = subst (λ (n : ℕ). Begins (40 + 16 * n) c.loop-slot.to (take 40 c.args.to.now ++ entries_bytes n c.args.states.now c.args.incarnations.now)) ten c.loop-slot.invariant in
+    let whole = subst (λ (n : ℕ). Begins (40 + 16 * n) c.loop-slot.to (take 40 c.args.to.now ++ entries_bytes n c.args.states.now c.args.incarnations.now)) ten
+    c.loop-slot.invariant in
     whole.front_is

@@ -10,8 +10,11 @@ unfolding end_mark
 returns c =
     let s = c.args.superblock.now in
     let front = take 200 c.args.to.now in
-    let placed = begins_number 200 312 208 8 s.table.position _ c.write_u64.new.buf front (begins_with 200 c.args.to.now c.told-to) refl (omega arith) refl c.write_u64.ensures in
-    let owned = begins_number 208 304 216 8 (incarnation_at s.table.incarnations s.role) _ c.write_u64-2.new.buf _ placed refl (omega arith) refl c.write_u64-2.ensures in
-    let filled = begins_field 216 288 504 _ c.fill.new.self (zeros 288) _ owned refl (omega arith) (c.fill.ensures.after (λ y same. cc) ∙ zeros_are _ 288 (part_long 216 288 _ _ owned (omega arith))) (length-zeros 288) in
+    let placed = begins_number 200 312 208 8 s.table.position _ c.write_u64.new.buf front (begins_with 200 c.args.to.now c.told-to) refl (omega arith) refl
+    c.write_u64.ensures in
+    let owned = begins_number 208 304 216 8 (incarnation_at s.table.incarnations s.role) _ c.write_u64-2.new.buf _ placed refl (omega arith) refl
+    c.write_u64-2.ensures in
+    let filled = begins_field 216 288 504 _ c.fill.new.self (zeros 288) _ owned refl (omega arith)
+    (c.fill.ensures.after (λ y same. cc) ∙ zeros_are _ 288 (part_long 216 288 _ _ owned (omega arith))) (length-zeros 288) in
     let ended = begins_field 504 8 512 _ c.copy_from_slice.new.self end_mark _ filled refl (omega arith) c.copy_from_slice.ensures.after length-end_mark in
     begins_all _ _ ended ∙ tail_after front s

@@ -8,7 +8,8 @@ pub returns-in-Some-Some : goal.returns-in-Some-Some
 returns-in-Some-Some c = newer_second c.args.first c.args.second c.in-Some-Some.old c.in-Some-Some.new c.in-Some-Some.is-0 c.in-Some-Some.is-1 c.if-old-new.true
 
 pub returns-in-Some-default : goal.returns-in-Some-default
-returns-in-Some-default c = newer_first c.args.first c.args.second c.in-Some-Some.old c.in-Some-Some.new c.in-Some-Some.is-0 c.in-Some-Some.is-1 c.if-old-new.false
+returns-in-Some-default c = newer_first c.args.first c.args.second c.in-Some-Some.old c.in-Some-Some.new c.in-Some-Some.is-0 c.in-Some-Some.is-1
+    c.if-old-new.false
 
 pub returns-in-Some-default-2 : goal.returns-in-Some-default-2
 returns-in-Some-default-2 c = newer_alone c.args.first c.args.second c.in-Some-default.field-0-0 c.in-Some-default.is-0 c.in-Some-default.is-1

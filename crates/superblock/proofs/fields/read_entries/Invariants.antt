@@ -10,5 +10,6 @@ invariant-loop-slot l = record {
   ten_states : length l.states ≡ 10;
   ten_incarnations : length l.incarnations ≡ 10;
   states : (s : Superblock) → l.from ≡ superblock_sector s → (k : ℕ) → k < l.slot → state_at l.states k ≡ state_at s.table.states k;
-  incarnations : (s : Superblock) → l.from ≡ superblock_sector s → (k : ℕ) → k < l.slot → incarnation_at l.incarnations k ≡ incarnation_at s.table.incarnations k;
+  incarnations : (s : Superblock) → l.from ≡ superblock_sector s → (k : ℕ) → k < l.slot
+      → incarnation_at l.incarnations k ≡ incarnation_at s.table.incarnations k;
 }

@@ -21,5 +21,6 @@ returns c = λ s same.
     let found : c.from_byte.result ≡ Some state = c.from_byte.ensures state read in
     let was = c.in_ok-state.was in
     let number : c.read_u64.result ≡ little_number 8 (take (512 - at) (drop at c.args.from.now)) = c.read_u64.ensures in
-    let incarnation = part_number 8 (512 - at) (drop at c.args.from.now) (omega arith) ∙ ap (λ x. little_number 8 (drop at x)) same ∙ read_incarnation s c.args.slot at c.requires (omega arith) in
+    let incarnation = part_number 8 (512 - at) (drop at c.args.from.now) (omega arith) ∙ ap (λ x. little_number 8 (drop at x)) same
+    ∙ read_incarnation s c.args.slot at c.requires (omega arith) in
     cc

@@ -9,7 +9,8 @@ use Rattle.superblock.proofs.fields.read_fields.Goals as goal
 
 pub returns : goal.returns
 returns c = λ s same.
-    let read = same_found c.read_entries.result (c.in_ok-states.states, c.in_ok-states.incarnations) (s.table.states, s.table.incarnations) c.in_ok-states.was (c.read_entries.ensures s same) in
+    let read = same_found c.read_entries.result (c.in_ok-states.states, c.in_ok-states.incarnations) (s.table.states, s.table.incarnations) c.in_ok-states.was
+    (c.read_entries.ensures s same) in
     let got = fields_same _ (fields_of s)
     (c.copy_from_slice.ensures.after ∙ ap (λ (x : List ℕ). take 16 (drop 8 x)) same ∙ read_id s)
     (c.read_u64.ensures ∙ part_number 8 488 (drop 24 c.args.from.now) (omega arith) ∙ ap (λ (x : List ℕ). little_number 8 (drop 24 x)) same ∙ read_generation s)
@@ -19,5 +20,6 @@ returns c = λ s same.
     (c.read_u32.ensures ∙ part_number 4 476 (drop 36 c.args.from.now) (omega arith) ∙ ap (λ (x : List ℕ). little_number 4 (drop 36 x)) same ∙ read_stripes s)
     (ap (λ (p : List State × List ℕ). p.0) read)
     (ap (λ (p : List State × List ℕ). p.1) read)
-    (c.read_u64-2.ensures ∙ part_number 8 312 (drop 200 c.args.from.now) (omega arith) ∙ ap (λ (x : List ℕ). little_number 8 (drop 200 x)) same ∙ read_position s) in
+    (c.read_u64-2.ensures ∙ part_number 8 312 (drop 200 c.args.from.now) (omega arith) ∙ ap (λ (x : List ℕ). little_number 8 (drop 200 x)) same
+    ∙ read_position s) in
     ap Some got

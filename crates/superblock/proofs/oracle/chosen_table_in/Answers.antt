@@ -12,9 +12,11 @@ loop-slot-init c = λ slot place s below counts. absurd (omega (arith, below))
 pub loop-slot-preserved : goal.loop-slot-preserved
 loop-slot-preserved c =
     let slots = c.args.image.now.slots in
-    image_step c.args.id.now (vec_len slots) c.len-devices.result c.loop-slot.slot slots.items c.index.result.now c.loop-slot.best c.newest_in.result c.newer-best.result
+    image_step c.args.id.now (vec_len slots) c.len-devices.result c.loop-slot.slot slots.items c.index.result.now c.loop-slot.best c.newest_in.result
+    c.newer-best.result
     c.len-devices.ensures
-    (slice_get_read slots.items c.len-devices.result c.loop-slot.slot c.index.result.now (c.len-devices.ensures ∙ slots.ok.0) c.loop-slot-test.true c.index.ensures)
+    (slice_get_read slots.items c.len-devices.result c.loop-slot.slot c.index.result.now (c.len-devices.ensures ∙ slots.ok.0) c.loop-slot-test.true
+    c.index.ensures)
     c.loop-slot.invariant c.newest_in.ensures.some c.newest_in.ensures.none c.newer-best.ensures
 
 pub returns-in_err-best-clause-none : goal.returns-in_err-best-clause-none

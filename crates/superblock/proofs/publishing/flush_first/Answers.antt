@@ -56,7 +56,8 @@ loop-slot-preserved g c =
                 let first = made_one (Flush slot) w.flush_device.result (g.B.Bank.panel w.flush_device.new.bank)
                 (w.flush_device.ensures.history here) w.flush_device.ensures.up (g.met.B.Bank.true_to _ still) in
                 let done = rw w.in_ok-flush_device.was at first in
-                c.loop-slot.invariant.made honest answered new (slots_then (is_first table last) (λ slot. Flush slot) slot (slots_of table) within chosen done rest);
+                c.loop-slot.invariant.made honest answered new
+                (slots_then (is_first table last) (λ slot. Flush slot) slot (slots_of table) within chosen done rest);
           }
       | else-is_first w ↦
           let passed = test_is table last c.loop-slot.slot _ _ c.is_first.ensures w.if-is_first.false in
@@ -65,7 +66,8 @@ loop-slot-preserved g c =
             honest = c.loop-slot.invariant.honest;
             still = c.loop-slot.invariant.still;
             made = λ honest answered new rest.
-                c.loop-slot.invariant.made honest answered new (slots_skip (is_first table last) (λ slot. Flush slot) c.loop-slot.slot (slots_of table) within passed rest);
+                c.loop-slot.invariant.made honest answered new
+                (slots_skip (is_first table last) (λ slot. Flush slot) c.loop-slot.slot (slots_of table) within passed rest);
           }
     ]
 
@@ -73,8 +75,10 @@ pub returns-in_err-flush_device-clause-panel : goal.returns-in_err-flush_device-
 returns-in_err-flush_device-clause-panel g c = later_both _ _ _ c.loop-slot.invariant.panel c.flush_device.ensures.panel
 
 pub returns-in_err-flush_device-clause-honest : goal.returns-in_err-flush_device-clause-honest
-returns-in_err-flush_device-clause-honest g c =
-    (λ honest. c.flush_device.ensures.honest.0 (c.loop-slot.invariant.honest honest), λ honest. c.loop-slot.invariant.still (c.flush_device.ensures.honest.1 honest))
+returns-in_err-flush_device-clause-honest g c = (
+  λ honest. c.flush_device.ensures.honest.0 (c.loop-slot.invariant.honest honest),
+  λ honest. c.loop-slot.invariant.still (c.flush_device.ensures.honest.1 honest),
+)
 
 pub returns-clause-panel : goal.returns-clause-panel
 returns-clause-panel g c = c.loop-slot.invariant.panel

@@ -4,7 +4,8 @@ use Rattle.std.proofs.lemmas.Result.{IfErr-weaker, err_from_is_err_and}
 use Rattle.sector_model.specs.declared.sector.Stop.TheVariants.{Down}
 use Rattle.sector_model.specs.Bank.{IsCauseOf}
 use Rattle.sector_model.proofs.Panels.{later_both}
-use Rattle.superblock.proofs.PublishCode.{can_later, first_in_bank, last_is_up, last_made, last_named, no_last_made, publishes_short, publishes_then, short_in_first, short_in_flushes, then_last}
+use Rattle.superblock.proofs.PublishCode.{can_later, first_in_bank, last_is_up, last_made, last_named, no_last_made, publishes_short, publishes_then}
+use Rattle.superblock.proofs.PublishCode.{short_in_first, short_in_flushes, then_last}
 use Rattle.superblock.proofs.publishing.publish.Goals as goal
 
 pub returns-in_err-write_first-clause-publishes : goal.returns-in_err-write_first-clause-publishes
@@ -17,7 +18,8 @@ returns-in_err-write_first-clause-publishes g c =
     c.requires (g.met.B.Bank.true_to _) c.write_first.ensures.panel
     (λ sectors spelled honest. short_in_first table c.args.last sectors (c.in_err-write_first.ensures.made sectors honest spelled))
     c.in_err-write_first.ensures.cause
-    (λ device down. c.write_first.ensures.named device (let was = c.in_err-write_first.was in let named : c.write_first.result ≡ Err (Down device) = cc in named))
+    (λ device down. c.write_first.ensures.named device (let was = c.in_err-write_first.was in let named : c.write_first.result ≡ Err (Down device) =
+    cc in named))
 
 pub returns-in_err-flush_first-clause-publishes : goal.returns-in_err-flush_first-clause-publishes
 returns-in_err-flush_first-clause-publishes g c =
@@ -31,7 +33,8 @@ returns-in_err-flush_first-clause-publishes g c =
     short_in_flushes table c.args.last sectors (c.in_ok-write_first.ensures.made sectors honest spelled)
     (c.in_err-flush_first.ensures.made (c.write_first.ensures.honest.0 honest)))
     c.in_err-flush_first.ensures.cause
-    (λ device down. c.flush_first.ensures.named device (let was = c.in_err-flush_first.was in let named : c.flush_first.result ≡ Err (Down device) = cc in named))
+    (λ device down. c.flush_first.ensures.named device (let was = c.in_err-flush_first.was in let named : c.flush_first.result ≡ Err (Down device) =
+    cc in named))
 
 pub returns-in-Some-clause-publishes : goal.returns-in-Some-clause-publishes
 returns-in-Some-clause-publishes g c =
@@ -72,7 +75,10 @@ pub flush_first-requires : goal.flush_first-requires
 flush_first-requires g c = can_later c.requires c.write_first.ensures.panel
 
 pub returns-in_err-flush_first-clause-honest : goal.returns-in_err-flush_first-clause-honest
-returns-in_err-flush_first-clause-honest g c = (λ honest. c.flush_first.ensures.honest.0 (c.write_first.ensures.honest.0 honest), λ honest. c.write_first.ensures.honest.1 (c.flush_first.ensures.honest.1 honest))
+returns-in_err-flush_first-clause-honest g c = (
+  λ honest. c.flush_first.ensures.honest.0 (c.write_first.ensures.honest.0 honest),
+  λ honest. c.write_first.ensures.honest.1 (c.flush_first.ensures.honest.1 honest),
+)
 
 pub write_last-requires-clause-of_set : goal.write_last-requires-clause-of_set
 write_last-requires-clause-of_set g c = c.requires.last_in_set c.in-Some.slot c.in-Some.is
@@ -82,7 +88,8 @@ write_last-requires-clause-there g c = c.requires.last_there c.in-Some.slot c.in
 
 pub write_last-requires-clause-device : goal.write_last-requires-clause-device
 write_last-requires-clause-device g c =
-    first_in_bank c.in-Some.slot c.requires (later_both _ _ _ c.write_first.ensures.panel c.flush_first.ensures.panel) (c.requires.last_in_set c.in-Some.slot c.in-Some.is)
+    first_in_bank c.in-Some.slot c.requires (later_both _ _ _ c.write_first.ensures.panel c.flush_first.ensures.panel)
+    (c.requires.last_in_set c.in-Some.slot c.in-Some.is)
 
 pub write_last-requires-clause-within : goal.write_last-requires-clause-within
 write_last-requires-clause-within g c =
@@ -96,4 +103,7 @@ returns-in-Some-clause-honest g c = (
 )
 
 pub returns-in-None-clause-honest : goal.returns-in-None-clause-honest
-returns-in-None-clause-honest g c = (λ honest. c.flush_first.ensures.honest.0 (c.write_first.ensures.honest.0 honest), λ honest. c.write_first.ensures.honest.1 (c.flush_first.ensures.honest.1 honest))
+returns-in-None-clause-honest g c = (
+  λ honest. c.flush_first.ensures.honest.0 (c.write_first.ensures.honest.0 honest),
+  λ honest. c.write_first.ensures.honest.1 (c.flush_first.ensures.honest.1 honest),
+)

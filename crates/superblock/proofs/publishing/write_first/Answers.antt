@@ -6,7 +6,8 @@ use Rattle.sector_model.specs.Calls.{Write}
 use Rattle.sector_model.proofs.Panels.{later_both, later_same}
 use Rattle.superblock.specs.NextTables.{slots_of}
 use Rattle.superblock.specs.Publishing.{place_of}
-use Rattle.superblock.proofs.PublishCode.{test_is, first_has_places, first_in_bank, first_named, first_state, is_first, slots_end, slots_short, slots_skip, slots_start, slots_then}
+use Rattle.superblock.proofs.PublishCode.{test_is, first_has_places, first_in_bank, first_named, first_state, is_first, slots_end, slots_short, slots_skip}
+use Rattle.superblock.proofs.PublishCode.{slots_start, slots_then}
 use Rattle.superblock.proofs.publishing.write_first.Goals.{then-is_first+in_ok-write_superblock, else-is_first}
 use Rattle.superblock.proofs.publishing.write_first.Goals as goal
 
@@ -74,7 +75,8 @@ returns-clause-made g c = λ sectors honest stand.
     let table = c.args.new.now in
     let last = c.args.last in
     c.loop-slot.invariant.made sectors honest stand _ _
-    (slots_end (is_first table last) (λ slot. Write slot (place_of table) (sectors slot)) c.loop-slot.slot (slots_of table) (g.B.Bank.history c.loop-slot.bank) c.loop-slot-test.false)
+    (slots_end (is_first table last) (λ slot. Write slot (place_of table) (sectors slot)) c.loop-slot.slot (slots_of table) (g.B.Bank.history c.loop-slot.bank)
+    c.loop-slot-test.false)
 
 pub returns-clause-panel : goal.returns-clause-panel
 returns-clause-panel g c = c.loop-slot.invariant.panel
@@ -108,8 +110,10 @@ pub returns-in_err-write_superblock-clause-panel : goal.returns-in_err-write_sup
 returns-in_err-write_superblock-clause-panel g c = later_both _ _ _ c.loop-slot.invariant.panel c.write_superblock.ensures.panel
 
 pub returns-in_err-write_superblock-clause-honest : goal.returns-in_err-write_superblock-clause-honest
-returns-in_err-write_superblock-clause-honest g c =
-    (λ honest. c.write_superblock.ensures.honest.0 (c.loop-slot.invariant.honest honest), λ honest. c.loop-slot.invariant.still (c.write_superblock.ensures.honest.1 honest))
+returns-in_err-write_superblock-clause-honest g c = (
+  λ honest. c.write_superblock.ensures.honest.0 (c.loop-slot.invariant.honest honest),
+  λ honest. c.loop-slot.invariant.still (c.write_superblock.ensures.honest.1 honest),
+)
 
 pub returns-in_err-write_superblock-clause-cause : goal.returns-in_err-write_superblock-clause-cause
 returns-in_err-write_superblock-clause-cause g c =

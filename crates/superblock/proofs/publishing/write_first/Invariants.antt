@@ -17,6 +17,7 @@ invariant-loop-slot g l = record {
   made : (sectors : ℕ → Bytes) → g.B.Bank.honest l.initial.bank
       → ((slot : ℕ) → slot < slots_of l.new → state_at l.new.states slot ≢ Missing → StandsAt l.new slot (sectors slot))
       → (answered : Bool) (new : History)
-      → Made (map (λ slot. Write slot (place_of l.new) (sectors slot)) (slots_from (is_first l.new l.last) l.slot (slots_of l.new))) answered (g.B.Bank.history l.bank) new
+      → Made (map (λ slot. Write slot (place_of l.new) (sectors slot)) (slots_from (is_first l.new l.last) l.slot (slots_of l.new))) answered
+      (g.B.Bank.history l.bank) new
       → Made (map (λ slot. Write slot (place_of l.new) (sectors slot)) (first_slots l.new l.last)) answered (g.B.Bank.history l.initial.bank) new;
 }

@@ -43,8 +43,10 @@ pub returns-clause-panel : goal.returns-clause-panel
 returns-clause-panel g c = later_both _ _ _ c.write_superblock.ensures.panel c.flush_device.ensures.panel
 
 pub returns-clause-honest : goal.returns-clause-honest
-returns-clause-honest g c =
-    (λ honest. c.flush_device.ensures.honest.0 (c.write_superblock.ensures.honest.0 honest), λ honest. c.write_superblock.ensures.honest.1 (c.flush_device.ensures.honest.1 honest))
+returns-clause-honest g c = (
+  λ honest. c.flush_device.ensures.honest.0 (c.write_superblock.ensures.honest.0 honest),
+  λ honest. c.write_superblock.ensures.honest.1 (c.flush_device.ensures.honest.1 honest),
+)
 
 pub returns-clause-made : goal.returns-clause-made
 returns-clause-made g c = λ sectors honest stands.

@@ -20,5 +20,6 @@ returns-clause-made g c = λ sector honest stands.
     let still = c.write_sector.ensures.honest.0 honest in
     let made = made_one (Write slot place c.own_sector-sector.result) c.write_sector.result (g.B.Bank.panel c.write_sector.new.bank)
     (c.write_sector.ensures.history honest) c.write_sector.ensures.up (g.met.B.Bank.true_to _ still) in
-    subst (λ (bytes : Bytes). Made (Write slot place bytes ∷ []) (is_ok c.write_sector.result) (g.B.Bank.history c.args.bank.now) (g.B.Bank.history c.write_sector.new.bank))
+    subst (λ (bytes : Bytes). Made (Write slot place bytes ∷ []) (is_ok c.write_sector.result) (g.B.Bank.history c.args.bank.now)
+    (g.B.Bank.history c.write_sector.new.bank))
     (sym same) made

@@ -25,7 +25,8 @@ pub invariant_of-table : goal.invariant_of-table
 invariant_of-table c = record { id_long = search rules; allowed = c.if-not-is_table.ensures.0 refl }
 
 pub returns-in_err-geometry : goal.returns-in_err-geometry
-returns-in_err-geometry c = λ s same. absurd (no_geometry c.new.result c.in_err-geometry.ensures.value (c.new.ensures.within.1 (fields_limits c.args.fields.now s same)))
+returns-in_err-geometry c = λ s same. absurd (no_geometry c.new.result c.in_err-geometry.ensures.value
+    (c.new.ensures.within.1 (fields_limits c.args.fields.now s same)))
 
 pub returns-then-role-geometry : goal.returns-then-role-geometry
 returns-then-role-geometry c = λ s same.

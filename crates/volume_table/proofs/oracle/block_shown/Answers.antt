@@ -14,14 +14,16 @@ pub returns-in_err-found : goal.returns-in_err-found
 returns-in_err-found c = λ volumes shows.
     let table = c.in_ok-table.table in
     let same = same_Some table shows.table (c.in_ok-table.ensures.exact volumes shows) in
-    c.from_residual-in_err-found.ensures ∙ sym (no_volume c.args.extents c.args.sectors.now volumes c.args.name.now c.args.at table shows same c.in_err-found.ensures)
+    c.from_residual-in_err-found.ensures ∙ sym (no_volume c.args.extents c.args.sectors.now volumes c.args.name.now c.args.at table shows same
+    c.in_err-found.ensures)
 
 pub returns-then-found-at : goal.returns-then-found-at
 returns-then-found-at c = λ volumes shows.
     let table = c.in_ok-table.table in
     let found = c.in_ok-found.found in
     let same = same_Some table shows.table (c.in_ok-table.ensures.exact volumes shows) in
-    sym (no_block c.args.extents c.args.sectors.now volumes c.args.name.now found.number found.count c.args.at table shows same c.in_ok-found.ensures (omega arith))
+    sym (no_block c.args.extents c.args.sectors.now volumes c.args.name.now found.number found.count c.args.at table shows same c.in_ok-found.ensures
+    (omega arith))
 
 pub returns-in_err-extent : goal.returns-in_err-extent
 returns-in_err-extent c = λ volumes shows.
@@ -36,5 +38,6 @@ returns c = λ volumes shows.
     let same = same_Some table shows.table (c.in_ok-table.ensures.exact volumes shows) in
     let sector = sector_of_block EXTENT_SECTORS c.in_ok-extent.extent c.args.at in
     let stands : slice_get c.args.sectors.now sector ≡ block_at c.args.name.now c.args.at volumes =
-    block_stands c.args.extents c.args.sectors.now volumes c.args.name.now found.number found.count c.args.at c.in_ok-extent.extent table shows same c.in_ok-found.ensures (omega arith) c.in_ok-extent.ensures.at in
+    block_stands c.args.extents c.args.sectors.now volumes c.args.name.now found.number found.count c.args.at c.in_ok-extent.extent table shows same
+    c.in_ok-found.ensures (omega arith) c.in_ok-extent.ensures.at in
     c.copied.ensures ∙ read_item c.args.sectors.now sector c.get.result c.get.ensures.lookup ∙ stands

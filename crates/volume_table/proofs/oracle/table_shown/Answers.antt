@@ -21,18 +21,21 @@ returns-in_err-table-clause-none c = λ none volumes shows.
 pub returns-then-table_length-there-clause-some : goal.returns-then-table_length-there-clause-some
 returns-then-table_length-there-clause-some c =
     let copied = copied_first c.min-there.result c.args.sectors.now _ _ c.min-there.ensures c.copy_from_slice.ensures.after in
-    spelled_there c.min-there.result _ c.args.sectors.now c.in_ok-table.table (sym copied) (omega (arith, c.table_length.ensures, c.if-table_length-there.true)) c.in_ok-table.ensures.some
+    spelled_there c.min-there.result _ c.args.sectors.now c.in_ok-table.table (sym copied) (omega (arith, c.table_length.ensures, c.if-table_length-there.true))
+    c.in_ok-table.ensures.some
 
 pub returns-then-table_length-there-clause-exact : goal.returns-then-table_length-there-clause-exact
 returns-then-table_length-there-clause-exact c = λ volumes shows.
     let copied = copied_first c.min-there.result c.args.sectors.now _ _ c.min-there.ensures c.copy_from_slice.ensures.after in
-    c.in_ok-table.ensures.exact shows.table (shown_in_copy c.args.extents c.min-there.result c.args.sectors.now _ volumes shows c.min-there.ensures copied) shows.free_beyond
+    c.in_ok-table.ensures.exact shows.table (shown_in_copy c.args.extents c.min-there.result c.args.sectors.now _ volumes shows c.min-there.ensures copied)
+    shows.free_beyond
 
 pub returns-else-table_length-there-clause-exact : goal.returns-else-table_length-there-clause-exact
 returns-else-table_length-there-clause-exact c = λ volumes shows.
     let copied = copied_first c.min-there.result c.args.sectors.now _ _ c.min-there.ensures c.copy_from_slice.ensures.after in
     let same = same_Some c.in_ok-table.table shows.table
-    (c.in_ok-table.ensures.exact shows.table (shown_in_copy c.args.extents c.min-there.result c.args.sectors.now _ volumes shows c.min-there.ensures copied) shows.free_beyond) in
+    (c.in_ok-table.ensures.exact shows.table (shown_in_copy c.args.extents c.min-there.result c.args.sectors.now _ volumes shows c.min-there.ensures copied)
+    shows.free_beyond) in
     absurd (omega (
       arith,
       c.table_length.ensures,

@@ -14,15 +14,18 @@ use Rattle.array_io.proofs.array.Array.commit.Goals as goal
 
 pub returns-then-self-ge-GREATEST_COUNT-clause-commits : goal.returns-then-self-ge-GREATEST_COUNT-clause-commits
 returns-then-self-ge-GREATEST_COUNT-clause-commits g c =
-    commit_worn spellings (g.B.Bank.honest c.args.self.now.bank) c.args.sectors.now c.args.self.now.entry c.args.self.now.table (g.B.Bank.panel c.args.self.now.bank) (g.B.Bank.history c.args.self.now.bank)
+    commit_worn spellings (g.B.Bank.honest c.args.self.now.bank) c.args.sectors.now c.args.self.now.entry c.args.self.now.table
+    (g.B.Bank.panel c.args.self.now.bank) (g.B.Bank.history c.args.self.now.bank)
     (λ fair. g.met.B.Bank.true_to _ fair) c.if-self-ge-GREATEST_COUNT.true
 
 pub returns-in_err-form_rows-clause-commits : goal.returns-in_err-form_rows-clause-commits
 returns-in_err-form_rows-clause-commits g c =
     let p = err_from_is_err_and c.from_residual.result c.from_residual.ensures.1 in
-    rw (p.1, p.2) (commit_unformed spellings (g.B.Bank.honest c.args.self.now.bank) c.args.self.now.entry c.args.sectors.now c.args.self.now.table c.form_rows.new.table
+    rw (p.1, p.2) (commit_unformed spellings (g.B.Bank.honest c.args.self.now.bank) c.args.self.now.entry c.args.sectors.now c.args.self.now.table
+    c.form_rows.new.table
     (g.B.Bank.panel c.args.self.now.bank) (g.B.Bank.panel c.form_rows.new.bank) (g.B.Bank.history c.args.self.now.bank) (g.B.Bank.history c.form_rows.new.bank)
-    (λ fair. g.met.B.Bank.true_to _ fair) (λ fair. g.met.B.Bank.true_to _ (c.form_rows.ensures.honest.0 fair)) c.in_err-form_rows.field-0.0 c.in_err-form_rows.ensures.steps)
+    (λ fair. g.met.B.Bank.true_to _ fair) (λ fair. g.met.B.Bank.true_to _ (c.form_rows.ensures.honest.0 fair)) c.in_err-form_rows.field-0.0
+    c.in_err-form_rows.ensures.steps)
 
 pub put_on_members-requires-clause-its_rows : goal.put_on_members-requires-clause-its_rows
 put_on_members-requires-clause-its_rows g c =
@@ -31,31 +34,37 @@ put_on_members-requires-clause-its_rows g c =
       same = sym c.next_seal-seal.ensures.rows;
       held = λ i member below within. ap (λ (f : Form). holds c.put_on_journals.new.table.geometry.members f i member) (sym c.next_seal-seal.ensures.form);
       below = subst (λ (rows : List ℕ). (i : ℕ) → i < length rows → row_at rows i < row_count c.put_on_journals.new.table) (sym c.next_seal-seal.ensures.rows)
-          (subst (λ (s : Geometry). (i : ℕ) → i < length (numbers_of c.form_rows.new.entry) → row_at (numbers_of c.form_rows.new.entry) i < rows_of s.chunk s.stripes)
+          (subst (λ (s : Geometry). (i : ℕ) → i < length (numbers_of c.form_rows.new.entry)
+          → row_at (numbers_of c.form_rows.new.entry) i < rows_of s.chunk s.stripes)
           (sym (c.put_on_journals.ensures.geometry ∙ same)) c.in_ok-form_rows.ensures.rows.of_set);
     }
 
 pub returns-in_err-put_on_journals-clause-commits : goal.returns-in_err-put_on_journals-clause-commits
 returns-in_err-put_on_journals-clause-commits g c =
     let p = err_from_is_err_and c.from_residual-in_err-put_on_journals.result c.from_residual-in_err-put_on_journals.ensures.1 in
-    rw (p.1, p.2) (commit_unsealed spellings (g.B.Bank.honest c.args.self.now.bank) c.args.self.now.entry c.args.sectors.now c.args.self.now.table c.form_rows.new.table
+    rw (p.1, p.2) (commit_unsealed spellings (g.B.Bank.honest c.args.self.now.bank) c.args.self.now.entry c.args.sectors.now c.args.self.now.table
+    c.form_rows.new.table
     (g.B.Bank.panel c.args.self.now.bank) (g.B.Bank.panel c.form_rows.new.bank) (g.B.Bank.history c.args.self.now.bank) (g.B.Bank.history c.form_rows.new.bank)
     (λ fair. g.met.B.Bank.true_to _ fair) (λ fair. g.met.B.Bank.true_to _ (c.form_rows.ensures.honest.0 fair))
     (g.B.Bank.honest c.form_rows.new.bank) (λ fair. c.form_rows.ensures.honest.0 fair) c.requires c.next_seal-seal.result c.form_rows.new.entry
-    c.in_ok-form_rows.ensures.steps c.in_ok-form_rows.ensures.formed c.next_seal-seal.ensures.id c.next_seal-seal.ensures.number c.next_seal-seal.ensures.rows c.next_seal-seal.ensures.form
+    c.in_ok-form_rows.ensures.steps c.in_ok-form_rows.ensures.formed c.next_seal-seal.ensures.id c.next_seal-seal.ensures.number c.next_seal-seal.ensures.rows
+    c.next_seal-seal.ensures.form
     c.put_on_journals.new.table (g.B.Bank.panel c.put_on_journals.new.bank) (g.B.Bank.history c.put_on_journals.new.bank)
     (Err c.in_err-put_on_journals.field-0.0) (c.in_err-put_on_journals.ensures.steps c.args.self.now.entry) c.in_err-put_on_journals.field-0.0 refl)
 
 pub returns-in_err-put_on_members-clause-commits : goal.returns-in_err-put_on_members-clause-commits
 returns-in_err-put_on_members-clause-commits g c =
     let p = err_from_is_err_and c.from_residual-in_err-put_on_members.result c.from_residual-in_err-put_on_members.ensures.1 in
-    rw (p.1, p.2) (commit_unput spellings (g.B.Bank.honest c.args.self.now.bank) c.args.self.now.entry c.args.sectors.now c.args.self.now.table c.form_rows.new.table
+    rw (p.1, p.2) (commit_unput spellings (g.B.Bank.honest c.args.self.now.bank) c.args.self.now.entry c.args.sectors.now c.args.self.now.table
+    c.form_rows.new.table
     (g.B.Bank.panel c.args.self.now.bank) (g.B.Bank.panel c.form_rows.new.bank) (g.B.Bank.history c.args.self.now.bank) (g.B.Bank.history c.form_rows.new.bank)
     (λ fair. g.met.B.Bank.true_to _ fair) (λ fair. g.met.B.Bank.true_to _ (c.form_rows.ensures.honest.0 fair))
     (g.B.Bank.honest c.form_rows.new.bank) (λ fair. c.form_rows.ensures.honest.0 fair) c.requires c.next_seal-seal.result c.form_rows.new.entry
-    c.in_ok-form_rows.ensures.steps c.in_ok-form_rows.ensures.formed c.next_seal-seal.ensures.id c.next_seal-seal.ensures.number c.next_seal-seal.ensures.rows c.next_seal-seal.ensures.form
+    c.in_ok-form_rows.ensures.steps c.in_ok-form_rows.ensures.formed c.next_seal-seal.ensures.id c.next_seal-seal.ensures.number c.next_seal-seal.ensures.rows
+    c.next_seal-seal.ensures.form
     c.put_on_journals.new.table (g.B.Bank.panel c.put_on_journals.new.bank) (g.B.Bank.history c.put_on_journals.new.bank)
-    (Ok tt) (c.in_ok-put_on_journals.ensures.steps c.args.self.now.entry) refl (g.B.Bank.honest c.put_on_journals.new.bank) (λ fair. c.put_on_journals.ensures.honest.0 fair)
+    (Ok tt) (c.in_ok-put_on_journals.ensures.steps c.args.self.now.entry) refl (g.B.Bank.honest c.put_on_journals.new.bank)
+    (λ fair. c.put_on_journals.ensures.honest.0 fair)
     c.put_on_members.new.table (g.B.Bank.panel c.put_on_members.new.bank) (g.B.Bank.history c.put_on_members.new.bank)
     (λ fair. g.met.B.Bank.true_to _ (c.put_on_members.ensures.honest.0 (c.put_on_journals.ensures.honest.0 (c.form_rows.ensures.honest.0 fair))))
     (Err c.in_err-put_on_members.field-0.0) (c.in_err-put_on_members.ensures.steps c.args.self.now.entry) c.in_err-put_on_members.field-0.0 refl)
@@ -66,9 +75,11 @@ returns-clause-commits g c =
     (g.B.Bank.panel c.args.self.now.bank) (g.B.Bank.panel c.form_rows.new.bank) (g.B.Bank.history c.args.self.now.bank) (g.B.Bank.history c.form_rows.new.bank)
     (λ fair. g.met.B.Bank.true_to _ fair) (λ fair. g.met.B.Bank.true_to _ (c.form_rows.ensures.honest.0 fair))
     (g.B.Bank.honest c.form_rows.new.bank) (λ fair. c.form_rows.ensures.honest.0 fair) c.requires c.next_seal-seal.result c.form_rows.new.entry
-    c.in_ok-form_rows.ensures.steps c.in_ok-form_rows.ensures.formed c.next_seal-seal.ensures.id c.next_seal-seal.ensures.number c.next_seal-seal.ensures.rows c.next_seal-seal.ensures.form
+    c.in_ok-form_rows.ensures.steps c.in_ok-form_rows.ensures.formed c.next_seal-seal.ensures.id c.next_seal-seal.ensures.number c.next_seal-seal.ensures.rows
+    c.next_seal-seal.ensures.form
     c.put_on_journals.new.table (g.B.Bank.panel c.put_on_journals.new.bank) (g.B.Bank.history c.put_on_journals.new.bank)
-    (Ok tt) (c.in_ok-put_on_journals.ensures.steps c.args.self.now.entry) refl (g.B.Bank.honest c.put_on_journals.new.bank) (λ fair. c.put_on_journals.ensures.honest.0 fair)
+    (Ok tt) (c.in_ok-put_on_journals.ensures.steps c.args.self.now.entry) refl (g.B.Bank.honest c.put_on_journals.new.bank)
+    (λ fair. c.put_on_journals.ensures.honest.0 fair)
     c.put_on_members.new.table (g.B.Bank.panel c.put_on_members.new.bank) (g.B.Bank.history c.put_on_members.new.bank)
     (λ fair. g.met.B.Bank.true_to _ (c.put_on_members.ensures.honest.0 (c.put_on_journals.ensures.honest.0 (c.form_rows.ensures.honest.0 fair))))
     (Ok tt) (c.in_ok-put_on_members.ensures.steps c.args.self.now.entry) refl

@@ -9,8 +9,10 @@ mark_slot-requires-clause-others g c =
 pub returns-clause-marks : goal.returns-clause-marks
 returns-clause-marks g c =
     let was = c.args.self.now in
-    marks_missing spellings (g.B.Bank.honest was.bank) c.args.dev was.entry (g.B.Bank.panel was.bank) (g.B.Bank.panel c.mark_slot.new.bank) was.table c.mark_slot.new.table
-    (g.B.Bank.history was.bank) (g.B.Bank.history c.mark_slot.new.bank) c.mark_slot.result c.requires was.its_slots (g.met.B.Bank.true_to was.bank) c.mark_slot.ensures.marks
+    marks_missing spellings (g.B.Bank.honest was.bank) c.args.dev was.entry (g.B.Bank.panel was.bank) (g.B.Bank.panel c.mark_slot.new.bank) was.table
+    c.mark_slot.new.table
+    (g.B.Bank.history was.bank) (g.B.Bank.history c.mark_slot.new.bank) c.mark_slot.result c.requires was.its_slots (g.met.B.Bank.true_to was.bank)
+    c.mark_slot.ensures.marks
 
 pub returns-clause-refused : goal.returns-clause-refused
 returns-clause-refused g c =
@@ -25,7 +27,8 @@ pub invariant_of-self : goal.invariant_of-self
 invariant_of-self g c =
     let was = c.args.self.now in
     record {
-      its_slots = its_slots_stay (g.B.Bank.honest was.bank) c.args.dev (g.B.Bank.panel was.bank) (g.B.Bank.panel c.mark_slot.new.bank) was.table c.mark_slot.new.table
+      its_slots = its_slots_stay (g.B.Bank.honest was.bank) c.args.dev (g.B.Bank.panel was.bank) (g.B.Bank.panel c.mark_slot.new.bank) was.table
+          c.mark_slot.new.table
           (g.B.Bank.history was.bank) (g.B.Bank.history c.mark_slot.new.bank) c.mark_slot.result c.requires was.its_slots c.mark_slot.ensures.marks;
     }
 

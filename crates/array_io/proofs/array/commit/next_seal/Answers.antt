@@ -16,7 +16,8 @@ loop-i-init c = record {
 
 pub push-requires : goal.push-requires
 push-requires c =
-    let long : length c.loop-i.rows.items ≡ c.loop-i.i = ap length c.loop-i.invariant.rows ∙ length-take-le c.loop-i.i (numbers_of c.args.entry.now) c.loop-i.invariant.most in
+    let long : length c.loop-i.rows.items ≡ c.loop-i.i = ap length c.loop-i.invariant.rows
+    ∙ length-take-le c.loop-i.i (numbers_of c.args.entry.now) c.loop-i.invariant.most in
     (omega arith, omega (arith, long, c.loop-i-test.true, c.len-i-end.ensures, c.args.entry.now.few))
 
 pub loop-i-preserved : goal.loop-i-preserved
@@ -51,7 +52,8 @@ invariant_of-result c =
         row_most = λ k within. c.loop-i.invariant.below k (omega (arith, all, within));
         rising = c.requires.rising;
       });
-      formed = subst (λ (n : ℕ). IsForm c.form.result n) (ap length (sym (all_taken c.loop-i.i rows c.loop-i.rows.items all c.loop-i.invariant.rows))) (c.form.ensures.sealed c.requires.held);
+      formed = subst (λ (n : ℕ). IsForm c.form.result n) (ap length (sym (all_taken c.loop-i.i rows c.loop-i.rows.items all c.loop-i.invariant.rows)))
+          (c.form.ensures.sealed c.requires.held);
     }
 
 pub returns-clause-rows : goal.returns-clause-rows

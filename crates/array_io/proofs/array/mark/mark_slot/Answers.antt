@@ -8,7 +8,8 @@ use Rattle.array_io.proofs.array.mark.mark_slot.Goals as goal
 
 pub returns-in-Ok-clause-marks : goal.returns-in-Ok-clause-marks
 returns-in-Ok-clause-marks g c =
-    let counted : state_at c.args.table.now.states c.args.slot ≢ Missing = not_missing (state_at c.args.table.now.states c.args.slot) (sym c.eq.ensures ∙ c.if-eq.false) in
+    let counted : state_at c.args.table.now.states c.args.slot ≢ Missing =
+    not_missing (state_at c.args.table.now.states c.args.slot) (sym c.eq.ensures ∙ c.if-eq.false) in
     inr record {
       counted = counted;
       others = c.if-is_other_out.ensures.in_sync refl;
@@ -20,7 +21,8 @@ returns-in-Ok-clause-marks g c =
 
 pub returns-in-Err-Down-clause-marks : goal.returns-in-Err-Down-clause-marks
 returns-in-Err-Down-clause-marks g c =
-    let counted : state_at c.args.table.now.states c.args.slot ≢ Missing = not_missing (state_at c.args.table.now.states c.args.slot) (sym c.eq.ensures ∙ c.if-eq.false) in
+    let counted : state_at c.args.table.now.states c.args.slot ≢ Missing =
+    not_missing (state_at c.args.table.now.states c.args.slot) (sym c.eq.ensures ∙ c.if-eq.false) in
     inr record {
       counted = counted;
       others = c.if-is_other_out.ensures.in_sync refl;
@@ -32,7 +34,8 @@ returns-in-Err-Down-clause-marks g c =
 
 pub returns-in-Err-Worn-clause-marks : goal.returns-in-Err-Worn-clause-marks
 returns-in-Err-Worn-clause-marks g c =
-    let counted : state_at c.args.table.now.states c.args.slot ≢ Missing = not_missing (state_at c.args.table.now.states c.args.slot) (sym c.eq.ensures ∙ c.if-eq.false) in
+    let counted : state_at c.args.table.now.states c.args.slot ≢ Missing =
+    not_missing (state_at c.args.table.now.states c.args.slot) (sym c.eq.ensures ∙ c.if-eq.false) in
     inr record {
       counted = counted;
       others = c.if-is_other_out.ensures.in_sync refl;
@@ -44,13 +47,21 @@ returns-in-Err-Worn-clause-marks g c =
 
 pub returns-then-eq-clause-marks : goal.returns-then-eq-clause-marks
 returns-then-eq-clause-marks g c =
-    let missing : state_at c.args.table.now.states c.args.slot ≡ Missing = is_missing (state_at c.args.table.now.states c.args.slot) (sym c.eq.ensures ∙ c.if-eq.true) in
+    let missing : state_at c.args.table.now.states c.args.slot ≡ Missing =
+    is_missing (state_at c.args.table.now.states c.args.slot) (sym c.eq.ensures ∙ c.if-eq.true) in
     inl record { same_panel = refl; same_table = refl; same_history = refl; why = inl (missing, refl) }
 
 pub returns-then-table-ge-GREATEST_COUNT-clause-marks : goal.returns-then-table-ge-GREATEST_COUNT-clause-marks
 returns-then-table-ge-GREATEST_COUNT-clause-marks g c =
-    let counted : state_at c.args.table.now.states c.args.slot ≢ Missing = not_missing (state_at c.args.table.now.states c.args.slot) (sym c.eq.ensures ∙ c.if-eq.false) in
-    inl record { same_panel = refl; same_table = refl; same_history = refl; why = inr (inr (counted, c.if-table-ge-GREATEST_COUNT.true, c.if-is_other_out.ensures.in_sync refl, refl)) }
+    let counted : state_at c.args.table.now.states c.args.slot ≢ Missing =
+    not_missing (state_at c.args.table.now.states c.args.slot) (sym c.eq.ensures ∙ c.if-eq.false) in
+    inl record {
+      same_panel = refl;
+      same_table = refl;
+      same_history = refl;
+      why =
+          inr (inr (counted, c.if-table-ge-GREATEST_COUNT.true, c.if-is_other_out.ensures.in_sync refl, refl));
+    }
 
 pub returns-then-eq-clause-honest : goal.returns-then-eq-clause-honest
 returns-then-eq-clause-honest g c = (λ honest. honest, λ honest. honest)
@@ -66,7 +77,8 @@ bounds-table-slot g c = omega (arith, c.requires.of_set, c.args.table.now.geomet
 
 pub returns-then-is_other_out-clause-marks : goal.returns-then-is_other_out-clause-marks
 returns-then-is_other_out-clause-marks g c =
-    let counted : state_at c.args.table.now.states c.args.slot ≢ Missing = not_missing (state_at c.args.table.now.states c.args.slot) (sym c.eq.ensures ∙ c.if-eq.false) in
+    let counted : state_at c.args.table.now.states c.args.slot ≢ Missing =
+    not_missing (state_at c.args.table.now.states c.args.slot) (sym c.eq.ensures ∙ c.if-eq.false) in
     let out = c.if-is_other_out.ensures.out refl in
     inl record { same_panel = refl; same_table = refl; same_history = refl; why = inr (inl (counted, out, refl)) }
 
@@ -81,7 +93,8 @@ without-requires-clause-others g c =
     c.if-is_other_out.ensures.in_sync refl
 
 pub publish-requires : goal.publish-requires
-publish-requires g c = can_publish (g.B.Bank.panel c.args.bank.now) c.args.table.now c.without.result c.args.slot c.requires.of_set c.without.ensures c.requires.others
+publish-requires g c = can_publish (g.B.Bank.panel c.args.bank.now) c.args.table.now c.without.result c.args.slot c.requires.of_set c.without.ensures
+    c.requires.others
 
 pub returns-in-Ok-clause-honest : goal.returns-in-Ok-clause-honest
 returns-in-Ok-clause-honest g c = c.publish.ensures.honest

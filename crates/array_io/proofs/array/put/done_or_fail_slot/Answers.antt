@@ -47,20 +47,25 @@ returns-in-Err-Worn-clause-geometry g c = refl
 pub returns-in-Err-Worn-clause-ends : goal.returns-in-Err-Worn-clause-ends
 returns-in-Err-Worn-clause-ends g c =
     let stop : c.in-Err-Worn.field-0 ≡ stop.Worn = rw c.in-Err-Worn.is at c.in-Err-Worn.field-0-is in
-    subst (λ (d : Result (Unit {0}) Stop). EndsOrFailsSlot (g.B.Bank.honest c.args.bank.now) c.args.slot (g.B.Bank.panel c.args.bank.now) (g.B.Bank.panel c.args.bank.now) c.args.table.now c.args.table.now
-    (g.B.Bank.history c.args.bank.now) (g.B.Bank.history c.args.bank.now) d (Err Worn)) (sym (c.in-Err-Worn.is ∙ ap Err stop)) (refl, record { same_panel = refl; same_table = refl; same_history = refl })
+    subst (λ (d : Result (Unit {0}) Stop). EndsOrFailsSlot (g.B.Bank.honest c.args.bank.now) c.args.slot (g.B.Bank.panel c.args.bank.now)
+    (g.B.Bank.panel c.args.bank.now) c.args.table.now c.args.table.now
+    (g.B.Bank.history c.args.bank.now) (g.B.Bank.history c.args.bank.now) d (Err Worn)) (sym (c.in-Err-Worn.is ∙ ap Err stop))
+    (refl, record { same_panel = refl; same_table = refl; same_history = refl })
 
 pub returns-in-Err-Down-clause-honest : goal.returns-in-Err-Down-clause-honest
 returns-in-Err-Down-clause-honest g c = c.mark_slot.ensures.honest
 
 pub returns-in-Err-Down-clause-its_slots : goal.returns-in-Err-Down-clause-its_slots
 returns-in-Err-Down-clause-its_slots g c =
-    its_slots_stay (g.B.Bank.honest c.args.bank.now) c.args.slot (g.B.Bank.panel c.args.bank.now) (g.B.Bank.panel c.mark_slot.new.bank) c.args.table.now c.mark_slot.new.table
-    (g.B.Bank.history c.args.bank.now) (g.B.Bank.history c.mark_slot.new.bank) c.mark_slot.result c.requires.of_set c.requires.its_slots c.mark_slot.ensures.marks
+    its_slots_stay (g.B.Bank.honest c.args.bank.now) c.args.slot (g.B.Bank.panel c.args.bank.now) (g.B.Bank.panel c.mark_slot.new.bank) c.args.table.now
+    c.mark_slot.new.table
+    (g.B.Bank.history c.args.bank.now) (g.B.Bank.history c.mark_slot.new.bank) c.mark_slot.result c.requires.of_set c.requires.its_slots
+    c.mark_slot.ensures.marks
 
 pub returns-in-Err-Down-clause-geometry : goal.returns-in-Err-Down-clause-geometry
 returns-in-Err-Down-clause-geometry g c =
-    geometry_stays (g.B.Bank.honest c.args.bank.now) c.args.slot (g.B.Bank.panel c.args.bank.now) (g.B.Bank.panel c.mark_slot.new.bank) c.args.table.now c.mark_slot.new.table
+    geometry_stays (g.B.Bank.honest c.args.bank.now) c.args.slot (g.B.Bank.panel c.args.bank.now) (g.B.Bank.panel c.mark_slot.new.bank) c.args.table.now
+    c.mark_slot.new.table
     (g.B.Bank.history c.args.bank.now) (g.B.Bank.history c.mark_slot.new.bank) c.mark_slot.result c.mark_slot.ensures.marks
 
 pub returns-in-Err-Down-clause-ends : goal.returns-in-Err-Down-clause-ends

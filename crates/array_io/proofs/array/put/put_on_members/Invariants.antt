@@ -14,5 +14,6 @@ invariant-loop-member g l = record {
   its_slots : HasItsSlots l.table (g.B.Bank.panel l.bank);
   geometry : l.table.geometry ≡ l.initial.table.geometry;
   steps : (number : ℕ) → Brings (g.B.Bank.honest l.initial.bank) (IsPutBefore 0 l.seal (body_of l.initial.table.geometry.members l.entry))
-      (IsPutBefore l.member l.seal (body_of l.initial.table.geometry.members l.entry)) (array_on g.B.Bank l.initial.bank l.initial.table number) (array_on g.B.Bank l.bank l.table number) (Ok tt);
+      (IsPutBefore l.member l.seal (body_of l.initial.table.geometry.members l.entry)) (array_on g.B.Bank l.initial.bank l.initial.table number)
+      (array_on g.B.Bank l.bank l.table number) (Ok tt);
 }

@@ -20,4 +20,5 @@ bounds-live-member c = omega (arith, c.loop-member-test.true, c.args.table.now.g
 pub returns : goal.returns
 returns c =
     let all : c.loop-member.member ≡ c.args.table.now.geometry.members = omega (arith, c.loop-member.auto.member-end, c.loop-member-test.false) in
-    subst (λ (n : ℕ). AreLive (vec_len c.args.image.now.slots) c.args.table.now (slots_of c.args.image.now.slots.items) n c.loop-member.live) all c.loop-member.invariant
+    subst (λ (n : ℕ). AreLive (vec_len c.args.image.now.slots) c.args.table.now (slots_of c.args.image.now.slots.items) n c.loop-member.live) all
+    c.loop-member.invariant

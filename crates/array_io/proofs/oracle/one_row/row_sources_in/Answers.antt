@@ -7,13 +7,17 @@ use Rattle.array_io.proofs.Oracles.EvaluatedRows.{filled_more, same_values}
 use Rattle.array_io.proofs.oracle.one_row.row_sources_in.Goals as goal
 
 pub loop-member-preserved : goal.loop-member-preserved
-loop-member-preserved c = filled_more (vec_len c.args.image.now.slots) c.args.table.now (slots_of c.args.image.now.slots.items) (entry_of c.last_entry_in-last.result) c.args.row
+loop-member-preserved c = filled_more (vec_len c.args.image.now.slots) c.args.table.now (slots_of c.args.image.now.slots.items)
+    (entry_of c.last_entry_in-last.result) c.args.row
     c.loop-member.member c.loop-member.entry c.loop-member.trusted c.loop-member.own c.entry_sector_in.result c.is_trusted_in.result c.sector_at.result
-    (omega (arith, c.loop-member-test.true, c.args.table.now.geometry.limits.members_most)) c.loop-member.invariant c.entry_sector_in.ensures c.is_trusted_in.ensures c.sector_at.ensures
+    (omega (arith, c.loop-member-test.true, c.args.table.now.geometry.limits.members_most)) c.loop-member.invariant c.entry_sector_in.ensures
+    c.is_trusted_in.ensures c.sector_at.ensures
 
 pub returns-clause-values : goal.returns-clause-values
-returns-clause-values c = same_values (vec_len c.args.image.now.slots) c.args.table.now (slots_of c.args.image.now.slots.items) (entry_of c.last_entry_in-last.result) c.args.row
-    c.loop-member.member c.loop-member.entry c.loop-member.trusted c.loop-member.own c.requires c.loop-member-test.false c.last_entry_in-last.ensures c.loop-member.invariant
+returns-clause-values c = same_values (vec_len c.args.image.now.slots) c.args.table.now (slots_of c.args.image.now.slots.items)
+    (entry_of c.last_entry_in-last.result) c.args.row
+    c.loop-member.member c.loop-member.entry c.loop-member.trusted c.loop-member.own c.requires c.loop-member-test.false c.last_entry_in-last.ensures
+    c.loop-member.invariant
 
 pub loop-member-init : goal.loop-member-init
 loop-member-init c = record {

@@ -24,7 +24,8 @@ returns-then-at-len c = λ inside.
     let slots = c.args.image.now.slots in
     let disk = c.in-Some.disk in
     let within : c.args.slot < vec_len slots = omega (arith, c.len.ensures, c.if-slot-len.false) in
-    let stands = sym (at_slot slots.items c.args.slot c.index.result.now (slice_get_read slots.items (vec_len slots) c.args.slot c.index.result.now slots.ok.0 within c.index.ensures))
+    let stands = sym (at_slot slots.items c.args.slot c.index.result.now
+    (slice_get_read slots.items (vec_len slots) c.args.slot c.index.result.now slots.ok.0 within c.index.ensures))
     ∙ ap sectors_in c.in-Some.is in
     let below : c.args.at < length disk.items = omega (arith, c.len-in-Some.ensures, disk.ok.0, c.if-at-len.true) in
     subst (λ (content : Content). c.index-then-at-len.result.now ≡ sector_of (disk_of content) c.args.at) (sym stands)
@@ -35,7 +36,8 @@ returns-else-at-len c = λ inside.
     let slots = c.args.image.now.slots in
     let disk = c.in-Some.disk in
     let within : c.args.slot < vec_len slots = omega (arith, c.len.ensures, c.if-slot-len.false) in
-    let stands = sym (at_slot slots.items c.args.slot c.index.result.now (slice_get_read slots.items (vec_len slots) c.args.slot c.index.result.now slots.ok.0 within c.index.ensures))
+    let stands = sym (at_slot slots.items c.args.slot c.index.result.now
+    (slice_get_read slots.items (vec_len slots) c.args.slot c.index.result.now slots.ok.0 within c.index.ensures))
     ∙ ap sectors_in c.in-Some.is in
     absurd (omega (arith, inside, ap (λ (s : Content). length (disk_of s)) stands, c.len-in-Some.ensures, disk.ok.0, c.if-at-len.false))
 
@@ -43,6 +45,7 @@ pub returns-in-None : goal.returns-in-None
 returns-in-None c = λ inside.
     let slots = c.args.image.now.slots in
     let within : c.args.slot < vec_len slots = omega (arith, c.len.ensures, c.if-slot-len.false) in
-    let stands = sym (at_slot slots.items c.args.slot c.index.result.now (slice_get_read slots.items (vec_len slots) c.args.slot c.index.result.now slots.ok.0 within c.index.ensures))
+    let stands = sym (at_slot slots.items c.args.slot c.index.result.now
+    (slice_get_read slots.items (vec_len slots) c.args.slot c.index.result.now slots.ok.0 within c.index.ensures))
     ∙ ap sectors_in c.in-None.is in
     absurd (omega (arith, inside, ap (λ (s : Content). length (disk_of s)) stands))

@@ -16,7 +16,8 @@ taken_map c =
     let map : IsExtentMap c.args.self.now = rw (← c.self.view_is) c.self.invariant.map in
     let taken : IsTaken c.args.self.now c.append_lowest.new.owners c.args.volume c.args.n =
     rw (c.as_mut_slice.ensures.value, c.self.view_is, c.count-first.ensures.number) at c.append_lowest.ensures in
-    let written = all_written c.self.inside.owners.items c.append_lowest.new.owners (c.append_lowest.ensures.extents ∙ ap length c.as_mut_slice.ensures.value) in
+    let written = all_written c.self.inside.owners.items c.append_lowest.new.owners
+    (c.append_lowest.ensures.extents ∙ ap length c.as_mut_slice.ensures.value) in
     rw written (taken_is_map c.args.self.now c.append_lowest.new.owners c.args.volume c.args.n map c.requires.volume c.requires.free taken)
 
 pub of-self-inside-requires : goal.of-self-inside-requires
@@ -27,5 +28,6 @@ invariant_of-self c = record { map = taken_map (goal.at.invariant_of-self c).Aft
 
 pub returns : goal.returns
 returns c =
-    let written = all_written c.self.inside.owners.items c.append_lowest.new.owners (c.append_lowest.ensures.extents ∙ ap length c.as_mut_slice.ensures.value) in
+    let written = all_written c.self.inside.owners.items c.append_lowest.new.owners
+    (c.append_lowest.ensures.extents ∙ ap length c.as_mut_slice.ensures.value) in
     rw written (rw (c.as_mut_slice.ensures.value, c.self.view_is, c.count-first.ensures.number) at c.append_lowest.ensures)

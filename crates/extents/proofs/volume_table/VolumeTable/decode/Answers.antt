@@ -7,7 +7,8 @@ use Rattle.extents.proofs.Same.{same_table}
 use Rattle.extents.proofs.Sectors.{spelled_by, version_of_table, read_of_table, owners_of_table, read_of_version, read_is_spelled}
 use Rattle.extents.proofs.Versions.{table_length_most}
 use Rattle.extents.proofs.volume_table.VolumeTable.decode.Goals as goal
-use Rattle.extents.proofs.volume_table.VolumeTable.decode.Goals.{then-not-are_free_from-via-then-not-are_free_from, then-not-are_free_from-via-else-not-are_free_from+then-not-is_table}
+use Rattle.extents.proofs.volume_table.VolumeTable.decode.Goals.{then-not-are_free_from-via-then-not-are_free_from}
+use Rattle.extents.proofs.volume_table.VolumeTable.decode.Goals.{then-not-are_free_from-via-else-not-are_free_from+then-not-is_table}
 
 pub returns-in_err-version-clause-exact : goal.returns-in_err-version-clause-exact
 returns-in_err-version-clause-exact c = λ t is free. absurd (
@@ -20,7 +21,8 @@ returns-in_err-records-clause-exact c = λ t is free. absurd (
     let some_version : c.read_version.result ≡ Some t.version = version_of_table c.args.from.now t c.read_version.result c.read_version.ensures.exact is in
     let read_version : c.read_version.result ≡ Some c.in_ok-version.version = c.in_ok-version.was in
     let same_version : c.in_ok-version.version ≡ t.version = cc in
-    let some : c.read_records.result ≡ Some t.records = read_of_table c.args.from.now t c.in_ok-version.version c.read_records.result same_version c.read_records.ensures.exact is in
+    let some : c.read_records.result ≡ Some t.records =
+    read_of_table c.args.from.now t c.in_ok-version.version c.read_records.result same_version c.read_records.ensures.exact is in
     let none : c.read_records.result ≡ None = c.in_err-records.was in
     let no : ⊥ = cc in no)
 
@@ -29,7 +31,8 @@ returns-in_err-owners-clause-exact c = λ t is free. absurd (
     let some_version : c.read_version.result ≡ Some t.version = version_of_table c.args.from.now t c.read_version.result c.read_version.ensures.exact is in
     let read_version : c.read_version.result ≡ Some c.in_ok-version.version = c.in_ok-version.was in
     let same_version : c.in_ok-version.version ≡ t.version = cc in
-    let some : c.read_extents.result ≡ Some t.extents = owners_of_table c.args.from.now t c.in_ok-version.version c.read_extents.result same_version c.read_extents.ensures.exact is in
+    let some : c.read_extents.result ≡ Some t.extents =
+    owners_of_table c.args.from.now t c.in_ok-version.version c.read_extents.result same_version c.read_extents.ensures.exact is in
     let none : c.read_extents.result ≡ None = c.in_err-owners.was in
     let no : ⊥ = cc in no)
 
@@ -47,21 +50,27 @@ returns-then-not-are_free_from-clause-exact c = λ t is free. absurd (
     let some_version : c.read_version.result ≡ Some t.version = version_of_table c.args.from.now t c.read_version.result c.read_version.ensures.exact is in
     let read_version : c.read_version.result ≡ Some version = c.in_ok-version.was in
     let same_version : version ≡ t.version = cc in
-    let some_records : c.read_records.result ≡ Some t.records = read_of_table c.args.from.now t version c.read_records.result same_version c.read_records.ensures.exact is in
+    let some_records : c.read_records.result ≡ Some t.records =
+    read_of_table c.args.from.now t version c.read_records.result same_version c.read_records.ensures.exact is in
     let read_records : c.read_records.result ≡ Some records = c.in_ok-records.was in
     let same_records : t.records ≡ records = cc in
-    let some_owners : c.read_extents.result ≡ Some t.extents = owners_of_table c.args.from.now t version c.read_extents.result same_version c.read_extents.ensures.exact is in
+    let some_owners : c.read_extents.result ≡ Some t.extents =
+    owners_of_table c.args.from.now t version c.read_extents.result same_version c.read_extents.ensures.exact is in
     let read_owners : c.read_extents.result ≡ Some owners = c.in_ok-owners.was in
     let same_owners : t.extents ≡ owners = cc in
     elim c.then-not-are_free_from.branch [
       | then-not-are_free_from-via-then-not-are_free_from w ↦
-          let yes : c.are_free_from.result ≡ true = c.are_free_from.ensures.1 (subst (λ (xs : List (Option Owned)). AreFreeFrom xs c.args.extents) same_owners free) in
+          let yes : c.are_free_from.result ≡ true = c.are_free_from.ensures.1
+          (subst (λ (xs : List (Option Owned)). AreFreeFrom xs c.args.extents) same_owners free) in
           let other : c.are_free_from.result ≡ false = w.if-not-are_free_from.true in
           let no : ⊥ = cc in no
       | then-not-are_free_from-via-else-not-are_free_from+then-not-is_table w ↦
-          let with_version : ∥ IsVolumeTable version t.records t.extents ∥₁ = subst (λ (v : ℕ). ∥ IsVolumeTable v t.records t.extents ∥₁) (sym same_version) t.is_table in
-          let with_records : ∥ IsVolumeTable version records t.extents ∥₁ = subst (λ (xs : List (Option Record)). ∥ IsVolumeTable version xs t.extents ∥₁) same_records with_version in
-          let yes : w.is_table.result ≡ true = w.is_table.ensures.1 (subst (λ (xs : List (Option Owned)). ∥ IsVolumeTable version records xs ∥₁) same_owners with_records) in
+          let with_version : ∥ IsVolumeTable version t.records t.extents ∥₁ =
+          subst (λ (v : ℕ). ∥ IsVolumeTable v t.records t.extents ∥₁) (sym same_version) t.is_table in
+          let with_records : ∥ IsVolumeTable version records t.extents ∥₁ =
+          subst (λ (xs : List (Option Record)). ∥ IsVolumeTable version xs t.extents ∥₁) same_records with_version in
+          let yes : w.is_table.result ≡ true = w.is_table.ensures.1
+          (subst (λ (xs : List (Option Owned)). ∥ IsVolumeTable version records xs ∥₁) same_owners with_records) in
           let other : w.is_table.result ≡ false = w.if-not-is_table.true in
           let no : ⊥ = cc in no
     ])
@@ -70,7 +79,8 @@ pub returns-clause-some : goal.returns-clause-some
 returns-clause-some c =
     let version = c.in_ok-version.version in
     spelled_by version c.in_ok-records.records c.in_ok-owners.owners c.args.from.now c.in_ok-records.ensures.long c.in_ok-owners.ensures.long
-    (let most = table_length_most version in omega (arith, c.told-from)) (λ k within. c.read_version.ensures.sectors k (let most = table_length_most version in omega arith)) c.in_ok-version.ensures.some.1
+    (let most = table_length_most version in omega (arith, c.told-from))
+    (λ k within. c.read_version.ensures.sectors k (let most = table_length_most version in omega arith)) c.in_ok-version.ensures.some.1
     (read_is_spelled version c.args.from.now c.in_ok-records.records c.in_ok-records.ensures.some) c.in_ok-owners.ensures.some
 
 pub returns-clause-exact : goal.returns-clause-exact
@@ -79,10 +89,12 @@ returns-clause-exact c = λ t is free.
     let some_version : c.read_version.result ≡ Some t.version = version_of_table c.args.from.now t c.read_version.result c.read_version.ensures.exact is in
     let read_version : c.read_version.result ≡ Some version = c.in_ok-version.was in
     let same_version : version ≡ t.version = cc in
-    let some_records : c.read_records.result ≡ Some t.records = read_of_table c.args.from.now t version c.read_records.result same_version c.read_records.ensures.exact is in
+    let some_records : c.read_records.result ≡ Some t.records =
+    read_of_table c.args.from.now t version c.read_records.result same_version c.read_records.ensures.exact is in
     let read_records : c.read_records.result ≡ Some c.in_ok-records.records = c.in_ok-records.was in
     let same_records : c.in_ok-records.records ≡ t.records = cc in
-    let some_owners : c.read_extents.result ≡ Some t.extents = owners_of_table c.args.from.now t version c.read_extents.result same_version c.read_extents.ensures.exact is in
+    let some_owners : c.read_extents.result ≡ Some t.extents =
+    owners_of_table c.args.from.now t version c.read_extents.result same_version c.read_extents.ensures.exact is in
     let read_owners : c.read_extents.result ≡ Some c.in_ok-owners.owners = c.in_ok-owners.was in
     let same_owners : c.in_ok-owners.owners ≡ t.extents = cc in
     ap (λ (one : _). Some one) (same_table _ t same_version same_records same_owners)

@@ -28,4 +28,6 @@ returns-clause-spelled c =
     let table = c.args.self.now in
     let items = c.loop-number.sector-items in
     take_at items _ (table_length table.version) c.loop-number.invariant.long
-    ∙ spelling_is table.version table.records table.extents items c.loop-number.invariant.long (λ k within. c.loop-number.invariant.done k (omega (arith, within, c.loop-number-test.false, c.table_length-length.ensures, c.loop-number.auto.number-end, c.loop-number.invariant.long)))
+    ∙ spelling_is table.version table.records table.extents items c.loop-number.invariant.long
+    (λ k within. c.loop-number.invariant.done k (omega
+    (arith, within, c.loop-number-test.false, c.table_length-length.ensures, c.loop-number.auto.number-end, c.loop-number.invariant.long)))

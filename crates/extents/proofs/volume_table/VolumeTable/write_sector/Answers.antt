@@ -31,17 +31,21 @@ few : (number beyond : ℕ) (version : ℕ) → number < table_length version �
 few number beyond version within is = let all = table_length_is version in omega arith
 
 pub overflow_mul-first-else-number-beyond : goal.overflow_mul-first-else-number-beyond
-overflow_mul-first-else-number-beyond c = let small = few c.args.number (1 + c.record_sectors-beyond.result) c.args.self.now.version c.requires (ap (λ (n : ℕ). 1 + n) c.record_sectors-beyond.ensures.number) in omega arith
+overflow_mul-first-else-number-beyond c = let small = few c.args.number (1 + c.record_sectors-beyond.result) c.args.self.now.version c.requires
+    (ap (λ (n : ℕ). 1 + n) c.record_sectors-beyond.ensures.number) in omega arith
 
 pub overflow_add-first-else-number-beyond : goal.overflow_add-first-else-number-beyond
-overflow_add-first-else-number-beyond c = let small = few c.args.number (1 + c.record_sectors-beyond.result) c.args.self.now.version c.requires (ap (λ (n : ℕ). 1 + n) c.record_sectors-beyond.ensures.number) in omega arith
+overflow_add-first-else-number-beyond c = let small = few c.args.number (1 + c.record_sectors-beyond.result) c.args.self.now.version c.requires
+    (ap (λ (n : ℕ). 1 + n) c.record_sectors-beyond.ensures.number) in omega arith
 
 pub offset_bounds-extents-first : goal.offset_bounds-extents-first
-offset_bounds-extents-first c = let small = few c.args.number (1 + c.record_sectors-beyond.result) c.args.self.now.version c.requires (ap (λ (n : ℕ). 1 + n) c.record_sectors-beyond.ensures.number) in omega arith
+offset_bounds-extents-first c = let small = few c.args.number (1 + c.record_sectors-beyond.result) c.args.self.now.version c.requires
+    (ap (λ (n : ℕ). 1 + n) c.record_sectors-beyond.ensures.number) in omega arith
 
 pub slice_bounds-write_owners-end : goal.slice_bounds-write_owners-end
 slice_bounds-write_owners-end c =
-    let small = few c.args.number (1 + c.record_sectors-beyond.result) c.args.self.now.version c.requires (ap (λ (n : ℕ). 1 + n) c.record_sectors-beyond.ensures.number) in
+    let small = few c.args.number (1 + c.record_sectors-beyond.result) c.args.self.now.version c.requires
+    (ap (λ (n : ℕ). 1 + n) c.record_sectors-beyond.ensures.number) in
     let all = table_all_extents c.args.self.now.records c.args.self.now.extents c.args.self.now.is_table in
     omega arith
 
@@ -50,7 +54,8 @@ returns-then-number-beyond c =
     let table = c.args.self.now in
     let some : 0 < c.args.number = let other = c.if-number-eq0.false in omega arith in
     let before : c.args.number < 1 + record_sectors table.version = omega (arith, c.if-number-beyond.true, c.record_sectors-beyond.ensures.number) in
-    wrote_records table.version table.records table.extents c.args.number c.records_a_sector-each.result c.write_records.new.to some before c.records_a_sector-each.ensures.number c.write_records.ensures
+    wrote_records table.version table.records table.extents c.args.number c.records_a_sector-each.result c.write_records.new.to some before
+    c.records_a_sector-each.ensures.number c.write_records.ensures
 
 pub returns-else-number-beyond : goal.returns-else-number-beyond
 returns-else-number-beyond c =

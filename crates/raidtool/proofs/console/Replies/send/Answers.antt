@@ -6,7 +6,8 @@ use Rattle.raidtool.proofs.console.Replies.send.Goals as goal
 
 pub returns-clause-sent : goal.returns-clause-sent
 returns-clause-sent g c =
-    both_ok c.send.result (λ sent whole. record { old = c.deref_mut.result.now; new = c.send.new.self; sent = sent; whole = whole }) c.send.ensures.sent c.send.ensures.left
+    both_ok c.send.result (λ sent whole. record { old = c.deref_mut.result.now; new = c.send.new.self; sent = sent; whole = whole }) c.send.ensures.sent
+    c.send.ensures.left
 
 pub returns-clause-stopped : goal.returns-clause-stopped
 returns-clause-stopped g c = err_or_other (λ error. error_kind error ≡ Other) c.send.result (λ broken. record {

@@ -44,7 +44,8 @@ returns-in_err-clear_sectors-clause-slot g c = λ _. rw (err_from_is_err_and c.f
 pub returns-in_err-clear_sectors-clause-err : goal.returns-in_err-clear_sectors-clause-err
 returns-in_err-clear_sectors-clause-err g c =
     let p = err_from_is_err_and c.from_residual.result c.from_residual.ensures.1 in
-    rw (p.1, p.2) (stop_in (c.args.geometry.now.members + 2) c.args.slot (g.B.Bank.panel c.clear_sectors.new.bank) _ c.requires.of_set c.in_err-clear_sectors.ensures.err)
+    rw (p.1, p.2) (stop_in (c.args.geometry.now.members + 2) c.args.slot (g.B.Bank.panel c.clear_sectors.new.bank) _ c.requires.of_set
+    c.in_err-clear_sectors.ensures.err)
 
 pub clear_sectors-requires-then-slot-geometry-clause-device : goal.clear_sectors-requires-then-slot-geometry-clause-device
 clear_sectors-requires-then-slot-geometry-clause-device g c =
@@ -79,7 +80,8 @@ returns-in_ok-clear_sectors-clause-honest g c = (
 pub returns-in_ok-clear_sectors-clause-err : goal.returns-in_ok-clear_sectors-clause-err
 returns-in_ok-clear_sectors-clause-err g c =
     let second = c.clear_sectors-then-slot-geometry in
-    IfErr-weaker second.result _ _ (λ stop why. stop_in (c.args.geometry.now.members + 2) c.args.slot (g.B.Bank.panel second.new.bank) stop c.requires.of_set why) second.ensures.err
+    IfErr-weaker second.result _ _ (λ stop why. stop_in (c.args.geometry.now.members + 2) c.args.slot (g.B.Bank.panel second.new.bank) stop c.requires.of_set
+    why) second.ensures.err
 
 pub returns-else-slot-geometry-clause-panel : goal.returns-else-slot-geometry-clause-panel
 returns-else-slot-geometry-clause-panel g c = c.clear_sectors-else-slot-geometry.ensures.panel
@@ -90,10 +92,12 @@ returns-else-slot-geometry-clause-honest g c = c.clear_sectors-else-slot-geometr
 pub returns-else-slot-geometry-clause-err : goal.returns-else-slot-geometry-clause-err
 returns-else-slot-geometry-clause-err g c =
     let only = c.clear_sectors-else-slot-geometry in
-    IfErr-weaker only.result _ _ (λ stop why. stop_in (c.args.geometry.now.members + 2) c.args.slot (g.B.Bank.panel only.new.bank) stop c.requires.of_set why) only.ensures.err
+    IfErr-weaker only.result _ _ (λ stop why. stop_in (c.args.geometry.now.members + 2) c.args.slot (g.B.Bank.panel only.new.bank) stop c.requires.of_set why)
+    only.ensures.err
 
 pub returns-else-slot-geometry-clause-cleared : goal.returns-else-slot-geometry-clause-cleared
-returns-else-slot-geometry-clause-cleared g c = λ honest. c.clear_sectors-else-slot-geometry.ensures.cleared honest (c.args.geometry.now.members + 2) c.requires.of_set
+returns-else-slot-geometry-clause-cleared g c = λ honest. c.clear_sectors-else-slot-geometry.ensures.cleared honest (c.args.geometry.now.members + 2)
+    c.requires.of_set
 
 pub overflow_cast-end : goal.overflow_cast-end
 overflow_cast-end g c = omega (arith, c.rows.ensures, rows_most c.args.geometry.now.limits)

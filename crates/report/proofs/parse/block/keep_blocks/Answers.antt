@@ -29,7 +29,8 @@ fields-preserved c =
     let step = c.in-Some.ensures.steps in
     let h = c.fields.invariant in
     let is = c.in_ok-read_block-2.ensures.said in
-    KeptSoFar-past all c.in-Some.field.now (fields_left c.next.new.self) c.fields.kept c.fields.to c.read_block-else-kept-lt-KEPT_BLOCKS.new.to (rw step at h) (omega arith) is
+    KeptSoFar-past all c.in-Some.field.now (fields_left c.next.new.self) c.fields.kept c.fields.to c.read_block-else-kept-lt-KEPT_BLOCKS.new.to (rw step at h)
+    (omega arith) is
 
 pub returns-in_err-read_block-2-clause-unsaid : goal.returns-in_err-read_block-2-clause-unsaid
 returns-in_err-read_block-2-clause-unsaid c = λ _.

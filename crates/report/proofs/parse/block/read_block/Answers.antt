@@ -25,5 +25,6 @@ pub returns-clause-unsaid : goal.returns-clause-unsaid
 returns-clause-unsaid c = λ none.
     let field = c.args.field.now in
     let other = strip_suffix_is Decides-eqb field ending None c.in_default.ensures.cases in
-    let refused = not_decoded (decode_sized field 512) c.decode_to_slice.result c.decode_to_slice.new.out (rw c.told-to at c.decode_to_slice.ensures.value) (sym c.ok-2.ensures.value ∙ none) in
+    let refused = not_decoded (decode_sized field 512) c.decode_to_slice.result c.decode_to_slice.new.out (rw c.told-to at c.decode_to_slice.ensures.value)
+    (sym c.ok-2.ensures.value ∙ none) in
     not_digits field other refused

@@ -7,7 +7,8 @@ pub returns-in-Some : goal.returns-in-Some
 returns-in-Some c =
     let text = c.args.text.now in
     let after = c.in-Some.space + 1 in
-    let whole : take (length text - after) (drop after text) ≡ drop after text = take_all (length text - after) (drop after text) (omega (arith, length-drop after text)) in
+    let whole : take (length text - after) (drop after text) ≡ drop after text =
+    take_all (length text - after) (drop after text) (omega (arith, length-drop after text)) in
     rw whole (fields_of-found text c.in-Some.space (sym c.in-Some.ensures))
 
 pub returns-in-None : goal.returns-in-None

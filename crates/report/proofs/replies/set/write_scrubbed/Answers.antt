@@ -10,9 +10,11 @@ use Rattle.report.proofs.replies.set.write_scrubbed.Goals as goal
 pub returns-clause-ok : goal.returns-clause-ok
 returns-clause-ok g c =
     let is : c.as_slice.result.now ≡ scrub_line (report_of c.args.report.now) = search (rules, append_assoc) in
-    subst (λ (text : List ℕ). OnOk c.write_text.result (Appends (g.W.Write.contents c.args.writer.now) (g.W.Write.contents c.write_text.new.writer) text)) is c.write_text.ensures.ok
+    subst (λ (text : List ℕ). OnOk c.write_text.result (Appends (g.W.Write.contents c.args.writer.now) (g.W.Write.contents c.write_text.new.writer) text)) is
+    c.write_text.ensures.ok
 
 pub returns-clause-part : goal.returns-clause-part
 returns-clause-part g c =
     let is : c.as_slice.result.now ≡ scrub_line (report_of c.args.report.now) = search (rules, append_assoc) in
-    subst (λ (text : List ℕ). OnErr c.write_text.result (AppendsPart (g.W.Write.contents c.args.writer.now) (g.W.Write.contents c.write_text.new.writer) text)) is c.write_text.ensures.part
+    subst (λ (text : List ℕ). OnErr c.write_text.result (AppendsPart (g.W.Write.contents c.args.writer.now) (g.W.Write.contents c.write_text.new.writer) text))
+    is c.write_text.ensures.part

@@ -33,7 +33,8 @@ loop-sector-init c = record { size = c.new-bytes.ensures.len; holds = holds_none
 pub loop-sector-preserved : goal.loop-sector-preserved
 loop-sector-preserved c = record {
   size = size_more _ c.in_ok-extend_from_slice.ensures.len c.loop-sector.invariant.size (c.told-disk c.loop-sector.sector-index c.loop-sector-test.true);
-  holds = holds_more c.loop-sector.bytes.items c.extend_from_slice.new.self.items c.args.disk.now c.loop-sector.sector-index c.in_ok-extend_from_slice.ensures.items
+  holds = holds_more c.loop-sector.bytes.items c.extend_from_slice.new.self.items c.args.disk.now c.loop-sector.sector-index
+      c.in_ok-extend_from_slice.ensures.items
       (sym c.loop-sector.bytes.ok.0 ∙ c.loop-sector.invariant.size) c.loop-sector-test.true c.loop-sector.invariant.holds;
 }
 

@@ -18,9 +18,11 @@ invariant_of-self-clause-replayed c =
     let within : c.args.slot < vec_len m.down = c.requires.slot in
     let fewer = ups_fall m.down.items c.args.slot (omega (arith, m.down.ok.0, within)) c.requires.up in
     let room : vec_len m.log < vec_capacity m.log = omega (arith, fewer, m.space) in
-    let pushed : c.push.new.self.items ≡ m.log.items ++ record { call = m.calls; event = c.args.event } ∷ [] = grind (arith, common_steps, c.push.ensures.succeeds room) in
+    let pushed : c.push.new.self.items ≡ m.log.items ++ record { call = m.calls; event = c.args.event } ∷ [] =
+    grind (arith, common_steps, c.push.ensures.succeeds room) in
     subst (λ (log : List Entry). IsReplayed m.start.items log (m.calls + 1) m.disks.items (slice_set m.down.items c.args.slot true)) (sym pushed)
-    (replayed_failure m.start.items m.log.items m.calls m.disks.items m.down.items c.args.slot c.args.event m.replayed (omega (arith, m.down.ok.0, within)) c.requires.fault)
+    (replayed_failure m.start.items m.log.items m.calls m.disks.items m.down.items c.args.slot c.args.event m.replayed (omega (arith, m.down.ok.0, within))
+    c.requires.fault)
 
 pub returns-clause-run : goal.returns-clause-run
 returns-clause-run c =
@@ -28,8 +30,10 @@ returns-clause-run c =
     let within : c.args.slot < vec_len m.down = c.requires.slot in
     let fewer = ups_fall m.down.items c.args.slot (omega (arith, m.down.ok.0, within)) c.requires.up in
     let room : vec_len m.log < vec_capacity m.log = omega (arith, fewer, m.space) in
-    let pushed : c.push.new.self.items ≡ m.log.items ++ record { call = m.calls; event = c.args.event } ∷ [] = grind (arith, common_steps, c.push.ensures.succeeds room) in
-    ap (λ (log : List Entry). run_of (slots_of m.start.items) log (m.calls + 1)) pushed ∙ run-entry (slots_of m.start.items) m.log.items m.calls c.args.event m.replayed.early
+    let pushed : c.push.new.self.items ≡ m.log.items ++ record { call = m.calls; event = c.args.event } ∷ [] =
+    grind (arith, common_steps, c.push.ensures.succeeds room) in
+    ap (λ (log : List Entry). run_of (slots_of m.start.items) log (m.calls + 1)) pushed
+    ∙ run-entry (slots_of m.start.items) m.log.items m.calls c.args.event m.replayed.early
 
 pub invariant_of-self-clause-in_order : goal.invariant_of-self-clause-in_order
 invariant_of-self-clause-in_order c =
@@ -37,7 +41,8 @@ invariant_of-self-clause-in_order c =
     let within : c.args.slot < vec_len m.down = c.requires.slot in
     let fewer = ups_fall m.down.items c.args.slot (omega (arith, m.down.ok.0, within)) c.requires.up in
     let room : vec_len m.log < vec_capacity m.log = omega (arith, fewer, m.space) in
-    let pushed : c.push.new.self.items ≡ m.log.items ++ record { call = m.calls; event = c.args.event } ∷ [] = grind (arith, common_steps, c.push.ensures.succeeds room) in
+    let pushed : c.push.new.self.items ≡ m.log.items ++ record { call = m.calls; event = c.args.event } ∷ [] =
+    grind (arith, common_steps, c.push.ensures.succeeds room) in
     subst IsInOrder (sym pushed) (order_entry m.calls m.log.items c.args.event m.in_order m.replayed.early)
 
 pub returns-clause-calls : goal.returns-clause-calls

@@ -6,7 +6,18 @@ use Rattle.sector_model.proofs.memory.MemBank.new.Goals as goal
 
 pub invariant_of-result-clause-space : goal.invariant_of-result-clause-space
 invariant_of-result-clause-space c =
-    omega (arith, ups_least c.in_ok-down.down.items, c.in_ok-down.down.ok.0, c.in_ok-down.ensures.len, ap length c.deref-2.ensures.value, c.args.image.slots.ok.0, c.requires.most, c.in_ok-log.ensures.len, c.in_ok-log.ensures.capacity, c.saturating_add-most.ensures)
+    omega (
+      arith,
+      ups_least c.in_ok-down.down.items,
+      c.in_ok-down.down.ok.0,
+      c.in_ok-down.ensures.len,
+      ap length c.deref-2.ensures.value,
+      c.args.image.slots.ok.0,
+      c.requires.most,
+      c.in_ok-log.ensures.len,
+      c.in_ok-log.ensures.capacity,
+      c.saturating_add-most.ensures,
+    )
 
 pub invariant_of-result-clause-replayed : goal.invariant_of-result-clause-replayed
 invariant_of-result-clause-replayed c =

@@ -27,17 +27,22 @@ invariant_of-self-clause-replayed c =
     let device : c.args.dev < vec_len m.down = c.requires.slot in
     let within : c.args.dev < vec_len m.disks = omega (arith, device, m.whole) in
     let room : vec_len m.log < vec_capacity m.log = omega (arith, c.requires.room, m.space) in
-    let pushed : c.push.new.self.items ≡ m.log.items ++ record { call = m.calls; event = Wrote c.args.dev c.args.at c.args.value.now } ∷ [] = grind (arith, common_steps, c.push.ensures.succeeds room) in
+    let pushed : c.push.new.self.items ≡ m.log.items ++ record { call = m.calls; event = Wrote c.args.dev c.args.at c.args.value.now } ∷ [] =
+    grind (arith, common_steps, c.push.ensures.succeeds room) in
     let here = contents_at m.disks.items c.args.dev c.index_mut.result.now (omega (arith, m.disks.ok.0, within)) c.index_mut.ensures.value in
     rw pushed
-    (replayed_write m.start.items m.log.items m.calls m.disks.items m.down.items c.args.dev c.args.at c.args.value.now (with_item c.index_mut.result.now c.args.at c.args.value.now) m.replayed (omega (arith, m.disks.ok.0, within)) (ap (λ (l : List Bytes). slice_set l c.args.at c.args.value.now) (sym here)) c.told-value)
+    (replayed_write m.start.items m.log.items m.calls m.disks.items m.down.items c.args.dev c.args.at c.args.value.now
+    (with_item c.index_mut.result.now c.args.at c.args.value.now) m.replayed (omega (arith, m.disks.ok.0, within))
+    (ap (λ (l : List Bytes). slice_set l c.args.at c.args.value.now) (sym here)) c.told-value)
 
 pub returns-clause-run : goal.returns-clause-run
 returns-clause-run c =
     let m = c.args.self.now in
     let room : vec_len m.log < vec_capacity m.log = omega (arith, c.requires.room, m.space) in
-    let pushed : c.push.new.self.items ≡ m.log.items ++ record { call = m.calls; event = Wrote c.args.dev c.args.at c.args.value.now } ∷ [] = grind (arith, common_steps, c.push.ensures.succeeds room) in
-    ap (λ (log : List Entry). run_of (slots_of m.start.items) log (m.calls + 1)) pushed ∙ run-entry (slots_of m.start.items) m.log.items m.calls (Wrote c.args.dev c.args.at c.args.value.now) m.replayed.early
+    let pushed : c.push.new.self.items ≡ m.log.items ++ record { call = m.calls; event = Wrote c.args.dev c.args.at c.args.value.now } ∷ [] =
+    grind (arith, common_steps, c.push.ensures.succeeds room) in
+    ap (λ (log : List Entry). run_of (slots_of m.start.items) log (m.calls + 1)) pushed
+    ∙ run-entry (slots_of m.start.items) m.log.items m.calls (Wrote c.args.dev c.args.at c.args.value.now) m.replayed.early
 
 pub returns-clause-sizes : goal.returns-clause-sizes
 returns-clause-sizes c =
@@ -45,13 +50,15 @@ returns-clause-sizes c =
     let device : c.args.dev < vec_len m.down = c.requires.slot in
     let within : c.args.dev < vec_len m.disks = omega (arith, device, m.whole) in
     let here = contents_at m.disks.items c.args.dev c.index_mut.result.now (omega (arith, m.disks.ok.0, within)) c.index_mut.ensures.value in
-    sizes-write m.disks.items c.args.dev c.args.at c.args.value.now (with_item c.index_mut.result.now c.args.at c.args.value.now) (omega (arith, m.disks.ok.0, within)) (ap (λ (l : List Bytes). slice_set l c.args.at c.args.value.now) (sym here))
+    sizes-write m.disks.items c.args.dev c.args.at c.args.value.now (with_item c.index_mut.result.now c.args.at c.args.value.now)
+    (omega (arith, m.disks.ok.0, within)) (ap (λ (l : List Bytes). slice_set l c.args.at c.args.value.now) (sym here))
 
 pub invariant_of-self-clause-in_order : goal.invariant_of-self-clause-in_order
 invariant_of-self-clause-in_order c =
     let m = c.args.self.now in
     let room : vec_len m.log < vec_capacity m.log = omega (arith, c.requires.room, m.space) in
-    let pushed : c.push.new.self.items ≡ m.log.items ++ record { call = m.calls; event = Wrote c.args.dev c.args.at c.args.value.now } ∷ [] = grind (arith, common_steps, c.push.ensures.succeeds room) in
+    let pushed : c.push.new.self.items ≡ m.log.items ++ record { call = m.calls; event = Wrote c.args.dev c.args.at c.args.value.now } ∷ [] =
+    grind (arith, common_steps, c.push.ensures.succeeds room) in
     subst IsInOrder (sym pushed) (order_entry m.calls m.log.items (Wrote c.args.dev c.args.at c.args.value.now) m.in_order m.replayed.early)
 
 pub returns-clause-calls : goal.returns-clause-calls

@@ -15,7 +15,8 @@ pub invariant_of-self-clause-replayed : goal.invariant_of-self-clause-replayed
 invariant_of-self-clause-replayed c =
     let m = c.args.self.now in
     let room : vec_len m.log < vec_capacity m.log = omega (arith, c.requires.room, m.space) in
-    let pushed : c.push.new.self.items ≡ m.log.items ++ record { call = m.calls; event = Flushed c.args.dev } ∷ [] = grind (arith, common_steps, c.push.ensures.succeeds room) in
+    let pushed : c.push.new.self.items ≡ m.log.items ++ record { call = m.calls; event = Flushed c.args.dev } ∷ [] =
+    grind (arith, common_steps, c.push.ensures.succeeds room) in
     subst (λ (log : List Entry). IsReplayed m.start.items log (m.calls + 1) m.disks.items m.down.items) (sym pushed)
     (replayed_flush m.start.items m.log.items m.calls m.disks.items m.down.items c.args.dev m.replayed)
 
@@ -23,14 +24,17 @@ pub returns-clause-run : goal.returns-clause-run
 returns-clause-run c =
     let m = c.args.self.now in
     let room : vec_len m.log < vec_capacity m.log = omega (arith, c.requires.room, m.space) in
-    let pushed : c.push.new.self.items ≡ m.log.items ++ record { call = m.calls; event = Flushed c.args.dev } ∷ [] = grind (arith, common_steps, c.push.ensures.succeeds room) in
-    ap (λ (log : List Entry). run_of (slots_of m.start.items) log (m.calls + 1)) pushed ∙ run-entry (slots_of m.start.items) m.log.items m.calls (Flushed c.args.dev) m.replayed.early
+    let pushed : c.push.new.self.items ≡ m.log.items ++ record { call = m.calls; event = Flushed c.args.dev } ∷ [] =
+    grind (arith, common_steps, c.push.ensures.succeeds room) in
+    ap (λ (log : List Entry). run_of (slots_of m.start.items) log (m.calls + 1)) pushed
+    ∙ run-entry (slots_of m.start.items) m.log.items m.calls (Flushed c.args.dev) m.replayed.early
 
 pub invariant_of-self-clause-in_order : goal.invariant_of-self-clause-in_order
 invariant_of-self-clause-in_order c =
     let m = c.args.self.now in
     let room : vec_len m.log < vec_capacity m.log = omega (arith, c.requires.room, m.space) in
-    let pushed : c.push.new.self.items ≡ m.log.items ++ record { call = m.calls; event = Flushed c.args.dev } ∷ [] = grind (arith, common_steps, c.push.ensures.succeeds room) in
+    let pushed : c.push.new.self.items ≡ m.log.items ++ record { call = m.calls; event = Flushed c.args.dev } ∷ [] =
+    grind (arith, common_steps, c.push.ensures.succeeds room) in
     subst IsInOrder (sym pushed) (order_entry m.calls m.log.items (Flushed c.args.dev) m.in_order m.replayed.early)
 
 pub returns-clause-calls : goal.returns-clause-calls

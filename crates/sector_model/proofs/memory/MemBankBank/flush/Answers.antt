@@ -4,7 +4,8 @@ use Rattle.sector_model.specs.declared.event.Event.TheVariants.{DeviceFailed}
 use Rattle.sector_model.specs.History.{After}
 use Rattle.sector_model.specs.Memory.{contents_of, run_of, slots_of}
 use Rattle.sector_model.specs.Plans.{fails_at}
-use Rattle.sector_model.proofs.MemPanels.{HasData, has_data, read_down, after_down, after_failure, after_answer, run_down, run_failure, cause_down, cause_up, some_fault, no_fault}
+use Rattle.sector_model.proofs.MemPanels.{HasData, has_data, read_down, after_down, after_failure, after_answer, run_down, run_failure, cause_down, cause_up}
+use Rattle.sector_model.proofs.MemPanels.{some_fault, no_fault}
 use Rattle.sector_model.proofs.memory.MemBankBank.flush.Goals as goal
 use Rattle.sector_model.proofs.memory.MemBankBank.flush.Goals.{then-self-eq0-via-then-self-eq0, then-self-eq0-via-else-self-eq0+then-fails}
 
@@ -27,7 +28,8 @@ returns-then-self-eq0 c =
     let m = c.args.self.now in
     let up = read_down m.down c.args.dev c.index.result.now false c.requires.call.device c.index.ensures c.if-index.false in
     let fails = fails_at m.plan c.args.dev m.calls in
-    let same : HasData c.then-self-eq0.self m.disks m.down m.calls m.room m.plan (run_of (slots_of m.start.items) m.log.items m.calls) = elim c.then-self-eq0.branch [
+    let same : HasData c.then-self-eq0.self m.disks m.down m.calls m.room m.plan (run_of (slots_of m.start.items) m.log.items m.calls) =
+    elim c.then-self-eq0.branch [
       | then-self-eq0-via-then-self-eq0 w ↦ has_data w.self-is
       | then-self-eq0-via-else-self-eq0+then-fails w ↦ has_data w.self-is
     ] in
@@ -53,7 +55,8 @@ returns c =
     let up = read_down m.down c.args.dev c.index.result.now false c.requires.call.device c.index.ensures c.if-index.false in
     let done = c.settle.ensures in
     record {
-      panel = after_answer c.args.dev m.calls _ m.disks c.settle.new.self.disks up (λ d. ap (λ disks. length (contents_of disks.items d)) done.disks) done.down done.calls;
+      panel = after_answer c.args.dev m.calls _ m.disks c.settle.new.self.disks up (λ d. ap (λ disks. length (contents_of disks.items d)) done.disks) done.down
+          done.calls;
       honest = (λ h. h, λ h. h);
       history = λ _. done.run;
       cause = cause_up (m.room == 0 || fails_at m.plan c.args.dev m.calls) up (ap not (no_fault c.if-self-eq0.false (sym c.if-fails.ensures)));

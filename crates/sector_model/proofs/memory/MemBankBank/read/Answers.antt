@@ -42,7 +42,8 @@ pub returns-clause-panel : goal.returns-clause-panel
 returns-clause-panel c =
     let m = c.args.self.now in
     let up = read_down m.down c.args.dev c.index.result.now false c.requires.call.device c.index.ensures c.if-index.false in
-    after_answer c.args.dev m.calls _ m.disks c.pass-2.new.self.disks up (λ d. ap (λ disks. length (contents_of disks.items d)) c.pass-2.ensures.disks) c.pass-2.ensures.down c.pass-2.ensures.calls
+    after_answer c.args.dev m.calls _ m.disks c.pass-2.new.self.disks up (λ d. ap (λ disks. length (contents_of disks.items d)) c.pass-2.ensures.disks)
+    c.pass-2.ensures.down c.pass-2.ensures.calls
 
 pub returns-clause-history : goal.returns-clause-history
 returns-clause-history c = search rules
@@ -54,9 +55,11 @@ returns-clause-bytes c =
     let here = contents_at m.disks.items c.args.dev c.index-2.result.now (omega (arith, m.disks.ok.0, m.whole, device)) c.index-2.ensures in
     let is_up = read_down m.down c.args.dev c.index.result.now false c.requires.call.device c.index.ensures c.if-index.false in
     let within : c.args.at < length c.index-2.result.now.items = omega (arith, ap length here, c.requires.within is_up) in
-    λ _. c.index-3.ensures ∙ get_or_default c.index-2.result.now.items c.args.at _ _ within ∙ ap (λ (l : List Bytes). get_or l c.args.at []) (sym here ∙ m.replayed.seen c.args.dev)
+    λ _. c.index-3.ensures ∙ get_or_default c.index-2.result.now.items c.args.at _ _ within
+    ∙ ap (λ (l : List Bytes). get_or l c.args.at []) (sym here ∙ m.replayed.seen c.args.dev)
 
 pub returns-clause-cause : goal.returns-clause-cause
 returns-clause-cause c =
     let m = c.args.self.now in
-    cause_up (fails_at m.plan c.args.dev m.calls) (read_down m.down c.args.dev c.index.result.now false c.requires.call.device c.index.ensures c.if-index.false) (ap not c.if-fails.ensures)
+    cause_up (fails_at m.plan c.args.dev m.calls) (read_down m.down c.args.dev c.index.result.now false c.requires.call.device c.index.ensures c.if-index.false)
+    (ap not c.if-fails.ensures)

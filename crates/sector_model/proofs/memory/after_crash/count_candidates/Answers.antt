@@ -8,7 +8,8 @@ overflow_add-numbers c =
     let so_far = c.loop-entry.invariant a (omega arith) in
     let most = put_by_all-most c.args.log.now c.args.room c.args.dev a in
     let began : get_or c.args.numbers.now a 0 ≤ 1 = c.requires a (omega arith) in
-    let some = put_by_all-some c.args.log.now c.loop-entry.entry-index c.loop-entry.room c.args.dev a c.in-Some.field-0-1.now c.loop-entry-test.true (c.in-Some.ensures a) in
+    let some = put_by_all-some c.args.log.now c.loop-entry.entry-index c.loop-entry.room c.args.dev a c.in-Some.field-0-1.now c.loop-entry-test.true
+    (c.in-Some.ensures a) in
     omega arith
 
 pub loop-entry-init : goal.loop-entry-init

@@ -4,4 +4,5 @@ use Rattle.sector_model.proofs.memory.after_crash.count_candidates.Given as goal
 
 abbrev pub invariant-loop-entry : goal.invariant-loop-entry
 invariant-loop-entry l = (a : ℕ) → a < length l.initial.numbers
-    → get_or l.numbers a 0 + length (put_by_all (drop l.entry-index l.log) l.room l.dev a) ≡ get_or l.initial.numbers a 0 + length (put_by_all l.log l.initial.room l.dev a)
+    → get_or l.numbers a 0 + length (put_by_all (drop l.entry-index l.log) l.room l.dev a) ≡ get_or l.initial.numbers a 0 + length
+    (put_by_all l.log l.initial.room l.dev a)

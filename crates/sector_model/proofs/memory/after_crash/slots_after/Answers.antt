@@ -18,12 +18,15 @@ slots-push_last (first ∷ slots) slot zero is = absurd (omega arith)
 slots-push_last (first ∷ slots) slot (suc d) is = slots-push_last slots slot d (omega arith)
 
 -- one slot more
-slots_more : (P : ℕ → Option (List Bytes) → Option (List Bytes) → Type 0) (start slots new : List (Option Disk)) (slot chosen : Option Disk) (n : ℕ) → new ≡ slots ++ chosen ∷ [] → length slots ≡ n
-    → slots_of start n ≡ sectors_in slot → ((d : ℕ) → d < n → P d (slots_of start d) (slots_of slots d)) → P n (sectors_in slot) (sectors_in chosen) → (d : ℕ) → d < n + 1 → P d (slots_of start d) (slots_of new d)
+slots_more : (P : ℕ → Option (List Bytes) → Option (List Bytes) → Type 0) (start slots new : List (Option Disk)) (slot chosen : Option Disk) (n : ℕ)
+    → new ≡ slots ++ chosen ∷ [] → length slots ≡ n
+    → slots_of start n ≡ sectors_in slot → ((d : ℕ) → d < n → P d (slots_of start d) (slots_of slots d)) → P n (sectors_in slot) (sectors_in chosen) → (d : ℕ)
+    → d < n + 1 → P d (slots_of start d) (slots_of new d)
 slots_more P start slots new slot chosen n is len begun each last =
     let at = λ (d : ℕ). ap (λ (l : List (Option Disk)). slots_of l d) is in
     below_more _ _ (λ d lt. subst (P d (slots_of start d)) (sym (at d ∙ slots-push slots chosen d (omega (arith, len, lt)))) (each d lt))
-    (subst (λ (s : Option (List Bytes)). P n s (slots_of new n)) (sym begun) (subst (P n (sectors_in slot)) (sym (at n ∙ slots-push_last slots chosen n (sym len))) last))
+    (subst (λ (s : Option (List Bytes)). P n s (slots_of new n)) (sym begun)
+    (subst (P n (sectors_in slot)) (sym (at n ∙ slots-push_last slots chosen n (sym len))) last))
 
 pub loop-dev-init : goal.loop-dev-init
 loop-dev-init c = record { so_far = c.new-slots.ensures.len; each = λ d within. absurd (omega (arith, within)) }
@@ -36,8 +39,10 @@ loop-dev-preserved c =
     let begun = slots_at start slot l.dev c.loop-dev-test.true c.index-start-dev.is in
     record {
       so_far = omega (arith, c.in_ok-push.ensures.len, l.invariant.so_far);
-      each = slots_more (IsTaken c.args.choice c.args.room (run_on (Began (slots_of start)) c.args.log.now)) start l.slots.items c.push.new.self.items slot c.in_ok-slot_after.field-0 l.dev
-          c.in_ok-push.ensures.items (omega (arith, l.slots.ok.0, l.invariant.so_far)) begun l.invariant.each (c.in_ok-slot_after.ensures (slots_of start) begun);
+      each = slots_more (IsTaken c.args.choice c.args.room (run_on (Began (slots_of start)) c.args.log.now)) start l.slots.items c.push.new.self.items slot
+          c.in_ok-slot_after.field-0 l.dev
+          c.in_ok-push.ensures.items (omega (arith, l.slots.ok.0, l.invariant.so_far)) begun l.invariant.each
+          (c.in_ok-slot_after.ensures (slots_of start) begun);
     }
 
 pub returns-clause-len : goal.returns-clause-len

@@ -8,20 +8,24 @@ use Rattle.set_commands.proofs.serving.applying.apply_on.Goals as goal
 pub returns-in_err-reply-clause-end : goal.returns-in_err-reply-clause-end
 returns-in_err-reply-clause-end g c =
     let p = err_from_is_err_and c.from_residual-in_err-reply.result c.from_residual-in_err-reply.ensures.1 in
-    rw (p.1, p.2) (event_end _ _ c.in_ok-store.ensures.honest.0 _ _ _ _ c.in_ok-store.ensures.opened _ _ c.apply.ensures.applies _ c.in_err-reply.ensures.refused)
+    rw (p.1, p.2) (event_end _ _ c.in_ok-store.ensures.honest.0 _ _ _ _ c.in_ok-store.ensures.opened _ _ c.apply.ensures.applies _
+    c.in_err-reply.ensures.refused)
 
 pub returns-in_err-reply-clause-refused : goal.returns-in_err-reply-clause-refused
 returns-in_err-reply-clause-refused g c =
     let p = err_from_is_err_and c.from_residual-in_err-reply.result c.from_residual-in_err-reply.ensures.1 in
-    rw (p.1, p.2) (λ other. inr (refused_on _ _ c.in_ok-store.ensures.honest.0 _ _ _ _ c.in_ok-store.ensures.opened _ _ c.apply.ensures.applies _ c.in_err-reply.ensures.refused))
+    rw (p.1, p.2) (λ other. inr (refused_on _ _ c.in_ok-store.ensures.honest.0 _ _ _ _ c.in_ok-store.ensures.opened _ _ c.apply.ensures.applies _
+    c.in_err-reply.ensures.refused))
 
 pub returns-in_err-reply-clause-cut : goal.returns-in_err-reply-clause-cut
 returns-in_err-reply-clause-cut g c =
     let p = err_from_is_err_and c.from_residual-in_err-reply.result c.from_residual-in_err-reply.ensures.1 in
-    rw (p.1, p.2) (λ cut. absurd (event_uncut _ _ c.in_ok-store.ensures.honest.0 _ _ _ _ c.in_ok-store.ensures.opened _ _ c.apply.ensures.applies _ c.in_err-reply.ensures.refused cut))
+    rw (p.1, p.2) (λ cut. absurd (event_uncut _ _ c.in_ok-store.ensures.honest.0 _ _ _ _ c.in_ok-store.ensures.opened _ _ c.apply.ensures.applies _
+    c.in_err-reply.ensures.refused cut))
 
 pub returns-clause-applied : goal.returns-clause-applied
-returns-clause-applied g c = ok_then _ _ _ (λ written. applied_on _ _ c.in_ok-store.ensures.honest.0 _ _ _ _ c.in_ok-store.ensures.opened _ _ c.apply.ensures.applies
+returns-clause-applied g c = ok_then _ _ _ (λ written. applied_on _ _ c.in_ok-store.ensures.honest.0 _ _ _ _ c.in_ok-store.ensures.opened _ _
+    c.apply.ensures.applies
     _ _ _ c.in_ok-reply.ensures.same c.in_ok-reply.ensures.done c.rows.ensures written) c.write_event.ensures.ok
 
 pub returns-clause-refused : goal.returns-clause-refused

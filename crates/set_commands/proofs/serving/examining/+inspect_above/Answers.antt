@@ -1,12 +1,14 @@
 -- No id is above this one, or the set of the least of these is inspected, and then those above it.
 use Rattle.std.proofs.Common.{arith}
 use Rattle.std.proofs.lemmas.Result.{on_ok_weaker}
-use Rattle.set_commands.proofs.Inspected.{above_still, at_still, health_above_still, health_at_still, health_none_above, health_none_left, health_one_more, none_above, one_more, put_none, put_then}
+use Rattle.set_commands.proofs.Inspected.{above_still, at_still, health_above_still, health_at_still, health_none_above, health_none_left, health_one_more}
+use Rattle.set_commands.proofs.Inspected.{none_above, one_more, put_none, put_then}
 use Rattle.set_commands.proofs.serving.examining.+inspect_above.Goals as goal
 
 pub returns-in_default-clause-puts : goal.returns-in_default-clause-puts
 returns-in_default-clause-puts g t c =
-    put_none _ _ (none_above (g.B.Bank.honest c.args.bank.now) c.args.json c.args.most c.args.above _ _ (λ none. omega (arith, none, c.if-most-eq0.false)) (rw c.in_default.is at c.in_ok-id.ensures.finds))
+    put_none _ _ (none_above (g.B.Bank.honest c.args.bank.now) c.args.json c.args.most c.args.above _ _ (λ none. omega (arith, none, c.if-most-eq0.false))
+    (rw c.in_default.is at c.in_ok-id.ensures.finds))
 
 pub returns-clause-puts : goal.returns-clause-puts
 returns-clause-puts g t c =

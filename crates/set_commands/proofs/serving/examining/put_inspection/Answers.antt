@@ -10,6 +10,8 @@ returns-in_ok-push-clause-puts c =
     let line = c.deref.result.now in
     record {
       part = line ++ 10 ∷ [];
-      appended = c.in_ok-push.ensures.bytes ∙ ap (λ (bytes : List ℕ). bytes ++ 10 ∷ []) c.in_ok-push_str.ensures.bytes ∙ append_assoc (string_bytes c.args.text.now) line (10 ∷ []);
-      is = json_inspection c.args.examined.now c.args.json _ line c.if-json.true c.in_ok-examined_to_json.ensures.value (λ none. c.deref.ensures ∙ c.in_ok-line.ensures.text none);
+      appended = c.in_ok-push.ensures.bytes ∙ ap (λ (bytes : List ℕ). bytes ++ 10 ∷ []) c.in_ok-push_str.ensures.bytes
+          ∙ append_assoc (string_bytes c.args.text.now) line (10 ∷ []);
+      is = json_inspection c.args.examined.now c.args.json _ line c.if-json.true c.in_ok-examined_to_json.ensures.value
+          (λ none. c.deref.ensures ∙ c.in_ok-line.ensures.text none);
     }

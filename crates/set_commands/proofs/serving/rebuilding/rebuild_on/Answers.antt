@@ -5,10 +5,12 @@ use Rattle.set_commands.proofs.ServedSet.{ok_then, part_then, rebuild_end, rebui
 use Rattle.set_commands.proofs.serving.rebuilding.rebuild_on.Goals as goal
 
 pub returns-clause-rebuilt : goal.returns-clause-rebuilt
-returns-clause-rebuilt g c = ok_then _ _ _ (λ written. rebuilt_on _ _ c.in_ok-store.ensures.honest.0 _ _ _ _ c.in_ok-store.ensures.opened _ _ _ _ c.in_ok-progress.ensures.rebuilds c.rows.ensures written) c.write_progress.ensures.ok
+returns-clause-rebuilt g c = ok_then _ _ _ (λ written. rebuilt_on _ _ c.in_ok-store.ensures.honest.0 _ _ _ _ c.in_ok-store.ensures.opened _ _ _ _
+    c.in_ok-progress.ensures.rebuilds c.rows.ensures written) c.write_progress.ensures.ok
 
 pub returns-clause-cut : goal.returns-clause-cut
-returns-clause-cut g c = part_then _ _ _ (λ part. rebuilt_on _ _ c.in_ok-store.ensures.honest.0 _ _ _ _ c.in_ok-store.ensures.opened _ _ _ _ c.in_ok-progress.ensures.rebuilds c.rows.ensures part) c.write_progress.ensures.part
+returns-clause-cut g c = part_then _ _ _ (λ part. rebuilt_on _ _ c.in_ok-store.ensures.honest.0 _ _ _ _ c.in_ok-store.ensures.opened _ _ _ _
+    c.in_ok-progress.ensures.rebuilds c.rows.ensures part) c.write_progress.ensures.part
 
 pub returns-in_err-progress-clause-end : goal.returns-in_err-progress-clause-end
 returns-in_err-progress-clause-end g c =
@@ -18,15 +20,18 @@ returns-in_err-progress-clause-end g c =
 pub returns-in_err-progress-clause-refused : goal.returns-in_err-progress-clause-refused
 returns-in_err-progress-clause-refused g c =
     let p = err_from_is_err_and c.from_residual-in_err-progress.result c.from_residual-in_err-progress.ensures.1 in
-    rw (p.1, p.2) (λ other. inr (rebuild_stopped _ _ c.in_ok-store.ensures.honest.0 _ _ _ _ c.in_ok-store.ensures.opened _ _ c.in_err-progress.ensures.rebuilds))
+    rw (p.1, p.2) (λ other. inr (rebuild_stopped _ _ c.in_ok-store.ensures.honest.0 _ _ _ _ c.in_ok-store.ensures.opened _ _
+    c.in_err-progress.ensures.rebuilds))
 
 pub returns-in_err-progress-clause-cut : goal.returns-in_err-progress-clause-cut
 returns-in_err-progress-clause-cut g c =
     let p = err_from_is_err_and c.from_residual-in_err-progress.result c.from_residual-in_err-progress.ensures.1 in
-    rw (p.1, p.2) (λ cut. absurd (rebuild_uncut _ _ c.in_ok-store.ensures.honest.0 _ _ _ _ c.in_ok-store.ensures.opened _ _ c.in_err-progress.ensures.rebuilds cut))
+    rw (p.1, p.2) (λ cut. absurd (rebuild_uncut _ _ c.in_ok-store.ensures.honest.0 _ _ _ _ c.in_ok-store.ensures.opened _ _ c.in_err-progress.ensures.rebuilds
+    cut))
 
 pub returns-in_err-progress-clause-unwritten : goal.returns-in_err-progress-clause-unwritten
-returns-in_err-progress-clause-unwritten g c = rw (err_from_is_err_and c.from_residual-in_err-progress.result c.from_residual-in_err-progress.ensures.1).1 (λ other. refl)
+returns-in_err-progress-clause-unwritten g c = rw (err_from_is_err_and c.from_residual-in_err-progress.result c.from_residual-in_err-progress.ensures.1).1
+    (λ other. refl)
 
 pub returns-in_err-store-clause-unwritten : goal.returns-in_err-store-clause-unwritten
 returns-in_err-store-clause-unwritten g c = rw (err_from_is_err_and c.from_residual.result c.from_residual.ensures.1).1 (λ other. refl)

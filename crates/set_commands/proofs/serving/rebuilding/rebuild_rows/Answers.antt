@@ -37,7 +37,8 @@ pub returns-in_err-progress-clause-rebuilds : goal.returns-in_err-progress-claus
 returns-in_err-progress-clause-rebuilds g c =
     let p = err_from_is_err_and c.from_residual.result c.from_residual.ensures.1 in
     let was = c.loop.invariant in
-    rw (p.1, p.2) (ends_early _ _ c.args.steps _ _ was.before _ _ _ _ c.unwrap_or-most.ensures was.honest (omega (arith, was.counted, c.loop-test.true)) was.made
+    rw (p.1, p.2) (ends_early _ _ c.args.steps _ _ was.before _ _ _ _ c.unwrap_or-most.ensures was.honest (omega (arith, was.counted, c.loop-test.true))
+    was.made
     c.in_err-progress.ensures.rebuilds (none_refused _))
 
 pub returns-in-Complete-clause-honest : goal.returns-in-Complete-clause-honest
@@ -61,5 +62,6 @@ returns-clause-honest g c = (
 pub returns-clause-rebuilds : goal.returns-clause-rebuilds
 returns-clause-rebuilds g c =
     let was = c.loop.invariant in
-    ends_last _ _ c.args.steps _ _ was.before _ _ _ _ c.unwrap_or-most.ensures c.rows.ensures was.honest (omega (arith, was.counted, was.within, c.loop-test.false)) was.made
+    ends_last _ _ c.args.steps _ _ was.before _ _ _ _ c.unwrap_or-most.ensures c.rows.ensures was.honest
+    (omega (arith, was.counted, was.within, c.loop-test.false)) was.made
     c.rebuild_step-2.ensures.rebuilds

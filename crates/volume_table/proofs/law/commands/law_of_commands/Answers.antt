@@ -1,6 +1,8 @@
 use Rattle.volume_table.proofs.TableSizes.{same_map}
 use Rattle.volume_table.proofs.VolumeLemmas.{known_by_blocks}
-use Rattle.volume_table.proofs.StepLemmas.{step_keeps, others_stay, written_is_read, write_changes_its_blocks, created_is_zero, list_is_exact, found_is_listed, created_is_listed, extended_has_zeros, read_changes_nothing, refused_changes_nothing, removed_is_gone, renamed_has_blocks, renamed_is_listed, version_stays}
+use Rattle.volume_table.proofs.StepLemmas.{step_keeps, others_stay, written_is_read, write_changes_its_blocks, created_is_zero, list_is_exact, found_is_listed}
+use Rattle.volume_table.proofs.StepLemmas.{created_is_listed, extended_has_zeros, read_changes_nothing, refused_changes_nothing, removed_is_gone}
+use Rattle.volume_table.proofs.StepLemmas.{renamed_has_blocks, renamed_is_listed, version_stays}
 use Rattle.volume_table.proofs.law.commands.law_of_commands.Goals as goal
 
 pub returns-clause-limits : goal.returns-clause-limits

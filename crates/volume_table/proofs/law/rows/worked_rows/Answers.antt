@@ -1,4 +1,6 @@
-use Rattle.volume_table.proofs.WorkedRows.{extend_into_new_extent, extend_keeps_and_zeroes, fill_then_no_space, largest_volume, list_rises, long_names, names_at_the_limits, one_block_too_many, reads_at_the_limits, refused_commands, rename_script, reused_is_zero, sixty_four_volumes, thirty_two_blocks, thirty_two_volumes, write_out_of_range}
+use Rattle.volume_table.proofs.WorkedRows.{extend_into_new_extent, extend_keeps_and_zeroes, fill_then_no_space, largest_volume, list_rises, long_names}
+use Rattle.volume_table.proofs.WorkedRows.{names_at_the_limits, one_block_too_many, reads_at_the_limits, refused_commands, rename_script, reused_is_zero}
+use Rattle.volume_table.proofs.WorkedRows.{sixty_four_volumes, thirty_two_blocks, thirty_two_volumes, write_out_of_range}
 use Rattle.volume_table.proofs.law.rows.worked_rows.Goals as goal
 
 pub returns-clause-full : goal.returns-clause-full

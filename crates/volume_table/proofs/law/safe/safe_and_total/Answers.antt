@@ -1,4 +1,5 @@
-use Rattle.volume_table.proofs.SafeEvents.{ended_stores_answer_always, events_are_refused_for_cause, open_stores_go_on, opening_is_refused_for_cause, refusals_leave_volumes, runs_are_refused_for_cause}
+use Rattle.volume_table.proofs.SafeEvents.{ended_stores_answer_always, events_are_refused_for_cause, open_stores_go_on, opening_is_refused_for_cause}
+use Rattle.volume_table.proofs.SafeEvents.{refusals_leave_volumes, runs_are_refused_for_cause}
 use Rattle.volume_table.proofs.law.safe.safe_and_total.Goals as goal
 
 pub returns-clause-events : goal.returns-clause-events

@@ -1,4 +1,5 @@
-use Rattle.volume_table.proofs.SetLemmas.{tables_have_one_out, slots_stay, faults_are_missing, position_is_zero, volumes_leave_set, refused_leaves_set, rebuild_goes_on, rebuild_is_counted, rebuild_goes_on_among_others, rebuild_is_counted_among_others}
+use Rattle.volume_table.proofs.SetLemmas.{tables_have_one_out, slots_stay, faults_are_missing, position_is_zero, volumes_leave_set, refused_leaves_set}
+use Rattle.volume_table.proofs.SetLemmas.{rebuild_goes_on, rebuild_is_counted, rebuild_goes_on_among_others, rebuild_is_counted_among_others}
 use Rattle.volume_table.proofs.law.set.law_of_set_commands.Goals as goal
 
 pub returns-clause-slots : goal.returns-clause-slots

@@ -18,7 +18,8 @@ returns-then-would_lose-clause-fails g c =
     let was = c.args.self.now in
     let goes : was.ended ≡ None = c.in_default.is in
     let store : StoreView = store_view was in
-    fail_refused (g.B.Bank.honest was.array.bank) c.args.slot store WouldLose goes (λ e. e) (would_lose was.array.table c.args.slot (sym c.if-would_lose.ensures))
+    fail_refused (g.B.Bank.honest was.array.bank) c.args.slot store WouldLose goes (λ e. e)
+    (would_lose was.array.table c.args.slot (sym c.if-would_lose.ensures))
 
 pub returns-then-slot-self-clause-fails : goal.returns-then-slot-self-clause-fails
 returns-then-slot-self-clause-fails g c =
@@ -40,7 +41,8 @@ invariant_of-self g c =
       ),
       (
         subst (λ (s : Geometry). AreKept (extents_in s) was.table was.map)
-            (sym (marks_geometry (g.B.Bank.honest was.array.bank) c.args.slot (g.B.Bank.panel was.array.bank) (g.B.Bank.panel new.bank) was.array.table new.table
+            (sym (marks_geometry (g.B.Bank.honest was.array.bank) c.args.slot (g.B.Bank.panel was.array.bank) (g.B.Bank.panel new.bank) was.array.table
+            new.table
             (g.B.Bank.history was.array.bank) (g.B.Bank.history new.bank) c.mark_slot-answer.result c.mark_slot-answer.ensures.marks)) was.kept,
         tt,
       ),
@@ -56,10 +58,13 @@ returns-clause-fails g c =
     let old_store : StoreView = store_view was in
     let new_store : StoreView = store_of (view_of (g.B.Bank.panel new.bank) (g.B.Bank.history new.bank) new.table was.array.entry) left.table left.ended in
     rw (c.end.ensures.array, c.end.ensures.same)
-    (fail_marked (g.B.Bank.honest was.array.bank) c.args.slot old_store new_store c.mark_slot-answer.result goes c.end.ensures.table of_set (sym c.if-would_lose.ensures)
+    (fail_marked (g.B.Bank.honest was.array.bank) c.args.slot old_store new_store c.mark_slot-answer.result goes c.end.ensures.table of_set
+    (sym c.if-would_lose.ensures)
     c.end.ensures.done c.end.ensures.ended
-    (marks_missing spellings (g.B.Bank.honest was.array.bank) c.args.slot was.array.entry (g.B.Bank.panel was.array.bank) (g.B.Bank.panel new.bank) was.array.table new.table
-    (g.B.Bank.history was.array.bank) (g.B.Bank.history new.bank) c.mark_slot-answer.result of_set was.array.its_slots (λ fair. g.met.B.Bank.true_to _ fair) c.mark_slot-answer.ensures.marks)
+    (marks_missing spellings (g.B.Bank.honest was.array.bank) c.args.slot was.array.entry (g.B.Bank.panel was.array.bank) (g.B.Bank.panel new.bank)
+    was.array.table new.table
+    (g.B.Bank.history was.array.bank) (g.B.Bank.history new.bank) c.mark_slot-answer.result of_set was.array.its_slots (λ fair. g.met.B.Bank.true_to _ fair)
+    c.mark_slot-answer.ensures.marks)
     (marks_failed (g.B.Bank.honest was.array.bank) c.args.slot (g.B.Bank.panel was.array.bank) (g.B.Bank.panel new.bank) was.array.table new.table
     (g.B.Bank.history was.array.bank) (g.B.Bank.history new.bank) c.mark_slot-answer.result c.mark_slot-answer.ensures.marks of_set
     (λ fair. g.met.B.Bank.true_to _ (c.mark_slot-answer.ensures.honest.0 fair))))
@@ -83,7 +88,8 @@ pub mark_slot-answer-requires-clause-of_set : goal.mark_slot-answer-requires-cla
 mark_slot-answer-requires-clause-of_set g c = c.if-slot-self.false
 
 pub mark_slot-answer-requires-clause-others : goal.mark_slot-answer-requires-clause-others
-mark_slot-answer-requires-clause-others g c = but_one c.args.slot c.args.self.now.array.table (g.B.Bank.panel c.args.self.now.array.bank) c.args.self.now.array.its_slots
+mark_slot-answer-requires-clause-others g c = but_one c.args.slot c.args.self.now.array.table (g.B.Bank.panel c.args.self.now.array.bank)
+    c.args.self.now.array.its_slots
 
 pub returns-clause-honest : goal.returns-clause-honest
 returns-clause-honest g c = rw c.end.ensures.array c.mark_slot-answer.ensures.honest

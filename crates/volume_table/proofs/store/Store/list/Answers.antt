@@ -17,7 +17,8 @@ pub returns-clause-lists : goal.returns-clause-lists
 returns-clause-lists g c =
     let its = c.args.self.now in
     let store = store_view its in
-    list_applies (g.B.Bank.honest its.array.bank) store c.in_ok-volumes_of.field-0.items c.in_default.is (λ fair. g.met.B.Bank.true_to _ fair) c.in_ok-volumes_of.ensures
+    list_applies (g.B.Bank.honest its.array.bank) store c.in_ok-volumes_of.field-0.items c.in_default.is (λ fair. g.met.B.Bank.true_to _ fair)
+    c.in_ok-volumes_of.ensures
 
 pub returns-in-Some-clause-honest : goal.returns-in-Some-clause-honest
 returns-in-Some-clause-honest g c = (λ fair. fair, λ fair. fair)

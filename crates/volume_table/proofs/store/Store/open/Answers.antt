@@ -13,14 +13,16 @@ returns-in-Err-clause-refused g c =
     let old : ArrayView = array_view c.args.array in
     let left = c.read_table.new.array in
     let new : ArrayView = array_view left in
-    rw c.into_bank.ensures (open_ended (g.B.Bank.honest c.args.array.bank) old new c.in-Err.refusal c.in-Err.ensures.changes (c.in-Err.ensures.cause c.in-Err.refusal refl))
+    rw c.into_bank.ensures (open_ended (g.B.Bank.honest c.args.array.bank) old new c.in-Err.refusal c.in-Err.ensures.changes
+    (c.in-Err.ensures.cause c.in-Err.refusal refl))
 
 pub returns-in_default-decode-clause-refused : goal.returns-in_default-decode-clause-refused
 returns-in_default-decode-clause-refused g c =
     let old : ArrayView = array_view c.args.array in
     let left = c.read_table.new.array in
     let new : ArrayView = array_view left in
-    let same : extents_in old.table.geometry ≡ c.extents-extents.result = ap extents_in (sym c.in_default.ensures.changes.goes_on.not_older.same_geometry) ∙ sym c.extents-extents.ensures in
+    let same : extents_in old.table.geometry ≡ c.extents-extents.result = ap extents_in (sym c.in_default.ensures.changes.goes_on.not_older.same_geometry)
+    ∙ sym c.extents-extents.ensures in
     rw c.into_bank-in_default-decode.ensures (open_refused (g.B.Bank.honest c.args.array.bank) old new c.read_table.new.sectors c.in_default.ensures.changes
     (λ table is free. none-some table (c.in_default-decode.ensures.exact table is (subst (AreFreeFrom table.extents) same free)))
     c.in_default.ensures.gives c.in_default.ensures.spelled)
@@ -35,7 +37,8 @@ returns-clause-opened g c =
     let old : ArrayView = array_view c.args.array in
     let left = c.read_table.new.array in
     let new : ArrayView = array_view left in
-    let same : c.extents-extents.result ≡ extents_in old.table.geometry = c.extents-extents.ensures ∙ ap extents_in c.in_default.ensures.changes.goes_on.not_older.same_geometry in
+    let same : c.extents-extents.result ≡ extents_in old.table.geometry = c.extents-extents.ensures
+    ∙ ap extents_in c.in_default.ensures.changes.goes_on.not_older.same_geometry in
     open_done (g.B.Bank.honest c.args.array.bank) old new c.in-Some.table c.in_default.ensures.changes
     (subst (AreFreeFrom c.in-Some.table.extents) same c.in-Some.ensures.within)
     (λ fair lost V rests. (c.in_default.ensures.gives fair lost V c.in-Some.table rests).0 c.in-Some.ensures.some)

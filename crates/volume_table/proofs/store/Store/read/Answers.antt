@@ -19,7 +19,8 @@ read_blocks-answer-requires-clause-within g c =
 
 pub read_blocks-answer-requires-clause-placed : goal.read_blocks-answer-requires-clause-placed
 read_blocks-answer-requires-clause-placed g c =
-    within_is_placed (extents_in c.args.self.now.array.table.geometry) c.args.self.now.table c.args.self.now.map c.args.name.now c.in_ok-volume.volume c.args.at (length c.args.to.now)
+    within_is_placed (extents_in c.args.self.now.array.table.geometry) c.args.self.now.table c.args.self.now.map c.args.name.now c.in_ok-volume.volume c.args.at
+    (length c.args.to.now)
     c.args.self.now.kept c.in_ok-volume.ensures.found
 
 pub returns-in_err-volume-clause-reads : goal.returns-in_err-volume-clause-reads
@@ -27,7 +28,8 @@ returns-in_err-volume-clause-reads g c =
     let its = c.args.self.now in
     let store = store_view its in
     let p = err_from_is_err_and c.from_residual.result c.from_residual.ensures.1 in
-    rw (p.1, p.2) (read_is_refused (g.B.Bank.honest its.array.bank) c.args.name.now c.args.at c.args.to.now c.args.to.now store c.in_err-volume.field-0.0 c.in_default.is
+    rw (p.1, p.2) (read_is_refused (g.B.Bank.honest its.array.bank) c.args.name.now c.args.at c.args.to.now c.args.to.now store c.in_err-volume.field-0.0
+    c.in_default.is
     c.in_err-volume.ensures.listed c.in_err-volume.ensures.decides)
 
 pub returns-clause-few : goal.returns-clause-few
@@ -40,9 +42,11 @@ returns-clause-reads g c =
     let left = c.read_blocks-answer.new.array in
     let old = store_view its in
     let new = store_of (array_view left) c.end.new.self.table c.end.new.self.ended in
-    rw (c.end.ensures.array, c.end.ensures.same) (read_applies (g.B.Bank.honest its.array.bank) c.args.name.now c.args.at c.args.to.now c.read_blocks-answer.new.to old new its.map
+    rw (c.end.ensures.array, c.end.ensures.same) (read_applies (g.B.Bank.honest its.array.bank) c.args.name.now c.args.at c.args.to.now
+    c.read_blocks-answer.new.to old new its.map
     c.in_ok-volume.volume c.read_blocks-answer.result c.in_default.is its.kept c.in_ok-volume.ensures.found c.in_ok-volume.ensures.decides
-    (λ fair. g.met.B.Bank.true_to _ (c.read_blocks-answer.ensures.honest.0 fair)) c.read_blocks-answer.ensures.changes c.read_blocks-answer.ensures.long c.read_blocks-answer.ensures.gives
+    (λ fair. g.met.B.Bank.true_to _ (c.read_blocks-answer.ensures.honest.0 fair)) c.read_blocks-answer.ensures.changes c.read_blocks-answer.ensures.long
+    c.read_blocks-answer.ensures.gives
     c.end.ensures.table (λ ok. c.end.ensures.done ok ∙ c.in_default.is) c.end.ensures.ended)
 
 pub returns-in-Some-clause-honest : goal.returns-in-Some-clause-honest
@@ -63,11 +67,13 @@ returns-in_err-volume-clause-few g c =
     rw p.1 tt
 
 pub read_blocks-answer-requires-clause-sized : goal.read_blocks-answer-requires-clause-sized
-read_blocks-answer-requires-clause-sized g c = kept_sized (extents_in c.args.self.now.array.table.geometry) c.args.self.now.table c.args.self.now.map c.args.self.now.kept
+read_blocks-answer-requires-clause-sized g c = kept_sized (extents_in c.args.self.now.array.table.geometry) c.args.self.now.table c.args.self.now.map
+    c.args.self.now.kept
 
 pub invariant_of-self : goal.invariant_of-self
 invariant_of-self g c = record {
-  kept = subst (λ (s : Geometry). AreKept (extents_in s) c.args.self.now.table c.args.self.now.map) (sym c.read_blocks-answer.ensures.changes.goes_on.not_older.same_geometry) c.args.self.now.kept;
+  kept = subst (λ (s : Geometry). AreKept (extents_in s) c.args.self.now.table c.args.self.now.map)
+      (sym c.read_blocks-answer.ensures.changes.goes_on.not_older.same_geometry) c.args.self.now.kept;
 }
 
 pub returns-clause-honest : goal.returns-clause-honest

@@ -22,7 +22,8 @@ returns-in-Some-clause-rebuilds g c =
 
 pub invariant_of-self : goal.invariant_of-self
 invariant_of-self g c = record {
-  kept = subst (λ (s : Geometry). AreKept (extents_in s) c.args.self.now.table c.args.self.now.map) (sym c.rebuild_step-answer.ensures.steps.goes_on.not_older.same_geometry) c.args.self.now.kept;
+  kept = subst (λ (s : Geometry). AreKept (extents_in s) c.args.self.now.table c.args.self.now.map)
+      (sym c.rebuild_step-answer.ensures.steps.goes_on.not_older.same_geometry) c.args.self.now.kept;
 }
 
 pub returns-clause-honest : goal.returns-clause-honest
@@ -34,7 +35,8 @@ returns-clause-rebuilds g c =
     let left = c.rebuild_step-answer.new.array in
     let old : StoreView = store_view its in
     let new : StoreView = store_of (array_view left) c.end_by.new.self.table c.end_by.new.self.ended in
-    rw (c.end_by.ensures.array, c.end_by.ensures.same) (step_applies (g.B.Bank.honest its.array.bank) c.args.rows old new (answer_by c.rebuild_step-answer.result) record {
+    rw (c.end_by.ensures.array, c.end_by.ensures.same)
+    (step_applies (g.B.Bank.honest its.array.bank) c.args.rows old new (answer_by c.rebuild_step-answer.result) record {
       kept = kept_by_code old new c.rebuild_step-answer.result
           record { going = c.in_default.is; same = c.end_by.ensures.table; going_on = c.end_by.ensures.going_on; ended = c.end_by.ensures.ended };
       steps = c.rebuild_step-answer.ensures.steps;

@@ -28,7 +28,8 @@ returns-clause-renames g c =
     rw (c.end.ensures.array, c.end.ensures.table, c.end.ensures.same) (rename_applies (g.B.Bank.honest before.array.bank) c.args.old.now c.args.new.now
     (store_view before)
     (store_of (array_view after) c.put_name-answer.new.table c.end.new.self.ended)
-    before.map renaming.volume renaming.entry c.put_name-answer.result c.in_default.is before.kept c.put_name-answer.ensures.kept c.put_name-answer.ensures.version
+    before.map renaming.volume renaming.entry c.put_name-answer.result c.in_default.is before.kept c.put_name-answer.ensures.kept
+    c.put_name-answer.ensures.version
     c.in_ok-renaming.ensures.used c.in_ok-renaming.ensures.may c.in_ok-renaming.ensures.named c.put_name-answer.ensures.records c.in_ok-renaming.ensures.decides
     (λ fair. g.met.B.Bank.true_to _ (c.put_name-answer.ensures.honest.0 fair)) c.put_name-answer.ensures.changes
     (λ answered. c.end.ensures.done answered ∙ c.in_default.is) c.end.ensures.ended)

@@ -21,7 +21,8 @@ returns-in-Some-clause-replaces g c =
 
 pub invariant_of-self : goal.invariant_of-self
 invariant_of-self g c = record {
-  kept = subst (λ (s : Geometry). AreKept (extents_in s) c.args.self.now.table c.args.self.now.map) (sym c.replace-answer.ensures.replaces.goes_on.not_older.same_geometry) c.args.self.now.kept;
+  kept = subst (λ (s : Geometry). AreKept (extents_in s) c.args.self.now.table c.args.self.now.map)
+      (sym c.replace-answer.ensures.replaces.goes_on.not_older.same_geometry) c.args.self.now.kept;
 }
 
 pub returns-clause-honest : goal.returns-clause-honest

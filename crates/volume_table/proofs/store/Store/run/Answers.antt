@@ -51,7 +51,8 @@ loop-event-preserved g c =
         c.acknowledge.new.acks.ok.0,
         c.loop-event.acks.ok.0,
       );
-      done = rw (map_more event_of events i blank within) (done_one_more (g.B.Bank.honest its.array.bank) (g.B.Bank.honest there.array.bank) (map event_of (take i events))
+      done = rw (map_more event_of events i blank within)
+          (done_one_more (g.B.Bank.honest its.array.bank) (g.B.Bank.honest there.array.bank) (map event_of (take i events))
           (event_of (get_or events i blank))
           (store_view its)
           (store_view there)
@@ -70,12 +71,14 @@ returns-in_err-acknowledge-clause-runs g c =
     let p = err_from_is_err_and c.from_residual-in_err-acknowledge.result c.from_residual-in_err-acknowledge.ensures.1 in
     rw (p.1, p.2) record {
       ended = λ refusal is. absurd (none-some refusal (sym c.in_default.is ∙ is));
-      going = λ goes. run_ends (g.B.Bank.honest its.array.bank) (g.B.Bank.honest there.array.bank) (map event_of events) (map event_of (take i events)) (map event_of (drop (i + 1) events))
+      going = λ goes. run_ends (g.B.Bank.honest its.array.bank) (g.B.Bank.honest there.array.bank) (map event_of events) (map event_of (take i events))
+          (map event_of (drop (i + 1) events))
           (event_of (get_or events i blank))
           (store_view its)
           (store_view there)
           (store_view left)
-          c.args.acks.now.items c.loop-event.acks.items c.acknowledge.new.acks.items c.in_err-acknowledge.field-0.0 c.loop-event.invariant.honest (parts_at event_of events i blank within)
+          c.args.acks.now.items c.loop-event.acks.items c.acknowledge.new.acks.items c.in_err-acknowledge.field-0.0 c.loop-event.invariant.honest
+          (parts_at event_of events i blank within)
           c.loop-event.invariant.done c.in_err-acknowledge.ensures.acknowledges;
     }
 
@@ -91,7 +94,8 @@ returns-in_err-reserve-clause-memory g c = λ goes room is. omega (arith, room, 
 pub returns-in_err-acknowledge-clause-memory : goal.returns-in_err-acknowledge-clause-memory
 returns-in_err-acknowledge-clause-memory g c =
     let p = err_from_is_err_and c.from_residual-in_err-acknowledge.result c.from_residual-in_err-acknowledge.ensures.1 in
-    rw (p.1, p.2) (λ goes room is. ended_not_memory c.in_err-acknowledge.field-0.0 c.in_err-acknowledge.ensures.acknowledges.ends (Err c.in_err-acknowledge.field-0.0) refl is)
+    rw (p.1, p.2) (λ goes room is. ended_not_memory c.in_err-acknowledge.field-0.0 c.in_err-acknowledge.ensures.acknowledges.ends
+    (Err c.in_err-acknowledge.field-0.0) refl is)
 
 pub returns-in-Some-clause-honest : goal.returns-in-Some-clause-honest
 returns-in-Some-clause-honest g c = (λ fair. fair, λ fair. fair)

@@ -48,7 +48,14 @@ invariant_of-self g c =
 
 pub returns-then-self-eq-LAST_VERSION-clause-kept : goal.returns-then-self-eq-LAST_VERSION-clause-kept
 returns-then-self-eq-LAST_VERSION-clause-kept g c =
-    record { version = c.if-self-eq-LAST_VERSION.true; records = refl; extents = refl; one_entry = λ apart. absurd (apart c.if-self-eq-LAST_VERSION.true); nothing = λ same. refl }
+    record {
+      version = c.if-self-eq-LAST_VERSION.true;
+      records = refl;
+      extents = refl;
+      one_entry =
+          λ apart. absurd (apart c.if-self-eq-LAST_VERSION.true);
+      nothing = λ same. refl;
+    }
 
 pub returns-clause-kept : goal.returns-clause-kept
 returns-clause-kept g c =

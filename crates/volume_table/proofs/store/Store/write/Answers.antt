@@ -37,7 +37,8 @@ write_blocks-answer-requires-clause-within g c =
 
 pub write_blocks-answer-requires-clause-placed : goal.write_blocks-answer-requires-clause-placed
 write_blocks-answer-requires-clause-placed g c =
-    within_is_placed (extents_in c.args.self.now.array.table.geometry) c.args.self.now.table c.args.self.now.map c.args.name.now c.in_ok-volume.volume c.args.at (length c.args.from.now)
+    within_is_placed (extents_in c.args.self.now.array.table.geometry) c.args.self.now.table c.args.self.now.map c.args.name.now c.in_ok-volume.volume c.args.at
+    (length c.args.from.now)
     c.args.self.now.kept c.in_ok-volume.ensures.found
 
 pub returns-clause-few : goal.returns-clause-few
@@ -48,7 +49,8 @@ pub returns-clause-writes : goal.returns-clause-writes
 returns-clause-writes g c =
     let before = c.args.self.now in
     let after = c.write_blocks-answer.new.array in
-    rw (c.end.ensures.array, c.end.ensures.table, c.end.ensures.same) (write_applies (g.B.Bank.honest before.array.bank) c.args.name.now c.args.at c.args.from.now
+    rw (c.end.ensures.array, c.end.ensures.table, c.end.ensures.same)
+    (write_applies (g.B.Bank.honest before.array.bank) c.args.name.now c.args.at c.args.from.now
     (store_view before)
     (store_of (array_view after) before.table c.end.new.self.ended)
     before.map c.in_ok-volume.volume c.write_blocks-answer.result c.in_default.is before.kept c.in_ok-volume.ensures.found
@@ -74,11 +76,13 @@ returns-in_err-volume-clause-few g c =
     rw p.1 tt
 
 pub write_blocks-answer-requires-clause-sized : goal.write_blocks-answer-requires-clause-sized
-write_blocks-answer-requires-clause-sized g c = kept_sized (extents_in c.args.self.now.array.table.geometry) c.args.self.now.table c.args.self.now.map c.args.self.now.kept
+write_blocks-answer-requires-clause-sized g c = kept_sized (extents_in c.args.self.now.array.table.geometry) c.args.self.now.table c.args.self.now.map
+    c.args.self.now.kept
 
 pub invariant_of-self : goal.invariant_of-self
 invariant_of-self g c = record {
-  kept = subst (λ (s : Geometry). AreKept (extents_in s) c.args.self.now.table c.args.self.now.map) (sym c.write_blocks-answer.ensures.changes.goes_on.not_older.same_geometry) c.args.self.now.kept;
+  kept = subst (λ (s : Geometry). AreKept (extents_in s) c.args.self.now.table c.args.self.now.map)
+      (sym c.write_blocks-answer.ensures.changes.goes_on.not_older.same_geometry) c.args.self.now.kept;
 }
 
 pub returns-clause-honest : goal.returns-clause-honest

@@ -1,6 +1,7 @@
 use Rattle.std.proofs.Common.{◌+◌, ◌∙◌, ⊎_elim, inl, inr, ap, arith, refl}
 use Rattle.volume_table.specs.Volumes.{need}
-use Rattle.volume_table.proofs.Admitted.{extension_admitted, extension_bad_size, extension_no_space, free_by, length_by, may_extend_at, absent_by, no_volume_first, none_found}
+use Rattle.volume_table.proofs.Admitted.{extension_admitted, extension_bad_size, extension_no_space, free_by, length_by, may_extend_at, absent_by}
+use Rattle.volume_table.proofs.Admitted.{no_volume_first, none_found}
 use Rattle.std.proofs.lemmas.Result.{err_from_is_err_and}
 use Rattle.volume_table.proofs.store.admission.admit_extension.Goals as goal
 use Rattle.layout_map.specs.declared.sizes.TheConstants.{EXTENT_SECTORS}
@@ -24,7 +25,8 @@ returns-then-extents_for-free_count-clause-decides c = λ extents sectors volume
     let old = c.extents_for-2.ensures in
     let new = c.extents_for.ensures in
     extension_no_space extents c.free_count.result name found.count c.args.by volumes by.shows.limits has (omega arith) (omega arith)
-    (ap (λ n. n + need EXTENT_SECTORS volumes.volumes) c.free_count.ensures ∙ free_by extents table c.args.map.now sectors volumes most kept by) (omega (arith, old, new))
+    (ap (λ n. n + need EXTENT_SECTORS volumes.volumes) c.free_count.ensures ∙ free_by extents table c.args.map.now sectors volumes most kept by)
+    (omega (arith, old, new))
 
 pub returns-clause-may : goal.returns-clause-may
 returns-clause-may c =
@@ -33,7 +35,8 @@ returns-clause-may c =
     let old = c.extents_for-2.ensures in
     let new = c.extents_for.ensures in
     let free = c.free_count.ensures in
-    may_extend_at c.args.table.now c.args.map.now found.number found.count _ c.args.name.now is (omega arith) c.in-Some.ensures.same (omega (arith, old, new, free))
+    may_extend_at c.args.table.now c.args.map.now found.number found.count _ c.args.name.now is (omega arith) c.in-Some.ensures.same
+    (omega (arith, old, new, free))
 
 pub returns-clause-decides : goal.returns-clause-decides
 returns-clause-decides c = λ extents sectors volumes most kept by.
@@ -45,7 +48,8 @@ returns-clause-decides c = λ extents sectors volumes most kept by.
     let old = c.extents_for-2.ensures in
     let new = c.extents_for.ensures in
     extension_admitted extents c.free_count.result name found.count c.args.by volumes by.shows.limits has (omega arith) (omega arith)
-    (ap (λ n. n + need EXTENT_SECTORS volumes.volumes) c.free_count.ensures ∙ free_by extents table c.args.map.now sectors volumes most kept by) (omega (arith, old, new))
+    (ap (λ n. n + need EXTENT_SECTORS volumes.volumes) c.free_count.ensures ∙ free_by extents table c.args.map.now sectors volumes most kept by)
+    (omega (arith, old, new))
 
 pub returns-in_err-found-clause-may : goal.returns-in_err-found-clause-may
 returns-in_err-found-clause-may c =
@@ -85,13 +89,15 @@ returns-clause-blocks c = refl
 pub returns-in_err-found-clause-listed : goal.returns-in_err-found-clause-listed
 returns-in_err-found-clause-listed c =
     let p = err_from_is_err_and c.from_residual.result c.from_residual.ensures.1 in
-    let f = none_found c.args.table.now.records c.args.name.now c.record_named.result c.in_err-found.field-0.0 p.0 c.in_err-found.ensures.value c.record_named.ensures p.2 in
+    let f = none_found c.args.table.now.records c.args.name.now c.record_named.result c.in_err-found.field-0.0 p.0 c.in_err-found.ensures.value
+    c.record_named.ensures p.2 in
     rw (p.1, f.0) (0, omega arith, refl)
 
 pub returns-in_err-found-clause-decides : goal.returns-in_err-found-clause-decides
 returns-in_err-found-clause-decides c = λ extents sectors volumes most kept by.
     let p = err_from_is_err_and c.from_residual.result c.from_residual.ensures.1 in
-    let f = none_found c.args.table.now.records c.args.name.now c.record_named.result c.in_err-found.field-0.0 p.0 c.in_err-found.ensures.value c.record_named.ensures p.2 in
+    let f = none_found c.args.table.now.records c.args.name.now c.record_named.result c.in_err-found.field-0.0 p.0 c.in_err-found.ensures.value
+    c.record_named.ensures p.2 in
     rw (p.1, f.0) (no_volume_first c.args.name.now volumes.volumes _ (absent_by extents c.args.table.now sectors volumes c.args.name.now by f.1))
 
 pub overflow_sub-room : goal.overflow_sub-room

@@ -10,4 +10,5 @@ pub returns-clause-decides : goal.returns-clause-decides
 returns-clause-decides c = λ extents sectors volumes by.
     let found = c.in_ok-found.found in
     removal_admitted extents c.args.name.now found.count volumes
-    (length_by extents c.args.table.now sectors volumes c.args.name.now found.number found.count by (rw c.in_ok-found.ensures.ok_part at c.record_named.ensures))
+    (length_by extents c.args.table.now sectors volumes c.args.name.now found.number found.count by
+    (rw c.in_ok-found.ensures.ok_part at c.record_named.ensures))

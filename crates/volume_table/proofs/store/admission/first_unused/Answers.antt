@@ -11,4 +11,5 @@ bounds-records-number c = omega (arith, few_by _ c.most_volumes-number-end.resul
 pub loop-number-preserved : goal.loop-number-preserved
 loop-number-preserved c =
     used_one_more c.args.records.now c.loop-number.number c.index-records-number.result c.is_none.result
-    (omega (arith, few_by _ c.most_volumes-number-end.result c.most_volumes-number-end.ensures, c.loop-number-test.true)) c.is_none.ensures c.if-is_none.false c.loop-number.invariant
+    (omega (arith, few_by _ c.most_volumes-number-end.result c.most_volumes-number-end.ensures, c.loop-number-test.true)) c.is_none.ensures c.if-is_none.false
+    c.loop-number.invariant

@@ -13,34 +13,42 @@ pub set-requires-clause-is_table : goal.set-requires-clause-is_table
 set-requires-clause-is_table g c =
     let geometry = c.args.array.now.table.geometry in
     let growth = c.args.growth in
-    grown_is_table (extents_in geometry) c.args.table.now c.args.map.now c.take.new.self growth.volume growth.first (c.extents_for.result - c.extents_for-2.result) growth.entry
-    (extents_most geometry.members geometry.chunk geometry.stripes) c.requires.kept c.requires.may (omega (arith, c.extents_for.ensures, c.extents_for-2.ensures)) c.take.ensures
+    grown_is_table (extents_in geometry) c.args.table.now c.args.map.now c.take.new.self growth.volume growth.first
+    (c.extents_for.result - c.extents_for-2.result) growth.entry
+    (extents_most geometry.members geometry.chunk geometry.stripes) c.requires.kept c.requires.may
+    (omega (arith, c.extents_for.ensures, c.extents_for-2.ensures)) c.take.ensures
 
 pub zero_blocks-requires-clause-placed : goal.zero_blocks-requires-clause-placed
 zero_blocks-requires-clause-placed g c =
     let geometry = c.args.array.now.table.geometry in
     let growth = c.args.growth in
-    grown_is_placed (extents_in geometry) c.args.table.now c.args.map.now c.take.new.self growth.volume growth.first (c.extents_for.result - c.extents_for-2.result) growth.entry
-    (extents_most geometry.members geometry.chunk geometry.stripes) c.requires.kept c.requires.may (omega (arith, c.extents_for.ensures, c.extents_for-2.ensures)) c.take.ensures
+    grown_is_placed (extents_in geometry) c.args.table.now c.args.map.now c.take.new.self growth.volume growth.first
+    (c.extents_for.result - c.extents_for-2.result) growth.entry
+    (extents_most geometry.members geometry.chunk geometry.stripes) c.requires.kept c.requires.may
+    (omega (arith, c.extents_for.ensures, c.extents_for-2.ensures)) c.take.ensures
 
 pub returns-in_err-zero_blocks-clause-kept : goal.returns-in_err-zero_blocks-clause-kept
 returns-in_err-zero_blocks-clause-kept g c =
-    kept_after c.args.array.now.table.geometry c.zero_blocks.new.array.table.geometry c.args.table.now c.set.new.self c.args.map.now c.take.new.self c.requires.kept c.take.ensures.extents c.set.ensures.extents
+    kept_after c.args.array.now.table.geometry c.zero_blocks.new.array.table.geometry c.args.table.now c.set.new.self c.args.map.now c.take.new.self
+    c.requires.kept c.take.ensures.extents c.set.ensures.extents
     c.zero_blocks.ensures.changes.goes_on.not_older.same_geometry
 
 pub returns-in_err-zero_blocks-clause-changes : goal.returns-in_err-zero_blocks-clause-changes
 returns-in_err-zero_blocks-clause-changes g c =
     let growth = c.args.growth in
     let p = err_from_is_err_and c.from_residual.result c.from_residual.ensures.1 in
-    rw (p.1, p.2) (zeroed_in_part (g.B.Bank.honest c.args.array.now.bank) c.args.table.now c.set.new.self c.take.new.self growth.volume growth.first growth.entry.blocks
+    rw (p.1, p.2) (zeroed_in_part (g.B.Bank.honest c.args.array.now.bank) c.args.table.now c.set.new.self c.take.new.self growth.volume growth.first
+    growth.entry.blocks
     (array_view c.args.array.now)
     (array_view c.zero_blocks.new.array)
     c.in_err-zero_blocks.field-0.0 c.set.ensures.extents c.in_err-zero_blocks.ensures.changes)
 
 pub returns-clause-kept : goal.returns-clause-kept
 returns-clause-kept g c =
-    kept_after c.args.array.now.table.geometry c.put_table.new.array.table.geometry c.args.table.now c.set.new.self c.args.map.now c.take.new.self c.requires.kept c.take.ensures.extents c.set.ensures.extents
-    ((c.put_table.ensures.changes c.args.table.now c.spelled-before.ensures (sym c.set.ensures.version)).goes_on.not_older.same_geometry ∙ c.zero_blocks.ensures.changes.goes_on.not_older.same_geometry)
+    kept_after c.args.array.now.table.geometry c.put_table.new.array.table.geometry c.args.table.now c.set.new.self c.args.map.now c.take.new.self
+    c.requires.kept c.take.ensures.extents c.set.ensures.extents
+    ((c.put_table.ensures.changes c.args.table.now c.spelled-before.ensures (sym c.set.ensures.version)).goes_on.not_older.same_geometry
+    ∙ c.zero_blocks.ensures.changes.goes_on.not_older.same_geometry)
 
 pub returns-clause-changes : goal.returns-clause-changes
 returns-clause-changes g c =
@@ -68,10 +76,20 @@ set-requires-clause-of_table g c = omega (arith, c.requires.may.of_table, most_v
 pub set-requires-clause-most : goal.set-requires-clause-most
 set-requires-clause-most g c =
     let geometry = c.args.array.now.table.geometry in
-    omega (arith, c.take.ensures.extents, kept_sized (extents_in c.args.array.now.table.geometry) c.args.table.now c.args.map.now c.requires.kept, extents_most geometry.members geometry.chunk geometry.stripes)
+    omega (
+      arith,
+      c.take.ensures.extents,
+      kept_sized (extents_in c.args.array.now.table.geometry) c.args.table.now c.args.map.now c.requires.kept,
+      extents_most geometry.members geometry.chunk geometry.stripes,
+    )
 
 pub zero_blocks-requires-clause-sized : goal.zero_blocks-requires-clause-sized
-zero_blocks-requires-clause-sized g c = omega (arith, c.take.ensures.extents, kept_sized (extents_in c.args.array.now.table.geometry) c.args.table.now c.args.map.now c.requires.kept)
+zero_blocks-requires-clause-sized g c = omega (
+  arith,
+  c.take.ensures.extents,
+  kept_sized (extents_in c.args.array.now.table.geometry) c.args.table.now
+      c.args.map.now c.requires.kept,
+)
 
 pub zero_blocks-requires-clause-order : goal.zero_blocks-requires-clause-order
 zero_blocks-requires-clause-order g c = omega (arith, c.requires.may.more)
@@ -95,7 +113,10 @@ pub returns-in_err-zero_blocks-clause-taken : goal.returns-in_err-zero_blocks-cl
 returns-in_err-zero_blocks-clause-taken g c = rw (← c.extents_for.ensures, ← c.extents_for-2.ensures) c.take.ensures
 
 pub returns-clause-honest : goal.returns-clause-honest
-returns-clause-honest g c = (λ fair. c.put_table.ensures.honest.0 (c.zero_blocks.ensures.honest.0 fair), λ fair. c.zero_blocks.ensures.honest.1 (c.put_table.ensures.honest.1 fair))
+returns-clause-honest g c = (
+  λ fair. c.put_table.ensures.honest.0 (c.zero_blocks.ensures.honest.0 fair),
+  λ fair. c.zero_blocks.ensures.honest.1 (c.put_table.ensures.honest.1 fair),
+)
 
 pub returns-clause-records : goal.returns-clause-records
 returns-clause-records g c = c.set.ensures.records

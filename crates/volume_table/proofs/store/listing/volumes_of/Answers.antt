@@ -8,7 +8,8 @@ use Rattle.volume_table.proofs.store.listing.volumes_of.Goals as goal
 use Rattle.extents.specs.declared.volume_table.TheConstants.{MOST_VOLUMES}
 
 pub loop-number-init : goal.loop-number-init
-loop-number-init c = subst (λ (items : List Listed). ListsFrom c.args.table.now MOST_VOLUMES items) (sym c.in_ok-volumes.ensures.items) (lists_none c.args.table.now)
+loop-number-init c = subst (λ (items : List Listed). ListsFrom c.args.table.now MOST_VOLUMES items) (sym c.in_ok-volumes.ensures.items)
+    (lists_none c.args.table.now)
 
 pub loop-number-preserved-in-Continue-branch-2 : goal.loop-number-preserved-in-Continue-branch-2
 loop-number-preserved-in-Continue-branch-2 c =
@@ -21,7 +22,8 @@ loop-number-preserved-in-Continue-branch-2 c =
     let next : c.loop-number.number ≡ number + 1 = omega arith in
     let so_far : ListsFrom table (number + 1) items = subst (λ (n : ℕ). ListsFrom table n items) next c.loop-number.invariant in
     let is_put : IsPutInto items c.put.new.volumes.items c.listed_as.result = c.in_ok-put.ensures in
-    lists_used table number items c.put.new.volumes.items c.listed_as.result c.in-Some.entry below used c.listed_as.ensures.name c.listed_as.ensures.as_long is_put so_far
+    lists_used table number items c.put.new.volumes.items c.listed_as.result c.in-Some.entry below used c.listed_as.ensures.name c.listed_as.ensures.as_long
+    is_put so_far
 
 pub loop-number-preserved : goal.loop-number-preserved
 loop-number-preserved c =
@@ -38,5 +40,6 @@ loop-number-preserved c =
 pub returns : goal.returns
 returns c =
     let none_left : c.loop-number.number ≡ 0 = omega arith in
-    let all : ListsFrom c.args.table.now 0 c.loop-number.volumes.items = subst (λ (n : ℕ). ListsFrom c.args.table.now n c.loop-number.volumes.items) none_left c.loop-number.invariant in
+    let all : ListsFrom c.args.table.now 0 c.loop-number.volumes.items =
+    subst (λ (n : ℕ). ListsFrom c.args.table.now n c.loop-number.volumes.items) none_left c.loop-number.invariant in
     lists_all c.args.table.now c.loop-number.volumes.items all

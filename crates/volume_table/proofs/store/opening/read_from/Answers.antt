@@ -32,8 +32,10 @@ returns-in_err-read-clause-changes g c =
     let mid = array_view c.loop-number.array in
     let new = array_view c.read.new.self in
     let p = err_from_is_err_and c.from_residual.result c.from_residual.ensures.1 in
-    rw (p.1, p.2) (read_on (g.B.Bank.honest c.args.array.now.bank) (g.B.Bank.honest c.loop-number.array.bank) c.loop-number.invariant.honest (c.args.first + c.loop-number.number) old mid new c.read.new.to
-    (Err c.in_err-read.field-0.0) (λ fair. g.met.B.Bank.true_to _ (c.loop-number.invariant.honest fair)) c.loop-number.invariant.changes c.in_err-read.ensures.reads)
+    rw (p.1, p.2) (read_on (g.B.Bank.honest c.args.array.now.bank) (g.B.Bank.honest c.loop-number.array.bank) c.loop-number.invariant.honest
+    (c.args.first + c.loop-number.number) old mid new c.read.new.to
+    (Err c.in_err-read.field-0.0) (λ fair. g.met.B.Bank.true_to _ (c.loop-number.invariant.honest fair)) c.loop-number.invariant.changes
+    c.in_err-read.ensures.reads)
 
 pub returns-in_err-read-clause-cause : goal.returns-in_err-read-clause-cause
 returns-in_err-read-clause-cause g c =
@@ -41,9 +43,12 @@ returns-in_err-read-clause-cause g c =
     let mid = array_view c.loop-number.array in
     let new = array_view c.read.new.self in
     let p = err_from_is_err_and c.from_residual.result c.from_residual.ensures.1 in
-    let changes = read_on (g.B.Bank.honest c.args.array.now.bank) (g.B.Bank.honest c.loop-number.array.bank) c.loop-number.invariant.honest (c.args.first + c.loop-number.number) old mid new c.read.new.to
-    (Err c.in_err-read.field-0.0) (λ fair. g.met.B.Bank.true_to _ (c.loop-number.invariant.honest fair)) c.loop-number.invariant.changes c.in_err-read.ensures.reads in
-    rw (p.1, p.2) (λ why is. read_ends (g.B.Bank.honest c.args.array.now.bank) (g.B.Bank.honest c.loop-number.array.bank) (c.args.first + c.loop-number.number) old mid new c.read.new.to
+    let changes = read_on (g.B.Bank.honest c.args.array.now.bank) (g.B.Bank.honest c.loop-number.array.bank) c.loop-number.invariant.honest
+    (c.args.first + c.loop-number.number) old mid new c.read.new.to
+    (Err c.in_err-read.field-0.0) (λ fair. g.met.B.Bank.true_to _ (c.loop-number.invariant.honest fair)) c.loop-number.invariant.changes
+    c.in_err-read.ensures.reads in
+    rw (p.1, p.2) (λ why is. read_ends (g.B.Bank.honest c.args.array.now.bank) (g.B.Bank.honest c.loop-number.array.bank) (c.args.first + c.loop-number.number)
+    old mid new c.read.new.to
     c.in_err-read.field-0.0 why changes c.in_err-read.ensures.reads is)
 
 pub loop-number-preserved : goal.loop-number-preserved
@@ -59,21 +64,25 @@ loop-number-preserved g c =
       honest = λ fair. c.read.ensures.honest.0 (c.loop-number.invariant.honest fair);
       still = λ fair. c.loop-number.invariant.still (c.read.ensures.honest.1 fair);
       long = length-set sectors number to ∙ c.loop-number.invariant.long;
-      changes = read_on (g.B.Bank.honest c.args.array.now.bank) (g.B.Bank.honest c.loop-number.array.bank) c.loop-number.invariant.honest (c.args.first + number) old mid new to (Ok tt)
+      changes = read_on (g.B.Bank.honest c.args.array.now.bank) (g.B.Bank.honest c.loop-number.array.bank) c.loop-number.invariant.honest
+          (c.args.first + number) old mid new to (Ok tt)
           (λ fair. g.met.B.Bank.true_to _ (c.loop-number.invariant.honest fair)) c.loop-number.invariant.changes c.in_ok-read.ensures.reads;
       gives = λ fair lost V rests. below_more (λ (k : ℕ). get_or (set sectors number to) k [] ≡ get_or V (c.args.first + k) []) number
           (λ k below. get_or-set_other sectors number k to [] (λ same. omega (arith, below, same)) ∙ c.loop-number.invariant.gives fair lost V rests k below)
           (get_or-set_same sectors number to [] within
-          ∙ read_gives (g.B.Bank.honest c.args.array.now.bank) (g.B.Bank.honest c.loop-number.array.bank) c.loop-number.invariant.honest (c.args.first + number) old mid new to c.loop-number.invariant.changes
+          ∙ read_gives (g.B.Bank.honest c.args.array.now.bank) (g.B.Bank.honest c.loop-number.array.bank) c.loop-number.invariant.honest (c.args.first + number)
+          old mid new to c.loop-number.invariant.changes
           c.in_ok-read.ensures.reads fair lost V rests);
-      told = λ fair none. read_more c.args.first number old mid new sectors to within c.loop-number.invariant.changes.goes_on c.in_ok-read.ensures.reads.goes_on none
+      told = λ fair none. read_more c.args.first number old mid new sectors to within c.loop-number.invariant.changes.goes_on c.in_ok-read.ensures.reads.goes_on
+          none
           (c.loop-number.invariant.told fair) (c.in_ok-read.ensures.whole (c.loop-number.invariant.honest fair));
     }
 
 pub returns-clause-gives : goal.returns-clause-gives
 returns-clause-gives g c =
     let old = array_view c.args.array.now in
-    λ fair lost V rests. are_read_at_rest old lost V c.loop-number.sectors c.args.first (length c.args.sectors.now) rests c.loop-number.invariant.long c.requires.within
+    λ fair lost V rests. are_read_at_rest old lost V c.loop-number.sectors c.args.first (length c.args.sectors.now) rests c.loop-number.invariant.long
+    c.requires.within
     (λ k below. c.loop-number.invariant.gives fair lost V rests k (omega (arith, below, c.loop-number.invariant.long)))
 
 pub returns-clause-reads : goal.returns-clause-reads

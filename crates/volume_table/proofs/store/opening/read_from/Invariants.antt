@@ -20,7 +20,8 @@ invariant-loop-number g l = record {
   gives : g.B.Bank.honest l.initial.array.bank → (lost : Option Lost) (V : List Bytes)
       → RestsOn (array_view l.initial.array) lost V
       → (k : ℕ) → k < l.number → get_or l.sectors k [] ≡ get_or V (l.first + k) [];
-  told : g.B.Bank.honest l.initial.array.bank → NoDeviceFailed (g.B.Bank.panel l.initial.array.bank) (g.B.Bank.panel l.array.bank) → HaveReadWhole l.first l.number
+  told : g.B.Bank.honest l.initial.array.bank → NoDeviceFailed (g.B.Bank.panel l.initial.array.bank) (g.B.Bank.panel l.array.bank)
+      → HaveReadWhole l.first l.number
       (array_view l.initial.array)
       (array_view l.array) l.sectors;
 }

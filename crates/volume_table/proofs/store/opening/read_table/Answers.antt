@@ -6,18 +6,21 @@ use Rattle.std.proofs.lemmas.Result.{err_from_is_err_and}
 use Rattle.extents.specs.Versions.{table_length}
 use Rattle.array_io.specs.Believed.OpenArray.{array_view}
 use Rattle.volume_table.proofs.ListChanges.{changes_read}
-use Rattle.volume_table.proofs.OpenedStore.{first_spelled, gives_table, is_version, length-beyond, put_is, read_then, reads_spelled, spells_none, then_ends, where_ok}
+use Rattle.volume_table.proofs.OpenedStore.{first_spelled, gives_table, is_version, length-beyond, put_is, read_then, reads_spelled, spells_none, then_ends}
+use Rattle.volume_table.proofs.OpenedStore.{where_ok}
 use Rattle.volume_table.proofs.TableSizes.{table_long, table_short}
 use Rattle.volume_table.proofs.store.opening.read_table.Goals as goal
 
 pub returns-in_err-read-clause-changes : goal.returns-in_err-read-clause-changes
 returns-in_err-read-clause-changes g c =
     let p = err_from_is_err_and c.from_residual.result c.from_residual.ensures.1 in
-    rw (p.1, p.2) (changes_read (g.B.Bank.honest c.args.array.now.bank) 0 (array_view c.args.array.now) (array_view c.read.new.self) c.read.new.to (Err c.in_err-read.field-0.0) c.in_err-read.ensures.reads)
+    rw (p.1, p.2) (changes_read (g.B.Bank.honest c.args.array.now.bank) 0 (array_view c.args.array.now) (array_view c.read.new.self) c.read.new.to
+    (Err c.in_err-read.field-0.0) c.in_err-read.ensures.reads)
 
 pub returns-in_default-clause-changes : goal.returns-in_default-clause-changes
 returns-in_default-clause-changes g c =
-    changes_read (g.B.Bank.honest c.args.array.now.bank) 0 (array_view c.args.array.now) (array_view c.read.new.self) c.read.new.to (Ok tt) c.in_ok-read.ensures.reads
+    changes_read (g.B.Bank.honest c.args.array.now.bank) 0 (array_view c.args.array.now) (array_view c.read.new.self) c.read.new.to (Ok tt)
+    c.in_ok-read.ensures.reads
 
 pub returns-in_default-clause-gives : goal.returns-in_default-clause-gives
 returns-in_default-clause-gives g c =
@@ -25,7 +28,8 @@ returns-in_default-clause-gives g c =
     let there = get_or-set_same c.args.sectors.now 0 to [] (omega (arith, c.told-sectors)) in
     λ fair lost V table rests. (
       λ spelled. absurd (spells_none to _ table (λ version is same. none-some version (c.in_default.ensures.exact version is (there ∙ same))) there spelled),
-      λ spelled. absurd (spells_none to V table (λ version is same. none-some version (c.in_default.ensures.exact version is (there ∙ same))) (sym (c.in_ok-read.ensures.reads.sector fair refl lost V rests)) spelled),
+      λ spelled. absurd (spells_none to V table (λ version is same. none-some version (c.in_default.ensures.exact version is (there ∙ same)))
+          (sym (c.in_ok-read.ensures.reads.sector fair refl lost V rests)) spelled),
     )
 
 pub returns-in_default-clause-spelled : goal.returns-in_default-clause-spelled
@@ -48,7 +52,8 @@ pub returns-clause-changes : goal.returns-clause-changes
 returns-clause-changes g c =
     let old = array_view c.args.array.now in
     let mid = array_view c.read.new.self in
-    read_then (g.B.Bank.honest c.args.array.now.bank) (g.B.Bank.honest c.read.new.self.bank) c.read.ensures.honest.0 old mid (array_view c.read_from.new.array) c.read_from.result
+    read_then (g.B.Bank.honest c.args.array.now.bank) (g.B.Bank.honest c.read.new.self.bank) c.read.ensures.honest.0 old mid (array_view c.read_from.new.array)
+    c.read_from.result
     (λ fair. g.met.B.Bank.true_to _ (c.read.ensures.honest.0 fair))
     (changes_read (g.B.Bank.honest c.args.array.now.bank) 0 old mid c.read.new.to (Ok tt) c.in_ok-read.ensures.reads) c.read_from.ensures.changes
 
@@ -57,7 +62,8 @@ returns-clause-cause g c = λ refusal is.
     let old = array_view c.args.array.now in
     let mid = array_view c.read.new.self in
     then_ends (g.B.Bank.honest c.args.array.now.bank) old mid (array_view c.read_from.new.array) c.read_from.result refusal
-    (read_then (g.B.Bank.honest c.args.array.now.bank) (g.B.Bank.honest c.read.new.self.bank) c.read.ensures.honest.0 old mid (array_view c.read_from.new.array) c.read_from.result
+    (read_then (g.B.Bank.honest c.args.array.now.bank) (g.B.Bank.honest c.read.new.self.bank) c.read.ensures.honest.0 old mid (array_view c.read_from.new.array)
+    c.read_from.result
     (λ fair. g.met.B.Bank.true_to _ (c.read.ensures.honest.0 fair))
     (changes_read (g.B.Bank.honest c.args.array.now.bank) 0 old mid c.read.new.to (Ok tt) c.in_ok-read.ensures.reads) c.read_from.ensures.changes)
     (c.read_from.ensures.cause refusal is)
@@ -72,7 +78,8 @@ returns-clause-gives g c = λ fair. where_ok c.read_from.result (c.read_from.ens
     let there = get_or-set_same c.args.sectors.now 0 to [] (omega (arith, c.told-sectors)) in
     let beyond = length-beyond n c.args.sectors.now to c.told-sectors (omega (arith, is, table_short version)) in
     let many : length part + 1 ≡ n = omega (arith, c.read_from.auto.sectors, beyond, is, table_long version) in
-    gives_table (g.B.Bank.honest c.args.array.now.bank) (array_view c.args.array.now) (array_view c.read.new.self) version n to part _ c.in-Some.ensures.some.0 (sym there ∙ c.in-Some.ensures.some.1) is
+    gives_table (g.B.Bank.honest c.args.array.now.bank) (array_view c.args.array.now) (array_view c.read.new.self) version n to part _ c.in-Some.ensures.some.0
+    (sym there ∙ c.in-Some.ensures.some.1) is
     (put_is n c.args.sectors.now part to (omega (arith, c.told-sectors)) many) beyond c.in_ok-read.ensures.reads gives fair)
 
 pub returns-clause-spelled : goal.returns-clause-spelled
@@ -85,6 +92,7 @@ returns-clause-spelled g c = λ fair. where_ok c.read_from.result (c.read_from.e
     let there = get_or-set_same c.args.sectors.now 0 to [] (omega (arith, c.told-sectors)) in
     let beyond = length-beyond n c.args.sectors.now to c.told-sectors (omega (arith, is, table_short version)) in
     let many : length part + 1 ≡ n = omega (arith, c.read_from.auto.sectors, beyond, is, table_long version) in
-    reads_spelled (array_view c.args.array.now) (array_view c.read.new.self) (array_view c.read_from.new.array) version n to part _ table c.in-Some.ensures.some.0 (sym there ∙ c.in-Some.ensures.some.1) is
+    reads_spelled (array_view c.args.array.now) (array_view c.read.new.self) (array_view c.read_from.new.array) version n to part _ table
+    c.in-Some.ensures.some.0 (sym there ∙ c.in-Some.ensures.some.1) is
     (put_is n c.args.sectors.now part to (omega (arith, c.told-sectors)) many) c.in_ok-read.ensures.reads.goes_on c.read_from.ensures.changes.goes_on none
     (c.in_ok-read.ensures.whole fair) (λ up k below. reads up k (omega (arith, below, beyond))) spelled)

@@ -19,7 +19,8 @@ loop-at-init g c = zeroing_begins (g.B.Bank.honest c.args.array.now.bank) c.args
 
 pub write_blocks-requires-clause-sized : goal.write_blocks-requires-clause-sized
 write_blocks-requires-clause-sized g c =
-    subst (λ (geometry : Geometry). length c.args.map.now ≤ extents_in geometry) (sym c.loop-at.invariant.changes.goes_on.not_older.same_geometry) c.requires.sized
+    subst (λ (geometry : Geometry). length c.args.map.now ≤ extents_in geometry) (sym c.loop-at.invariant.changes.goes_on.not_older.same_geometry)
+    c.requires.sized
 
 some_zeros : (count : ℕ) → count ≤ MOST_BLOCKS_AT_ONCE → take count (replicate MOST_BLOCKS_AT_ONCE (replicate 512 0)) ≡ replicate count zero_block
 unfolding zero_block
@@ -27,7 +28,8 @@ some_zeros count within = take-replicate count MOST_BLOCKS_AT_ONCE (replicate 51
 
 pub write_blocks-requires-clause-placed : goal.write_blocks-requires-clause-placed
 write_blocks-requires-clause-placed g c block least most =
-    let long : length (take c.min-count.result (replicate {A = Block} MOST_BLOCKS_AT_ONCE (replicate {A = ℕ} 512 0))) ≤ c.min-count.result = omega (arith, length-take c.min-count.result (replicate {A = Block} MOST_BLOCKS_AT_ONCE (replicate {A = ℕ} 512 0))) in
+    let long : length (take c.min-count.result (replicate {A = Block} MOST_BLOCKS_AT_ONCE (replicate {A = ℕ} 512 0))) ≤ c.min-count.result =
+    omega (arith, length-take c.min-count.result (replicate {A = Block} MOST_BLOCKS_AT_ONCE (replicate {A = ℕ} 512 0))) in
     c.requires.placed block (omega (arith, least, c.loop-at.invariant.least)) (omega (arith, most, long, c.min-count.ensures, c.loop-at-test.true))
 
 pub returns-in_err-write_blocks-clause-honest : goal.returns-in_err-write_blocks-clause-honest
@@ -40,12 +42,14 @@ returns-in_err-write_blocks-clause-changes g c =
     let within : c.loop-at.at + c.min-count.result ≤ c.args.last = omega (arith, c.min-count.ensures, c.loop-at-test.true) in
     let some : 1 ≤ c.min-count.result = omega (arith, c.min-count.ensures, c.loop-at-test.true) in
     let p = err_from_is_err_and c.from_residual.result c.from_residual.ensures.1 in
-    subst (ChangesList (g.B.Bank.honest c.args.array.now.bank) (c.args.last - c.args.first) (IsPartlyZero EXTENT_SECTORS c.args.map.now c.args.volume c.args.first c.args.last)
+    subst (ChangesList (g.B.Bank.honest c.args.array.now.bank) (c.args.last - c.args.first)
+    (IsPartlyZero EXTENT_SECTORS c.args.map.now c.args.volume c.args.first c.args.last)
     (IsZeroed EXTENT_SECTORS c.args.map.now c.args.volume c.args.first c.args.last)
     (array_view c.args.array.now)
     (array_view c.write_blocks.new.array))
     (sym (p.1 ∙ ap (λ s. Err s) p.2))
-    (zeroing_refused (g.B.Bank.honest c.args.array.now.bank) (g.B.Bank.honest c.loop-at.array.bank) c.args.map.now c.args.volume c.args.first c.args.last c.loop-at.at c.min-count.result
+    (zeroing_refused (g.B.Bank.honest c.args.array.now.bank) (g.B.Bank.honest c.loop-at.array.bank) c.args.map.now c.args.volume c.args.first c.args.last
+    c.loop-at.at c.min-count.result
     (take c.min-count.result (replicate MOST_BLOCKS_AT_ONCE (replicate 512 0))) _ _ _ (some_zeros c.min-count.result few) within some c.loop-at.invariant
     (g.met.B.Bank.true_to c.loop-at.array.bank) c.in_err-write_blocks.field-0.0 c.in_err-write_blocks.ensures.changes)
 
@@ -54,9 +58,11 @@ loop-at-preserved g c =
     let few : c.min-count.result ≤ MOST_BLOCKS_AT_ONCE = omega (arith, c.min-count.ensures) in
     let within : c.loop-at.at + c.min-count.result ≤ c.args.last = omega (arith, c.min-count.ensures, c.loop-at-test.true) in
     let some : 1 ≤ c.min-count.result = omega (arith, c.min-count.ensures, c.loop-at-test.true) in
-    zeroing_goes_on (g.B.Bank.honest c.args.array.now.bank) (g.B.Bank.honest c.loop-at.array.bank) c.args.map.now c.args.volume c.args.first c.args.last c.loop-at.at c.min-count.result
+    zeroing_goes_on (g.B.Bank.honest c.args.array.now.bank) (g.B.Bank.honest c.loop-at.array.bank) c.args.map.now c.args.volume c.args.first c.args.last
+    c.loop-at.at c.min-count.result
     (take c.min-count.result (replicate MOST_BLOCKS_AT_ONCE (replicate 512 0))) _ _ _ (some_zeros c.min-count.result few) within some c.loop-at.invariant
-    (g.met.B.Bank.true_to c.loop-at.array.bank) (g.B.Bank.honest c.write_blocks.new.array.bank) c.in_ok-write_blocks.ensures.honest.0 c.in_ok-write_blocks.ensures.honest.1
+    (g.met.B.Bank.true_to c.loop-at.array.bank) (g.B.Bank.honest c.write_blocks.new.array.bank) c.in_ok-write_blocks.ensures.honest.0
+    c.in_ok-write_blocks.ensures.honest.1
     c.in_ok-write_blocks.ensures.changes
 
 pub returns-clause-honest : goal.returns-clause-honest
@@ -65,7 +71,8 @@ returns-clause-honest g c = (c.loop-at.invariant.forth, c.loop-at.invariant.back
 pub returns-clause-changes : goal.returns-clause-changes
 returns-clause-changes g c =
     let same : c.loop-at.at ≡ c.args.last = omega (arith, c.loop-at-test.false, c.loop-at.invariant.most) in
-    subst (λ (at : ℕ). ChangesList (g.B.Bank.honest c.args.array.now.bank) (at - c.args.first) (IsPartlyZero EXTENT_SECTORS c.args.map.now c.args.volume c.args.first c.args.last)
+    subst (λ (at : ℕ). ChangesList (g.B.Bank.honest c.args.array.now.bank) (at - c.args.first)
+    (IsPartlyZero EXTENT_SECTORS c.args.map.now c.args.volume c.args.first c.args.last)
     (IsZeroed EXTENT_SECTORS c.args.map.now c.args.volume c.args.first at)
     (array_view c.args.array.now)
     (array_view c.loop-at.array) (Ok tt)) same c.loop-at.invariant.changes

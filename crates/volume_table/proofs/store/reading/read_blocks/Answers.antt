@@ -31,7 +31,8 @@ returns-in_err-read-clause-changes g c =
     let mid = array_view c.loop-i.array in
     let new = array_view c.read.new.self in
     let p = err_from_is_err_and c.from_residual.result c.from_residual.ensures.1 in
-    rw (p.1, p.2) (read_on (g.B.Bank.honest c.args.array.now.bank) (g.B.Bank.honest c.loop-i.array.bank) c.loop-i.invariant.honest c.where_is.result old mid new c.read.new.to
+    rw (p.1, p.2) (read_on (g.B.Bank.honest c.args.array.now.bank) (g.B.Bank.honest c.loop-i.array.bank) c.loop-i.invariant.honest c.where_is.result old mid new
+    c.read.new.to
     (Err c.in_err-read.field-0.0) (λ fair. g.met.B.Bank.true_to _ (c.loop-i.invariant.honest fair)) c.loop-i.invariant.changes c.in_err-read.ensures.reads)
 
 pub loop-i-preserved : goal.loop-i-preserved
@@ -43,11 +44,13 @@ loop-i-preserved g c =
     record {
       honest = λ fair. c.read.ensures.honest.0 (c.loop-i.invariant.honest fair);
       still = λ fair. c.loop-i.invariant.still (c.read.ensures.honest.1 fair);
-      changes = read_on (g.B.Bank.honest c.args.array.now.bank) (g.B.Bank.honest c.loop-i.array.bank) c.loop-i.invariant.honest c.where_is.result old mid new c.read.new.to (Ok tt)
+      changes = read_on (g.B.Bank.honest c.args.array.now.bank) (g.B.Bank.honest c.loop-i.array.bank) c.loop-i.invariant.honest c.where_is.result old mid new
+          c.read.new.to (Ok tt)
           (λ fair. g.met.B.Bank.true_to _ (c.loop-i.invariant.honest fair)) c.loop-i.invariant.changes c.in_ok-read.ensures.reads;
       gives = λ fair lost V rests. one_more_block c.args.map.now c.args.volume c.args.at c.loop-i.i c.where_is.result c.loop-i.to V c.read.new.to within
           (c.loop-i.invariant.gives fair lost V rests) c.where_is.ensures
-          (read_gives (g.B.Bank.honest c.args.array.now.bank) (g.B.Bank.honest c.loop-i.array.bank) c.loop-i.invariant.honest c.where_is.result old mid new c.read.new.to c.loop-i.invariant.changes
+          (read_gives (g.B.Bank.honest c.args.array.now.bank) (g.B.Bank.honest c.loop-i.array.bank) c.loop-i.invariant.honest c.where_is.result old mid new
+          c.read.new.to c.loop-i.invariant.changes
           c.in_ok-read.ensures.reads fair lost V rests);
     }
 

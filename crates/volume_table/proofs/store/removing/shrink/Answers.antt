@@ -9,11 +9,13 @@ use Rattle.volume_table.proofs.store.removing.shrink.Goals as goal
 pub set-requires-clause-is_table : goal.set-requires-clause-is_table
 set-requires-clause-is_table g c =
     let geometry = c.args.array.now.table.geometry in
-    shrunk_is_table (extents_in geometry) c.args.table.now c.args.map.now c.give_back.new.self c.args.volume (extents_most geometry.members geometry.chunk geometry.stripes) c.requires.kept c.requires.of_table c.give_back.ensures
+    shrunk_is_table (extents_in geometry) c.args.table.now c.args.map.now c.give_back.new.self c.args.volume
+    (extents_most geometry.members geometry.chunk geometry.stripes) c.requires.kept c.requires.of_table c.give_back.ensures
 
 pub returns-clause-kept : goal.returns-clause-kept
 returns-clause-kept g c =
-    kept_after c.args.array.now.table.geometry c.put_table.new.array.table.geometry c.args.table.now c.set.new.self c.args.map.now c.give_back.new.self c.requires.kept c.give_back.ensures.extents c.set.ensures.extents
+    kept_after c.args.array.now.table.geometry c.put_table.new.array.table.geometry c.args.table.now c.set.new.self c.args.map.now c.give_back.new.self
+    c.requires.kept c.give_back.ensures.extents c.set.ensures.extents
     (c.put_table.ensures.changes c.args.table.now c.spelled-before.ensures (sym c.set.ensures.version)).goes_on.not_older.same_geometry
 
 pub set-requires-clause-of_table : goal.set-requires-clause-of_table
@@ -22,7 +24,12 @@ set-requires-clause-of_table g c = c.requires.of_table
 pub set-requires-clause-most : goal.set-requires-clause-most
 set-requires-clause-most g c =
     let geometry = c.args.array.now.table.geometry in
-    omega (arith, c.give_back.ensures.extents, kept_sized (extents_in geometry) c.args.table.now c.args.map.now c.requires.kept, extents_most geometry.members geometry.chunk geometry.stripes)
+    omega (
+      arith,
+      c.give_back.ensures.extents,
+      kept_sized (extents_in geometry) c.args.table.now c.args.map.now c.requires.kept,
+      extents_most geometry.members geometry.chunk geometry.stripes,
+    )
 
 pub returns-clause-honest : goal.returns-clause-honest
 returns-clause-honest g c = c.put_table.ensures.honest

@@ -13,7 +13,8 @@ pub loop-number-preserved : goal.loop-number-preserved
 loop-number-preserved c = elim c.if-ne.branch [
   | then-ne w ↦ changed_more c.loop-number.number c.args.before.now c.args.after.now c.loop-number.sectors.items c.if-ne.sectors.items c.loop-number.invariant
       (ap (λ (those : ArrayVec (ℕ × List ℕ)). those.items) w.sectors-is ∙ w.push.ensures.items)
-  | else-ne w ↦ subst (AreChangedBelow (c.loop-number.number + 1) c.args.before.now c.args.after.now) (sym (ap (λ (those : ArrayVec (ℕ × List ℕ)). those.items) w.sectors-is))
+  | else-ne w ↦ subst (AreChangedBelow (c.loop-number.number + 1) c.args.before.now c.args.after.now)
+      (sym (ap (λ (those : ArrayVec (ℕ × List ℕ)). those.items) w.sectors-is))
       (same_more c.loop-number.number c.args.before.now c.args.after.now c.loop-number.sectors.items c.loop-number.invariant
       (sym (same_text _ _ (sym (not-false _ (sym c.ne.ensures ∙ w.if-ne.false))))))
 ]

@@ -18,7 +18,8 @@ commit-requires g c =
 
 pub returns-clause-changes : goal.returns-clause-changes
 returns-clause-changes g c = λ first begins same.
-    puts_table (g.B.Bank.honest c.args.array.now.bank) c.args.before.now c.spelled.result first c.args.table.now c.changed-sectors.result.items c.deref.result.now _ _ c.commit.result
+    puts_table (g.B.Bank.honest c.args.array.now.bank) c.args.before.now c.spelled.result first c.args.table.now c.changed-sectors.result.items
+    c.deref.result.now _ _ c.commit.result
     c.changed-sectors.ensures c.spelled.ensures c.deref.ensures.0 c.commit.ensures.commits begins same
 
 pub returns-then-is_empty-clause-entry : goal.returns-then-is_empty-clause-entry

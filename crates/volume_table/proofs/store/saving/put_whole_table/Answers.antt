@@ -11,7 +11,8 @@ commit-requires g c =
 
 pub returns-clause-changes : goal.returns-clause-changes
 returns-clause-changes g c = λ first.
-    puts_whole_table (g.B.Bank.honest c.args.array.now.bank) c.spelled.result first c.args.table.now c.numbered.result.items c.deref.result.now _ _ c.commit.result
+    puts_whole_table (g.B.Bank.honest c.args.array.now.bank) c.spelled.result first c.args.table.now c.numbered.result.items c.deref.result.now _ _
+    c.commit.result
     c.numbered.ensures c.spelled.ensures c.deref.ensures.0 c.commit.ensures.commits
 
 pub returns-clause-entry : goal.returns-clause-entry

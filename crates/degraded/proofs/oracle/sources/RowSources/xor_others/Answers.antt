@@ -15,7 +15,8 @@ loop-other-preserved c = λ row.
     let known = λ (other : ℕ). unwrap_or (direct (rows_of_sources c.args.self.now) row other) zero_sector in
     let so_far = c.loop-other.invariant row in
     elim c.if-other-member.branch [
-      | then-other-member w ↦ w.to-is ∙ w.xor_known.ensures row ∙ ap (λ s. xor_of s (known c.loop-other.other)) so_far ∙ sym (xor_others-more known c.args.member c.loop-other.other w.if-other-member.true)
+      | then-other-member w ↦ w.to-is ∙ w.xor_known.ensures row ∙ ap (λ s. xor_of s (known c.loop-other.other)) so_far
+          ∙ sym (xor_others-more known c.args.member c.loop-other.other w.if-other-member.true)
       | else-other-member w ↦ w.to-is ∙ so_far ∙ sym (xor_others-same known c.args.member c.loop-other.other w.if-other-member.false)
     ]
 

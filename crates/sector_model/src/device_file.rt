@@ -48,31 +48,72 @@ pub trait DeviceFile {
         ensures { IsTrue tells → OnOk result (IsSynced (told self.old) (told self.new)) };
 }
 
-/// A file of the system, which tells nothing.
+/// What has an open file of the system: the file itself, or a reference to it.
+pub trait HasFile {
+    /// The open file.
+    type File: OpenFile + FileExt;
+
+    /// The file that it has.
+    ghost has: { Self → Self.File };
+
+    /// Lends the file.
+    fn file(&self) -> &Self::File
+        ensures { result.now ≡ has self.now };
+}
+
+/// An open file that is closed with this value.
 #[derive(Drop)]
-pub struct SystemFile<F> {
+pub struct OwnedFile<F> {
+    /// The file.
     pub file: F,
 }
 
-impl<F: OpenFile + FileExt> DeviceFile for SystemFile<F> {
+impl<F: OpenFile + FileExt> HasFile for OwnedFile<F> {
+    type File = F;
+
+    ghost has = { λ owned. owned.file };
+
+    fn file(&self) -> &F {
+        &self.file
+    }
+}
+
+impl<F: OpenFile + FileExt> HasFile for &F {
+    type File = F;
+
+    ghost has = { λ reference. reference.now };
+
+    fn file(&self) -> &F {
+        self
+    }
+}
+
+/// A file of the system, which tells nothing.
+#[derive(Drop)]
+pub struct SystemFile<O> {
+    /// What has the file.
+    pub of: O,
+}
+
+impl<O: HasFile> DeviceFile for SystemFile<O> {
     ghost tells = { false };
 
     ghost told = { λ _. record { size = 0; byte = λ _. 0; safe = λ _. 0 } };
 
     fn size(&self) -> io::Result<u64> {
-        Ok(self.file.metadata()?.len())
+        Ok(self.of.file().metadata()?.len())
     }
 
     fn read_part(&mut self, place: u64, to: &mut [u8]) -> io::Result<usize> {
-        self.file.read_at(to, place)
+        self.of.file().read_at(to, place)
     }
 
     fn write_part(&mut self, place: u64, from: &[u8]) -> io::Result<usize> {
-        self.file.write_at(from, place)
+        self.of.file().write_at(from, place)
     }
 
     fn sync(&mut self) -> io::Result<()> {
-        self.file.sync_data()
+        self.of.file().sync_data()
     }
 }
 

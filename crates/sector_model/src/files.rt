@@ -10,7 +10,7 @@ ghost use Rattle.sector_model.specs.Files.{file_at};
 mod in_memory;
 
 use crate::device_file::{read_whole, write_whole};
-use crate::{Bank, DeviceFile, Down, NoRecord, Refusal, RunRecord, Sector, SystemFile};
+use crate::{Bank, DeviceFile, Down, NoRecord, OwnedFile, Refusal, RunRecord, Sector, SystemFile};
 use std::alloc::{AllocError, Global};
 use std::fs::{Files, OpenFile, OpenOptions};
 use std::io;
@@ -177,20 +177,22 @@ impl<F: DeviceFile + Drop> Slot<F> {
 }
 
 // The file of a path, opened for reading and writing, where there is one that can be.
-fn open_file<R: Files>(rt: &R, path: &str) -> Option<SystemFile<R::File>> {
+fn open_file<R: Files>(rt: &R, path: &str) -> Option<SystemFile<OwnedFile<R::File>>> {
     let file = OpenOptions::new()
         .read(true)
         .write(true)
         .open(rt, path)
         .ok()?;
-    Some(SystemFile { file })
+    Some(SystemFile {
+        of: OwnedFile { file },
+    })
 }
 
 // The files of a folder.
 fn open_files<R: Files + AllocGlobal>(
     rt: &R,
     folder: &str,
-) -> Result<Vec<Option<SystemFile<R::File>>>, AllocError>
+) -> Result<Vec<Option<SystemFile<OwnedFile<R::File>>>>, AllocError>
     ensures { IfOk result (λ files. vec_len files ≡ 10) }
 {
     let mut files = Vec::with_capacity(rt.alloc(), SLOTS as usize)?;
@@ -201,20 +203,21 @@ fn open_files<R: Files + AllocGlobal>(
     Ok(files)
 }
 
-impl<F: OpenFile + FileExt + Drop> FileBank<SystemFile<F>> {
+impl<F: OpenFile + FileExt + Drop> FileBank<SystemFile<OwnedFile<F>>> {
     /// Opens the files of a folder, each once and for reading and writing. None is created or cut. A file
     /// that is absent, that can't be opened or whose length can't be told leaves a slot without a device,
     /// so a folder that does not exist leaves ten. `Memory` where an allocation was refused.
     pub fn open<R: Files<File = F> + AllocGlobal>(
         rt: &R,
         folder: &str,
-    ) -> Result<FileBank<SystemFile<F>>, Refusal>
+    ) -> Result<FileBank<SystemFile<OwnedFile<F>>>, Refusal>
         ensures devices { IfOk result (λ bank.
-            (⟦<FileBank<SystemFile<F>, NoRecord> as Bank>⟧.panel bank).devices ≡ 10) }
-        ensures calls { IfOk result (λ bank. (⟦<FileBank<SystemFile<F>, NoRecord> as Bank>⟧.panel bank).calls ≡ 0) }
+            (⟦<FileBank<SystemFile<OwnedFile<F>>, NoRecord> as Bank>⟧.panel bank).devices ≡ 10) }
+        ensures calls { IfOk result (λ bank.
+            (⟦<FileBank<SystemFile<OwnedFile<F>>, NoRecord> as Bank>⟧.panel bank).calls ≡ 0) }
         ensures absent { IfOk result (λ bank. (d : ℕ)
-            → (⟦<FileBank<SystemFile<F>, NoRecord> as Bank>⟧.panel bank).down d ≡ true
-            → (⟦<FileBank<SystemFile<F>, NoRecord> as Bank>⟧.panel bank).sectors d ≡ 0) }
+            → (⟦<FileBank<SystemFile<OwnedFile<F>>, NoRecord> as Bank>⟧.panel bank).down d ≡ true
+            → (⟦<FileBank<SystemFile<OwnedFile<F>>, NoRecord> as Bank>⟧.panel bank).sectors d ≡ 0) }
         ensures synced { IfOk result (λ bank. (d : ℕ) → (slot_at bank.slots.items d).is_synced ≡ true) }
         ensures err { IfErr result (λ refusal. refusal ≡ Refusal.Memory) }
     {

@@ -19,7 +19,7 @@ mod testing;
 pub use bank::Bank;
 pub use calls::{GREATEST_COUNT, flush_device, read_sector, write_sector};
 pub use choice::Choice;
-pub use device_file::{DeviceFile, SystemFile};
+pub use device_file::{DeviceFile, HasFile, OwnedFile, SystemFile};
 pub use event::Event;
 pub use files::FileBank;
 pub use mem_file::MemFile;

@@ -3,7 +3,7 @@ use crate::testing::Step::{
     Flushes, NoFlush, NoRead, NoWrite, Now, Reads, ReadsRising, Shows, Writes, WritesRising,
 };
 use crate::testing::{Step, image_of, play, same};
-use crate::{Bank, NoRecord, SystemFile};
+use crate::{Bank, NoRecord, OwnedFile, SystemFile};
 use std::cell::Cell;
 use std::fs::{File, Metadata, OpenFile, OpenOptions};
 use std::os::unix::fs::FileExt;
@@ -114,11 +114,15 @@ impl OpenFile for FakeFile<'_> {
 fn fake_bank<'a>(
     rt: &(impl Abort + AllocGlobal),
     fake: &'a Fake,
-) -> FileBank<SystemFile<FakeFile<'a>>> {
+) -> FileBank<SystemFile<OwnedFile<FakeFile<'a>>>> {
     let mut files = Vec::new(rt.alloc());
     for _ in 0..10 {
         let file = FakeFile { fake };
-        files.push(Some(SystemFile { file })).expect(rt, "memory");
+        files
+            .push(Some(SystemFile {
+                of: OwnedFile { file },
+            }))
+            .expect(rt, "memory");
     }
     assert!(rt; files.len() == 10);
     FileBank::over(rt.alloc(), files, NoRecord).expect(rt, "memory")

@@ -1,5 +1,5 @@
 use Rattle.std.proofs.lemmas.Result.{err_from_is_err_and}
-use Rattle.sector_model.proofs.files.FileBank+SystemFile+F.open.Goals as goal
+use Rattle.sector_model.proofs.files.FileBank+SystemFile+OwnedFile+F.open.Goals as goal
 
 pub returns-in_err-open_files-clause-devices : goal.returns-in_err-open_files-clause-devices
 returns-in_err-open_files-clause-devices g c = rw (err_from_is_err_and c.from_residual.result c.from_residual.ensures.1).1 tt

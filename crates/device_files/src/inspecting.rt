@@ -9,7 +9,7 @@ use super::opening::file_or_reason;
 use super::paths::Paths;
 use super::slot_files::OpenFault;
 use super::{Before, DeviceFiles, FolderFault, SLOTS, SystemFolders, path_of};
-use sector_model::{Bank, DeviceFile, FileBank, NoRecord, Refusal};
+use sector_model::{Bank, DeviceFile, FileBank, NoRecord, Refusal, SystemFile};
 use std::alloc::{AllocError, Global};
 use std::fs::{OpenFile, OpenOptions};
 use std::io::{self, ErrorKind};
@@ -30,25 +30,23 @@ pub trait InspectFiles {
         ensures inspected { inspects self.now path.now result };
 }
 
-/// A file of the system, which tells nothing. It is read, and never written.
+/// A file that is read, and never written.
 #[derive(Drop)]
-pub struct ReadOnlyFile<'a, F> {
-    file: &'a F,
+pub struct ReadOnlyFile<F> {
+    file: F,
 }
 
-impl<F: OpenFile + FileExt> DeviceFile for ReadOnlyFile<'_, F> {
-    ghost use Rattle.std.specs.Prelude.{false};
+impl<F: DeviceFile> DeviceFile for ReadOnlyFile<F> {
+    ghost tells = { F.tells };
 
-    ghost tells = { false };
-
-    ghost told = { λ _. record { size = 0; byte = λ _. 0; safe = λ _. 0 } };
+    ghost told = { λ read. F.told read.file };
 
     fn size(&self) -> io::Result<u64> {
-        Ok(self.file.metadata()?.len())
+        self.file.size()
     }
 
     fn read_part(&mut self, place: u64, to: &mut [u8]) -> io::Result<usize> {
-        self.file.read_at(to, place)
+        self.file.read_part(place, to)
     }
 
     fn write_part(&mut self, _place: u64, _from: &[u8]) -> io::Result<usize> {
@@ -134,11 +132,13 @@ fn inspect_slot<D: InspectFiles>(
 }
 
 // The file of a slot, to be read.
-fn read_one<'a, F>(slot: &'a Option<F>) -> Option<ReadOnlyFile<'a, F>>
+fn read_one<'a, F>(slot: &'a Option<F>) -> Option<ReadOnlyFile<SystemFile<&'a F>>>
     ensures { is_some result ≡ is_some slot.now }
 {
     match slot {
-        Some(file) => Some(ReadOnlyFile { file }),
+        Some(file) => Some(ReadOnlyFile {
+            file: SystemFile { of: file },
+        }),
         None => None,
     }
 }
@@ -147,7 +147,7 @@ fn read_one<'a, F>(slot: &'a Option<F>) -> Option<ReadOnlyFile<'a, F>>
 fn read_all<'a, F>(
     alloc: Global,
     files: &'a [Option<F>],
-) -> Result<Vec<Option<ReadOnlyFile<'a, F>>>, AllocError>
+) -> Result<Vec<Option<ReadOnlyFile<SystemFile<&'a F>>>>, AllocError>
 where
     F: OpenFile + FileExt + Drop,
     ensures { IfOk result (λ inspected. map is_some inspected.items ≡ map is_some files.now) }
@@ -166,11 +166,11 @@ where
 pub fn bank_to_read<'a, F>(
     alloc: Global,
     files: &'a DeviceFiles<F>,
-) -> Result<FileBank<ReadOnlyFile<'a, F>>, Refusal>
+) -> Result<FileBank<ReadOnlyFile<SystemFile<&'a F>>>, Refusal>
 where
     F: OpenFile + FileExt + Drop,
     ensures devices { IfOk result (λ bank.
-        (⟦<FileBank<ReadOnlyFile<'a, F>, NoRecord> as Bank>⟧.panel bank).devices ≡ 10) }
+        (⟦<FileBank<ReadOnlyFile<SystemFile<&'a F>>, NoRecord> as Bank>⟧.panel bank).devices ≡ 10) }
     ensures err { IfErr result (λ refusal. refusal ≡ Memory) }
 {
     FileBank::over(alloc, read_all(alloc, &files.files)?, NoRecord)

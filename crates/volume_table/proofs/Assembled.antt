@@ -11,6 +11,7 @@ use Rattle.sector_model.specs.Bank.{Panel}
 use Rattle.sector_model.specs.History.{After, Began, Bytes, History, Slots, calls_of, cut_at, is_down}
 use Rattle.sector_model.specs.Moments.{Throughout}
 use Rattle.sector_model.specs.Readable.{readable}
+use Rattle.sector_model.specs.Reads.{HasRead}
 use Rattle.sector_model.proofs.Readable.{readable_left}
 use Rattle.sector_model.proofs.Steps.{throughout_cut, throughout_last, throughout_more}
 use Rattle.superblock.specs.declared.table.Table.{Table}
@@ -26,6 +27,7 @@ use Rattle.array_io.proofs.Laws.Begun.{chosen_is_one}
 use Rattle.array_io.proofs.Images.Codecs.{spellings}
 use Rattle.array_io.proofs.Images.Counting.{none_is_out}
 use Rattle.array_io.proofs.Images.Put.{put_elsewhere, put_there}
+use Rattle.recovery.proofs.AssembledReads.{read_holds, read_throughout}
 use Rattle.recovery.specs.Making as recovery
 use Rattle.recovery.specs.Making.{Opened, Outcome, Returned, bank_after}
 use Rattle.recovery.specs.Assembling.{Assembles, IsNoAssembly, IsOfAssembly, IsTwoLostThen, MayAssemble}
@@ -208,6 +210,14 @@ pub assembling_holds : (made : Table) (devices : ℕ) (maps : List VolumeMap) (w
 assembling_holds made devices maps world panel outcome of_bank safe assembles =
     subst (λ (d : ℕ). HoldsThroughout safe.base d world.fate.lost safe.stands.lists (Began world.image) (bank_after outcome).history) of_bank
     (assembles.moments tt safe.base world.fate.lost safe.stands.lists safe.not_older.same_id (may_start made devices maps world panel of_bank safe))
+
+-- reads leave what holds
+pub reading_holds : (made : Table) (devices : ℕ) (maps : List VolumeMap) (world : World) (h : History) (safe : IsSafe made devices maps world)
+    → HasRead (Began world.image) h → HoldsThroughout safe.base devices world.fate.lost safe.stands.lists (Began world.image) h
+reading_holds made devices maps world h safe reads =
+    let begun = a_run_begins safe.base devices world.image world.fate.lost safe.stands.lists safe.stands.holds in
+    throughout_more (λ g is. read_holds spellings devices safe.base world.fate.lost safe.stands.lists (Began world.image) g begun.nothing_pending is begun.holds)
+    h (read_throughout reads)
 
 pub assembling_stands : (made : Table) (devices : ℕ) (maps : List VolumeMap) (world : World) (h : History) (safe : IsSafe made devices maps world)
     → HoldsThroughout safe.base devices world.fate.lost safe.stands.lists (Began world.image) h

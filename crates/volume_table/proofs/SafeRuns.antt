@@ -31,10 +31,10 @@ use Rattle.volume_table.specs.Stands.{StandsNow, StandsThroughout, StoreView, ex
 use Rattle.volume_table.specs.StoreCalls.{GoesThrough, lost_in}
 use Rattle.volume_table.specs.Opening.{IsNoOpening, Opened, Opens, Outcome, Returned, bank_after}
 use Rattle.volume_table.specs.Runs.{Does, Fate, IsAssembled, IsDone, IsServing, Run, Runs, Serving, Session, World, assembled, between_events, in_assembling}
-use Rattle.volume_table.specs.Runs.{in_event, in_opening, next_run, no_more, none_done, then_done, unopened}
+use Rattle.volume_table.specs.Runs.{in_event, in_opening, next_run, no_more, none_done, only_read, then_done, unopened}
 use Rattle.volume_table.specs.Headline.{AreRight, Before, Headline, IsAfterPrefix, IsOpenedUnlessWorn, IsRight, RunKeeps, RunsKeep, SessionKeeps}
 use Rattle.volume_table.specs.Headline.{nothing_before, nothing_lost}
-use Rattle.volume_table.proofs.Assembled.{assembled_unless_worn, assembling_holds, assembling_stands, may_start}
+use Rattle.volume_table.proofs.Assembled.{assembled_unless_worn, assembling_holds, assembling_stands, may_start, reading_holds}
 use Rattle.volume_table.proofs.SingleFailure.{not_two, opening_not_two}
 use Rattle.volume_table.proofs.FreshLemmas.{fresh_set_shows_none}
 use Rattle.volume_table.proofs.Opened.{IsSafeArray, IsSafeStore, holds_readable, rests_on, stands_at_rest, store_after}
@@ -302,6 +302,9 @@ run_keeps : (made : Table) (devices : ℕ) (before : Before) (maps : List Volume
     → IsSafe made devices maps world
     → (run : Run made.id (slots_of made) panel world left) → (later : Before → Type 0) → KeepsLater made devices left later
     → RunKeeps made.id (extents_in made.geometry) (slots_of made) before run later
+run_keeps made devices before maps panel world left each of_bank safe (only_read h reads crashes) later keeps =
+    keeps before maps each (crashes_safe made safe.base devices world.fate.lost maps world.fate (Began world.image) h left safe.not_older safe.replaced
+    (assembling_stands made devices maps world h safe (reading_holds made devices maps world h safe reads)) crashes)
 run_keeps made devices before maps panel world left each of_bank safe (in_assembling outcome assembles crashes) later keeps = (
   assembled_unless_worn made devices maps world panel outcome of_bank safe assembles,
   keeps before maps each (crashes_safe made safe.base devices world.fate.lost maps world.fate (Began world.image) (recovery.bank_after outcome).history left

@@ -17,7 +17,7 @@ use Rattle.volume_table.specs.Stands.{IsSettledOn, StoreView, extents_in}
 use Rattle.volume_table.specs.StoreCalls.{LacksMemory, lost_in}
 use Rattle.volume_table.specs.Opening.{IsNoOpening, Opened, Outcome, Returned}
 use Rattle.volume_table.specs.Runs.{Does, Fate, Run, Runs, Serving, Session, none_done, then_done, World, in_assembling, assembled, unopened, in_opening}
-use Rattle.volume_table.specs.Runs.{between_events, in_event, no_more, next_run, begun_with}
+use Rattle.volume_table.specs.Runs.{between_events, in_event, no_more, next_run, begun_with, only_read}
 
 -- What went before: the volumes that a store was opened with, the events of its run, and how many of them were acknowledged.
 pub record Before : Type 0 where
@@ -82,6 +82,7 @@ SessionKeeps extents slots before (in_event first serving events replies event s
 
 abbrev pub RunKeeps : (id : List ℕ) (extents slots : ℕ) → Before → {panel : Panel} {world left : World} → Run id slots panel world left → (Before → Type 0)
     → Type 0
+RunKeeps id extents slots before (only_read h reads crashes) later = later before
 RunKeeps id extents slots before {panel = panel} {world = world} (in_assembling outcome assembles crashes) later =
     IsAssembledUnlessWorn id slots world.fate.lost (begun_with panel world.image) outcome × later before
 RunKeeps id extents slots before (assembled array fate is session) later = SessionKeeps extents slots before session later

@@ -2,6 +2,7 @@
 use Rattle.std.specs.Prelude.{◌≡◌, ℕ, ◌≤◌, List, [], ◌∷◌, ◌++◌, map, Option, Some, None}
 use Rattle.sector_model.specs.Bank.{IsTrueTo, Panel}
 use Rattle.sector_model.specs.History.{Began, History, MayLeave, Slots, calls_of, cut_at}
+use Rattle.sector_model.specs.Reads.{HasRead}
 use Rattle.superblock.specs.declared.table.Table.{Table}
 use Rattle.superblock.specs.Cases.{Case, IsLostAfter, Lost}
 use Rattle.superblock.specs.Losses.{IsLostAt, IsSingleFailure}
@@ -95,8 +96,9 @@ pub record IsAssembled (id : List ℕ) (slots : ℕ) (panel : Panel) (world : Wo
   pub assembles : Assembles (Unit {0}) id (begun_with panel world.image) (recovery.Opened array)
   pub goes_over : GoesOver slots world.fate.lost world.fate array.table array.history fate
 
--- A run: the crash comes in assembling, or the set is assembled, and then a session.
+-- A run: devices are read alone, and no set is assembled; the crash comes in assembling; or the set is assembled, and then a session.
 pub data Run (id : List ℕ) (slots : ℕ) (panel : Panel) (world left : World) : Type 0 where
+  only_read : (h : History) → HasRead (Began world.image) h → Crashes slots world.fate.lost world.fate (Began world.image) h left → Run id slots panel world left
   in_assembling : (outcome : recovery.Outcome) → Assembles (Unit {0}) id (begun_with panel world.image) outcome
       → Crashes slots world.fate.lost world.fate (Began world.image) (recovery.bank_after outcome).history left → Run id slots panel world left
   assembled : (array : ArrayView) (fate : Fate) → IsAssembled id slots panel world array fate → Session slots array fate left → Run id slots panel world left

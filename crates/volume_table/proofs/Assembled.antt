@@ -27,7 +27,7 @@ use Rattle.array_io.proofs.Laws.Begun.{chosen_is_one}
 use Rattle.array_io.proofs.Images.Codecs.{spellings}
 use Rattle.array_io.proofs.Images.Counting.{none_is_out}
 use Rattle.array_io.proofs.Images.Put.{put_elsewhere, put_there}
-use Rattle.recovery.proofs.AssembledReads.{read_holds, read_throughout}
+use Rattle.recovery.proofs.AssembledLaw.{reads_hold}
 use Rattle.recovery.specs.Making as recovery
 use Rattle.recovery.specs.Making.{Opened, Outcome, Returned, bank_after}
 use Rattle.recovery.specs.Assembling.{Assembles, IsNoAssembly, IsOfAssembly, IsTwoLostThen, MayAssemble}
@@ -216,8 +216,7 @@ pub reading_holds : (made : Table) (devices : ℕ) (maps : List VolumeMap) (worl
     → HasRead (Began world.image) h → HoldsThroughout safe.base devices world.fate.lost safe.stands.lists (Began world.image) h
 reading_holds made devices maps world h safe reads =
     let begun = a_run_begins safe.base devices world.image world.fate.lost safe.stands.lists safe.stands.holds in
-    throughout_more (λ g is. read_holds spellings devices safe.base world.fate.lost safe.stands.lists (Began world.image) g begun.nothing_pending is begun.holds)
-    h (read_throughout reads)
+    reads_hold spellings safe.base devices world.fate.lost safe.stands.lists (Began world.image) h reads begun.nothing_pending begun.holds
 
 pub assembling_stands : (made : Table) (devices : ℕ) (maps : List VolumeMap) (world : World) (h : History) (safe : IsSafe made devices maps world)
     → HoldsThroughout safe.base devices world.fate.lost safe.stands.lists (Began world.image) h

@@ -1,7 +1,9 @@
 pub mod Applied
+pub mod DoneCommands
 pub mod FreshLemmas
 pub mod LineAnswers
 pub mod Inspected
+pub mod InvocationRuns
 pub mod MadeSteps
 pub mod ScriptLaws
 pub mod Scripts

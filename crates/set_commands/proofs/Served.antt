@@ -61,13 +61,13 @@ opens_for honest other old outcome so opens = record {
   cause = λ back refusal is. no_opening_for honest other old back refusal so (opens.cause back refusal is);
 }
 
-answers_for : (honest other : Type 0) (line : List ℕ) (old new : StoreView) (reply : Reply) → (other → honest) → Answers honest line old new reply
+pub answers_for : (honest other : Type 0) (line : List ℕ) (old new : StoreView) (reply : Reply) → (other → honest) → Answers honest line old new reply
     → Answers other line old new reply
 answers_for honest other line old new reply so (inl (command, is)) =
     inl (command, record { short = is.short; says = is.says; applies = applies_for honest other _ old new reply so is.applies })
 answers_for honest other line old new reply so (inr none) = inr none
 
-serves_for : (honest other : Type 0) (lines : List (List ℕ)) (replies : List Reply) (old new : StoreView) → (other → honest)
+pub serves_for : (honest other : Type 0) (lines : List (List ℕ)) (replies : List Reply) (old new : StoreView) → (other → honest)
     → Serves honest lines replies old new → Serves other lines replies old new
 serves_for honest other lines replies old new so none_read = none_read
 serves_for honest other lines replies old new so (then_read mid line reply answers goes serves) =
@@ -143,6 +143,11 @@ opening_is_end refusal (inr (inr ends)) = inr (inr (inr ends))
 pub script_is_end : (refusal : Refusal) → IsScriptRefusal refusal → IsEnd refusal
 script_is_end refusal (inl memory) = inl (inl memory)
 script_is_end refusal (inr other) = inr other
+
+pub opening_not_memory : (refusal : Refusal) → IsOpeningRefusal refusal → refusal ≢ Memory
+opening_not_memory refusal (inl is) memory = cc
+opening_not_memory refusal (inr (inl is)) memory = cc
+opening_not_memory refusal (inr (inr ends)) memory = subst EndsIt memory ends
 
 pub opening_not_writing : (refusal : Refusal) → IsOpeningRefusal refusal → refusal ≡ WriteFault → ⊥
 opening_not_writing refusal (inl none) is = let never : NoSet ≡ WriteFault = sym none ∙ is in cc

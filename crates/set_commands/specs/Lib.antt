@@ -1,6 +1,8 @@
+pub mod DoneLaw
 pub mod Examining
 pub mod Fresh
 pub mod Healths
+pub mod Invocations
 pub mod Progress
 pub mod Run
 pub mod ScriptLaw

@@ -53,6 +53,10 @@ pub record ServesOn (honest : Type 0) (id : List ℕ) (bank : BankView) (Comes :
   pub opened : IsOpened honest id bank first
   pub comes : Comes first last
 
+-- a store was opened on a bank, and nothing was done with it
+abbrev pub OpensOnly : (honest : Type 0) (id : List ℕ) (bank : BankView) → Type 0
+OpensOnly honest id bank = (store : StoreView) × IsOpened honest id bank store
+
 -- a script was served over it to its end
 abbrev pub RunsOn : (honest : Type 0) (id : List ℕ) (bank : BankView) (was is : Streams) → Type 0
 RunsOn honest id bank was is = ServesOn honest id bank (λ first last. HasRun honest first last was is)

@@ -7,7 +7,7 @@ mod progress;
 mod script;
 mod serving;
 
-pub use law::law_of_scripts;
+pub use law::{headline_of_the_program, law_of_invocations, law_of_scripts};
 pub use progress::{Left, Meter, ProgressBank, in_words, percent, time_left};
 pub use script::run_script;
 pub use serving::fresh::serve_fresh;

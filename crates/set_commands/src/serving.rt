@@ -9,7 +9,7 @@ ghost use Rattle.volume_table.specs.OpenStore.{store_view};
 ghost use Rattle.set_commands.specs.Run.{StoppedReading, StoppedWriting, streams};
 ghost use Rattle.set_commands.specs.Healths.{HealthOn};
 ghost use Rattle.set_commands.specs.Serving.{IsEarly, IsEnd, IsNotOpened, IsOpened, IsOpeningRefusal, IsTellEnd};
-ghost use Rattle.set_commands.specs.Serving.{LosesOn, RunsOn, ServesOn, TellsOn, TellsPartOn, told_text};
+ghost use Rattle.set_commands.specs.Serving.{LosesOn, OpensOnly, RunsOn, ServesOn, TellsOn, TellsPartOn, told_text};
 ghost use Rattle.report.specs.Written.{AppendsPart};
 
 mod applying;
@@ -71,6 +71,8 @@ pub fn serve_on<R: BufRead, W: Write, B: Bank + Drop>(
     ensures early { IfErr result (λ refusal. IsEarly refusal → (reader.new ≡ reader.old) × (out.new ≡ out.old)) }
     ensures unopened { IfErr result (λ refusal. (refusal ≡ Refusal.NoSet) ⊎ (refusal ≡ Refusal.BadTable)
         → IsNotOpened (B.honest bank) id (bank_seen B.Bank bank) refusal) }
+    ensures memory { IfErr result (λ refusal. refusal ≡ Refusal.Memory
+        → OpensOnly (B.honest bank) id (bank_seen B.Bank bank)) }
     ensures loss { IfErr result (λ refusal. EndsIt refusal → LosesOn (B.honest bank) id (bank_seen B.Bank bank) refusal
         (streams (R.remaining reader.old) (W.contents out.old)) (streams (R.remaining reader.new) (W.contents out.new))
         ((reader.new ≡ reader.old) × (out.new ≡ out.old))) }
@@ -103,6 +105,8 @@ pub fn tell_on<W: Write, B: Bank + Drop>(
         (TellsOn (B.honest bank) id (bank_seen B.Bank bank) json (W.contents out.old) (W.contents out.new)) }
     ensures end { IfErr result IsTellEnd }
     ensures unwritten { IfErr result (λ refusal. refusal ≢ Refusal.WriteFault → out.new ≡ out.old) }
+    ensures memory { IfErr result (λ refusal. refusal ≡ Refusal.Memory
+        → OpensOnly (B.honest bank) id (bank_seen B.Bank bank)) }
     ensures unopened { IfErr result (λ refusal. refusal ≢ Refusal.Memory → refusal ≢ Refusal.WriteFault
         → IsNotOpened (B.honest bank) id (bank_seen B.Bank bank) refusal) }
     ensures cut { IfErr result (λ refusal. refusal ≡ Refusal.WriteFault

@@ -1,7 +1,7 @@
 use Rattle.std.proofs.lemmas.Result.{err_from_is_err_and, IfErr-weaker, on_ok_weaker}
 use Rattle.std.proofs.Common.{inl, refl}
 use Rattle.set_commands.proofs.FreshLemmas.{read_whole, unchanged_if_early}
-use Rattle.set_commands.proofs.Served.{opening_is_end, opening_not_reading, opening_not_writing, script_is_end, served_opened, served_ran, served_until_loss}
+use Rattle.set_commands.proofs.Served.{opening_is_end, opening_not_memory, opening_not_reading, opening_not_writing, script_is_end, served_opened, served_ran, served_until_loss}
 use Rattle.set_commands.proofs.Served.{served_until_read, served_until_write}
 use Rattle.set_commands.proofs.serving.serve_on.Goals as goal
 
@@ -72,3 +72,11 @@ pub returns-in_err-store-clause-write_fault : goal.returns-in_err-store-clause-w
 returns-in_err-store-clause-write_fault g c =
     let p = err_from_is_err_and c.from_residual.result c.from_residual.ensures.1 in
     rw (p.1, p.2) (λ is. absurd (opening_not_writing _ c.in_err-store.ensures.err is))
+
+pub returns-clause-memory : goal.returns-clause-memory
+returns-clause-memory g c = IfErr-weaker c.run_script.result _ _ (λ refusal end is. (_, c.in_ok-store.ensures.opened)) c.run_script.ensures.err
+
+pub returns-in_err-store-clause-memory : goal.returns-in_err-store-clause-memory
+returns-in_err-store-clause-memory g c =
+    let p = err_from_is_err_and c.from_residual.result c.from_residual.ensures.1 in
+    rw (p.1, p.2) (λ is. absurd (opening_not_memory _ c.in_err-store.ensures.err is))

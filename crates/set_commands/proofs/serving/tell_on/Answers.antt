@@ -1,8 +1,8 @@
 use Rattle.std.proofs.Common.{refl}
-use Rattle.std.proofs.lemmas.Result.{err_from_is_err_and}
+use Rattle.std.proofs.lemmas.Result.{IfErr-weaker, err_from_is_err_and}
 use Rattle.std.specs.Prelude.{Result, Ok, Err, OnOk}
 use Rattle.set_commands.specs.Serving.{StatusOn}
-use Rattle.set_commands.proofs.Served.{opening_is_tell_end, opening_not_writing, status_told, tells_on, tells_part_on, untold_end, untold_for, untold_same}
+use Rattle.set_commands.proofs.Served.{opening_is_tell_end, opening_not_memory, opening_not_writing, status_told, tells_on, tells_part_on, untold_end, untold_for, untold_same}
 use Rattle.set_commands.proofs.serving.tell_on.Goals as goal
 
 pub returns-clause-told : goal.returns-clause-told
@@ -74,3 +74,11 @@ returns-clause-health g c = at_any_rate c.write_status.result (record {
   told = record { store = _; opened = c.in_ok-store.ensures.opened; tells = c.in_ok-status.ensures };
   is = c.assembled.ensures;
 })
+
+pub returns-clause-memory : goal.returns-clause-memory
+returns-clause-memory g c = IfErr-weaker c.write_status.result _ _ (λ refusal end is. (_, c.in_ok-store.ensures.opened)) c.write_status.ensures.err
+
+pub returns-in_err-store-clause-memory : goal.returns-in_err-store-clause-memory
+returns-in_err-store-clause-memory g c =
+    let p = err_from_is_err_and c.from_residual.result c.from_residual.ensures.1 in
+    rw (p.1, p.2) (λ is. absurd (opening_not_memory _ c.in_err-store.ensures.err is))

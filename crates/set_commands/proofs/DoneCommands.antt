@@ -216,4 +216,5 @@ module _ (honest : Type 0) (fair : honest) (id : List ℕ) (bank : BankView) whe
     opened = λ only. record { done = on_bank only.1 none_asked; events_are = refl };
     unopened = none_opened;
     inspected = inspects;
+    read = λ reads. record { done = only_read reads.0 (reads.1 fair); events_are = refl };
   }

@@ -5,7 +5,7 @@ use Rattle.sector_model.specs.declared.refusal.Refusal.{Refusal}
 use Rattle.recovery.specs.Making.{BankView}
 use Rattle.volume_table.specs.declared.status.Status.{Status}
 use Rattle.volume_table.specs.VolumeStep.{Event, OnSet, RebuildStep, Refused, Reply}
-use Rattle.set_commands.specs.Examining.{Inspects}
+use Rattle.set_commands.specs.Examining.{Inspects, ReadsOn}
 use Rattle.set_commands.specs.Invocations.{DoneOn, events_on}
 use Rattle.report.specs.Written.{AppendsPart}
 use Rattle.set_commands.specs.Run.{StoppedByStore, StoppedReading, StoppedWriting, Streams}
@@ -56,6 +56,7 @@ pub record CommandsAreDone (honest : Type 0) (id : List ℕ) (bank : BankView) :
   pub opened : OpensOnly honest id bank → WereDone id bank [] []
   pub unopened : (refusal : Refusal) → IsNotOpened honest id bank refusal → WereDone id bank [] []
   pub inspected : (one : Option (List ℕ)) (json : Bool) (text : List ℕ) → Inspects honest one json bank text → WereDone id bank [] []
+  pub read : ReadsOn honest bank → WereDone id bank [] []
 
 -- So what the contracts say of commands is what invocations are made of.
 abbrev pub CommandsMakeInvocations : Type 0 → Type 0

@@ -5,6 +5,7 @@ pub mod MadeFiles
 pub mod MakeEnds
 pub mod Needs
 pub mod OtherSets
+pub mod Renewed
 pub mod Repaired
 pub mod SentReplies
 pub mod SomeReplies

@@ -1,20 +1,12 @@
 //! Giving a slot a device, on the device files of a folder.
-ghost use Rattle.std.specs.Prelude.{◌≡◌, ◌≢◌, ◌⊎◌, ◌↔◌, ◌<◌, ◌≤◌, IfErr, IfOk, IfSome, IsSome, None, OnOk, false, true};
-ghost use Rattle.std.specs.Io.KnownBytes.{Appends};
-ghost use Rattle.sector_model.specs.declared.refusal.Refusal.{Refusal};
-ghost use Rattle.superblock.specs.declared.state.State.TheVariants.{InSync};
+ghost use Rattle.std.specs.Prelude.{◌≡◌, ◌≢◌, ◌⊎◌, ◌↔◌, ◌<◌, ◌≤◌, ℕ, IfErr, None, OnOk, Ok, Some, false, true};
 ghost use Rattle.superblock.specs.NextTables.{slots_of};
-ghost use Rattle.superblock.specs.Tables.{state_at};
 ghost use Rattle.recovery.specs.SeenBank.{bank_seen};
-ghost use Rattle.volume_table.specs.VolumeStep.{Done};
-ghost use Rattle.report.specs.Replies.{reply_text};
-ghost use Rattle.report.specs.Written.{AppendsPart};
-ghost use Rattle.device_files.specs.declared.FolderFault.{FolderFault};
 ghost use Rattle.device_files.specs.DeviceFiles.{AreOthersKept, IsLinkSynced, IsMissingIn, file_in, slot_path};
 ghost use Rattle.raidtool.specs.FolderFiles.{WereTaken};
 ghost use Rattle.raidtool.specs.Needs.{AreOthersWhole, FindsNeed, IsNeed, IsWhole};
-ghost use Rattle.set_commands.specs.Serving.{IsReplaceEnd};
-ghost use Rattle.raidtool.specs.Done.{IsNeedIn, IsReplacedSlot, IsUndone};
+ghost use Rattle.raidtool.specs.Done.{IsNeedIn, IsUndone};
+ghost use Rattle.raidtool.specs.Replacing.{Replaces};
 ghost use Rattle.raidtool.specs.Stops.{HasPassed, IsBlamed, IsPreparingRefusal, IsSlotFault};
 ghost use Rattle.device_files.specs.SlotCalls.{RenewsSlot};
 
@@ -63,16 +55,10 @@ where
     ensures opened { OnOk result (WereTaken ⟦<Locked<S::File> as Growing>⟧.is_safe
         (λ other. D.opens disk.now (slot_path folder.now other))
         (λ other. other ≡ slot) (λ other. (other ≢ slot) × IsMissingIn id other)) }
-    ensures synced { OnOk result (D.is_safe disk.now folder.now ⊎ D.is_never disk.now folder.now) }
     ensures passed { HasPassed E.contents err.old err.new }
-    ensures replaced { OnOk result (IsReplacedSlot id slot) }
-    ensures written { OnOk result (Appends (W.contents out.old) (W.contents out.new) (reply_text Done)) }
-    ensures fault { IfErr result (IsSlotFault IsReplaceEnd slot) }
-    ensures named { IfErr result (IsBlamed (D.opens disk.now) (D.creates disk.now)
-        ⟦<Locked<S::File> as Growing>⟧.has_failed folder.now) }
-    ensures unwritten { IfErr result (λ fault. fault ≢ FolderFault.Refused Refusal.WriteFault → out.new ≡ out.old) }
-    ensures cut { IfErr result (λ fault. fault ≡ FolderFault.Refused Refusal.WriteFault
-        → AppendsPart (W.contents out.old) (W.contents out.new) (reply_text Done)) }
+    ensures replaces { Replaces (D.is_safe disk.now folder.now ⊎ D.is_never disk.now folder.now)
+        (IsBlamed (D.opens disk.now) (D.creates disk.now) ⟦<Locked<S::File> as Growing>⟧.has_failed folder.now)
+        W.contents id slot out.old out.new result }
 {
     let mut files = open_folder(rt.alloc(), disk, folder)?;
     refuse_barred(&files, slot, slot.saturating_add(1))?;
@@ -109,15 +95,10 @@ where
     S: Files + AllocGlobal,
     S::File: FileExt + Lock,
     D: SlotFiles<File = Locked<S::File>> + FolderSync,
-    ensures synced { OnOk result (D.is_safe disk.now folder.now ⊎ D.is_never disk.now folder.now) }
-    ensures replaced { OnOk result (IsReplacedSlot id slot) }
-    ensures written { OnOk result (Appends (W.contents out.old) (W.contents out.new) (reply_text Done)) }
-    ensures fault { IfErr result (IsSlotFault IsReplaceEnd slot) }
-    ensures named { IfErr result (IsBlamed (D.opens disk.now) (D.creates disk.now)
-        ⟦<Locked<S::File> as Growing>⟧.has_failed folder.now) }
-    ensures unwritten { IfErr result (λ fault. fault ≢ FolderFault.Refused Refusal.WriteFault → out.new ≡ out.old) }
-    ensures cut { IfErr result (λ fault. fault ≡ FolderFault.Refused Refusal.WriteFault
-        → AppendsPart (W.contents out.old) (W.contents out.new) (reply_text Done)) }
+    ensures others { AreOthersKept files.old.files.items files.new.files.items slot }
+    ensures replaces { Replaces (D.is_safe disk.now folder.now ⊎ D.is_never disk.now folder.now)
+        (IsBlamed (D.opens disk.now) (D.creates disk.now) ⟦<Locked<S::File> as Growing>⟧.has_failed folder.now)
+        W.contents id slot out.old out.new result }
 {
     let entry = Entry::new(rt.alloc())?;
     prepare_file(rt.alloc(), disk, folder, id, slot, files)?;
@@ -140,56 +121,22 @@ where
     F: OpenFile + FileExt + Lock + Drop,
     D: SlotFiles<File = Locked<F>> + FolderSync,
     ensures prepared { OnOk result ((IsNeedIn id slot None × (files.new ≡ files.old))
-        ⊎ IsSome (file_in files.new.files.items slot)) }
+        ⊎ ((bytes : ℕ) × IsNeedIn id slot (Some bytes) × RenewsSlot ⟦<Locked<F> as Growing>⟧.tells
+        ⟦<Locked<F> as Growing>⟧.told ⟦<Locked<F> as Growing>⟧.is_safe ⟦<Locked<F> as Growing>⟧.has_failed
+        (D.creates disk.now) folder.now slot bytes files.old.files.items files.new.files.items (Ok tt))) }
     ensures synced { OnOk result (D.is_safe disk.now folder.now ⊎ D.is_never disk.now folder.now) }
+    ensures linked { slot < 10 → OnOk result (IsLinkSynced (D.is_no_link disk.now) (D.leads_to disk.now)
+        (λ folder. D.is_safe disk.now folder ⊎ D.is_never disk.now folder) (slot_path folder.now slot)) }
     ensures others { AreOthersKept files.old.files.items files.new.files.items slot }
     ensures fault { IfErr result (IsSlotFault IsPreparingRefusal slot) }
     ensures named { IfErr result (IsBlamed (D.opens disk.now) (D.creates disk.now)
         ⟦<Locked<F> as Growing>⟧.has_failed folder.now) }
 {
-    match need_over(alloc, files, id, slot)? {
-        Some(bytes) => make_anew(alloc, disk, folder, slot, bytes, files),
-        None => sync_folders(alloc, disk, folder, slot, slot.saturating_add(1)),
+    let need = need_on(&mut bank_over(alloc, files)?, id, slot)?;
+    if let Some(bytes) = need {
+        renew_slot(alloc, disk, folder, slot, bytes, files)?;
     }
-}
-
-// Makes the file of a slot so many zero bytes where it is shorter, and syncs it and the folder.
-fn make_anew<D: SlotFiles + FolderSync>(
-    alloc: Global,
-    disk: &D,
-    folder: &str,
-    slot: u8,
-    bytes: u64,
-    files: &mut DeviceFiles<D::File>,
-) -> Result<(), FolderFault>
-    requires { slot < 10 }
-    ensures made { RenewsSlot D.File.tells D.File.told D.File.is_safe D.File.has_failed (D.creates disk.now)
-        folder.now slot bytes files.old.files.items files.new.files.items result }
-    ensures synced { OnOk result (D.is_safe disk.now folder.now ⊎ D.is_never disk.now folder.now) }
-    ensures linked { OnOk result (IsLinkSynced (D.is_no_link disk.now) (D.leads_to disk.now)
-        (λ folder. D.is_safe disk.now folder ⊎ D.is_never disk.now folder) (slot_path folder.now slot)) }
-    ensures fault { IfErr result (IsSlotFault IsPreparingRefusal slot) }
-    ensures named { IfErr result (IsBlamed (D.opens disk.now) (D.creates disk.now) D.File.has_failed folder.now) }
-{
-    renew_slot(alloc, disk, folder, slot, bytes, files)?;
-    sync_folders(alloc, disk, folder, slot, slot + 1)
-}
-
-// How many bytes the file of a slot gets, if it is made anew, over the files of a folder.
-fn need_over<F>(
-    alloc: Global,
-    files: &DeviceFiles<Locked<F>>,
-    id: [u8; 16],
-    slot: u8,
-) -> Result<Option<u64>, Refusal>
-where
-    F: OpenFile + FileExt + Lock + Drop,
-    ensures needs { IfOk result (IsNeedIn id slot) }
-    ensures end { IfErr result IsPreparingRefusal }
-    ensures slots { IfOk result (λ need. IfSome need (λ _. slot < 10)) }
-{
-    let mut bank = bank_over(alloc, files)?;
-    need_on(&mut bank, id, slot)
+    sync_folders(alloc, disk, folder, slot, slot.saturating_add(1))
 }
 
 // How many bytes the file of a slot gets by the table that the bank's superblocks choose, if it is made anew.
@@ -240,17 +187,9 @@ fn is_whole<B: Bank>(bank: &B, table: &Table, slot: u8) -> bool
     ensures whole { result ≡ true → IsWhole table.now (B.panel bank.now) slot }
     ensures lost { result ≡ false → ¬ IsWhole table.now (B.panel bank.now) slot }
 {
-    is_in_sync(table, slot)
+    table.states[slot as usize] == State::InSync
         && !bank.is_down(slot)
         && bank.sectors(slot) >= least_of(&table.geometry, slot)
-}
-
-// Whether the table calls a slot in sync.
-fn is_in_sync(table: &Table, slot: u8) -> bool
-    requires { slot < slots_of table.now }
-    ensures { result ≡ true ↔ state_at table.now.states slot ≡ InSync }
-{
-    table.states[slot as usize] == State::InSync
 }
 
 #[cfg(test)]

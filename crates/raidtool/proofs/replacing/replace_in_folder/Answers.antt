@@ -1,17 +1,38 @@
-use Rattle.std.proofs.Common.{◌≡◌, ◌≢◌, ◌<◌, ◌≤◌, ◌+◌, ℕ, arith}
+use Rattle.std.proofs.Common.{◌≡◌, ◌≢◌, ◌<◌, ◌≤◌, ◌+◌, List, Option, arith, inl, inr, refl, subst}
 use Rattle.std.proofs.lemmas.Bool.{false≢true}
 use Rattle.std.proofs.lemmas.Result.{err_from_is_err_and}
+use Rattle.sector_model.specs.declared.refusal.Refusal.TheVariants.{WriteFault}
+use Rattle.device_files.specs.declared.FolderFault.{FolderFault}
+use Rattle.device_files.specs.declared.FolderFault.TheVariants.{Refused}
+use Rattle.device_files.specs.declared.Reason.{Reason}
 use Rattle.device_files.specs.DeviceFiles.{IsMissingIn, slot_path}
-use Rattle.raidtool.proofs.Taken.{at_any_rate, barred_blamed, barred_passing, nothing_passed, passing_slot, unsynced_blamed, were_taken}
+use Rattle.device_files.specs.Faults.{IsBarredIn, IsPassingFault, IsUnsyncedIn}
+use Rattle.set_commands.specs.Serving.{IsReplaceEnd}
+use Rattle.raidtool.proofs.Taken.{at_any_rate, barred_blamed, barred_passing, passing_slot, unsynced_blamed, unsynced_slot, were_taken}
 use Rattle.raidtool.proofs.replacing.replace_in_folder.Goals as goal
 
-pub returns-in_err-refuse_unsynced-clause-named : goal.returns-in_err-refuse_unsynced-clause-named
-returns-in_err-refuse_unsynced-clause-named g c =
+-- no file that is passed over is a fault of what is written
+never_written : (barred : List (Option Reason)) → IsPassingFault barred (Refused WriteFault) → ⊥
+never_written barred (inl is) = cc
+never_written barred (inr is) = cc
+
+pub returns-in_err-refuse_unsynced-clause-replaces : goal.returns-in_err-refuse_unsynced-clause-replaces
+returns-in_err-refuse_unsynced-clause-replaces g c =
     let from = err_from_is_err_and c.from_residual-in_err-refuse_unsynced.result c.from_residual-in_err-refuse_unsynced.ensures.1 in
-    rw (from.1, from.2) (unsynced_blamed _ _ _ _ _ (λ other. g.D.SlotFiles.opens c.args.disk.now (slot_path c.args.folder.now other))
-    c.in_ok-files.files.files.items c.in_ok-files.files.unsynced c.in_ok-files.files.barred (g.D.SlotFiles.opens c.args.disk.now)
-    (g.D.SlotFiles.creates c.args.disk.now) c.args.folder.now
-    c.args.slot c.saturating_add-2.result _ c.in_ok-files.ensures.safe c.in_err-refuse_unsynced.ensures.fault)
+    let most : c.saturating_add-2.result ≤ c.args.slot + 1 = omega (arith, c.saturating_add-2.ensures) in
+    rw (from.1, from.2) (record {
+      synced = tt;
+      replaced = tt;
+      written = tt;
+      fault = unsynced_slot IsReplaceEnd c.in_ok-files.files.unsynced c.args.slot c.saturating_add-2.result _ most c.in_err-refuse_unsynced.ensures.fault;
+      blamed = unsynced_blamed _ _ _ _ _ (λ other. g.D.SlotFiles.opens c.args.disk.now (slot_path c.args.folder.now other))
+          c.in_ok-files.files.files.items c.in_ok-files.files.unsynced c.in_ok-files.files.barred (g.D.SlotFiles.opens c.args.disk.now)
+          (g.D.SlotFiles.creates c.args.disk.now) c.args.folder.now
+          c.args.slot c.saturating_add-2.result _ c.in_ok-files.ensures.safe c.in_err-refuse_unsynced.ensures.fault;
+      unwritten = λ _. refl;
+      cut = λ cut. absurd (subst (λ (fault : FolderFault). IsUnsyncedIn c.in_ok-files.files.unsynced c.args.slot c.saturating_add-2.result fault) cut
+          c.in_err-refuse_unsynced.ensures.fault);
+    })
 
 pub returns-clause-opened : goal.returns-clause-opened
 returns-clause-opened g c = at_any_rate c.replace_over-done.result
@@ -29,30 +50,36 @@ returns-clause-opened g c = at_any_rate c.replace_over-done.result
     false≢true (rw (c.in_ok-refuse_barred.ensures.none other from below under) at some) in
     (apart, c.in_ok-pass_over.ensures.missing other under some)))
 
-pub returns-in_err-refuse_barred-clause-fault : goal.returns-in_err-refuse_barred-clause-fault
-returns-in_err-refuse_barred-clause-fault g c =
+pub returns-in_err-refuse_barred-clause-replaces : goal.returns-in_err-refuse_barred-clause-replaces
+returns-in_err-refuse_barred-clause-replaces g c =
     let from = err_from_is_err_and c.from_residual-in_err-refuse_barred.result c.from_residual-in_err-refuse_barred.ensures.1 in
-    rw (from.1, from.2) (passing_slot c.in_ok-files.files.barred c.args.slot _
-    (barred_passing c.in_ok-files.files.barred _ c.in_err-refuse_barred.ensures.fault))
+    let barred = barred_passing c.in_ok-files.files.barred _ c.in_err-refuse_barred.ensures.fault in
+    rw (from.1, from.2) (record {
+      synced = tt;
+      replaced = tt;
+      written = tt;
+      fault = passing_slot c.in_ok-files.files.barred c.args.slot _ barred;
+      blamed = barred_blamed _ _ _ _ _ c.in_ok-files.files.files.items c.in_ok-files.files.unsynced c.in_ok-files.files.barred
+          (g.D.SlotFiles.opens c.args.disk.now) (g.D.SlotFiles.creates c.args.disk.now) c.args.folder.now _ c.in_ok-files.ensures.safe barred;
+      unwritten = λ _. refl;
+      cut = λ cut. absurd (subst (λ (fault : FolderFault). IsBarredIn c.in_ok-files.files.barred fault) cut c.in_err-refuse_barred.ensures.fault);
+    })
 
-pub returns-in_err-refuse_barred-clause-named : goal.returns-in_err-refuse_barred-clause-named
-returns-in_err-refuse_barred-clause-named g c =
-    let from = err_from_is_err_and c.from_residual-in_err-refuse_barred.result c.from_residual-in_err-refuse_barred.ensures.1 in
-    rw (from.1, from.2) (barred_blamed _ _ _ _ _ c.in_ok-files.files.files.items c.in_ok-files.files.unsynced c.in_ok-files.files.barred
-    (g.D.SlotFiles.opens c.args.disk.now) (g.D.SlotFiles.creates c.args.disk.now) c.args.folder.now _ c.in_ok-files.ensures.safe
-    (barred_passing c.in_ok-files.files.barred _ c.in_err-refuse_barred.ensures.fault))
-
-pub returns-in_err-pass_over-clause-fault : goal.returns-in_err-pass_over-clause-fault
-returns-in_err-pass_over-clause-fault g c =
+pub returns-in_err-pass_over-clause-replaces : goal.returns-in_err-pass_over-clause-replaces
+returns-in_err-pass_over-clause-replaces g c =
     let from = err_from_is_err_and c.from_residual-in_err-pass_over.result c.from_residual-in_err-pass_over.ensures.1 in
-    rw (from.1, from.2) (passing_slot c.in_ok-files.files.barred c.args.slot _ c.in_err-pass_over.ensures.fault)
-
-pub returns-in_err-pass_over-clause-named : goal.returns-in_err-pass_over-clause-named
-returns-in_err-pass_over-clause-named g c =
-    let from = err_from_is_err_and c.from_residual-in_err-pass_over.result c.from_residual-in_err-pass_over.ensures.1 in
-    rw (from.1, from.2) (barred_blamed _ _ _ _ _ c.in_ok-files.files.files.items c.in_ok-files.files.unsynced c.in_ok-files.files.barred
-    (g.D.SlotFiles.opens c.args.disk.now) (g.D.SlotFiles.creates c.args.disk.now) c.args.folder.now _ c.in_ok-files.ensures.safe
-    c.in_err-pass_over.ensures.fault)
+    rw (from.1, from.2) (record {
+      synced = tt;
+      replaced = tt;
+      written = tt;
+      fault = passing_slot c.in_ok-files.files.barred c.args.slot _ c.in_err-pass_over.ensures.fault;
+      blamed = barred_blamed _ _ _ _ _ c.in_ok-files.files.files.items c.in_ok-files.files.unsynced c.in_ok-files.files.barred
+          (g.D.SlotFiles.opens c.args.disk.now) (g.D.SlotFiles.creates c.args.disk.now) c.args.folder.now _ c.in_ok-files.ensures.safe
+          c.in_err-pass_over.ensures.fault;
+      unwritten = λ _. refl;
+      cut = λ cut. absurd (never_written c.in_ok-files.files.barred (subst (λ (fault : FolderFault). IsPassingFault c.in_ok-files.files.barred fault) cut
+          c.in_err-pass_over.ensures.fault));
+    })
 
 pub returns-clause-passed : goal.returns-clause-passed
 returns-clause-passed g c = (c.in_ok-files.files.barred, c.in_ok-pass_over.ensures.told)

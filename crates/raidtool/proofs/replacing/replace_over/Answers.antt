@@ -1,4 +1,4 @@
-use Rattle.std.proofs.Common.{◌≡◌, ap, inl, inr}
+use Rattle.std.proofs.Common.{◌≡◌, ap, rules}
 use Rattle.std.proofs.lemmas.Result.{err_from_is_err_and}
 use Rattle.sector_model.specs.declared.refusal.Refusal.{Refusal}
 use Rattle.sector_model.specs.declared.refusal.Refusal.TheVariants.{WriteFault}
@@ -9,18 +9,26 @@ use Rattle.raidtool.proofs.replacing.replace_over.Goals as goal
 of_write : (refusal : Refusal) → Refused refusal ≡ Refused WriteFault → refusal ≡ WriteFault
 of_write refusal cut = cc
 
-pub returns-in_err-apply_on-clause-cut : goal.returns-in_err-apply_on-clause-cut
-returns-in_err-apply_on-clause-cut g c =
+pub returns-in_err-apply_on-clause-replaces : goal.returns-in_err-apply_on-clause-replaces
+returns-in_err-apply_on-clause-replaces g c =
     let from = err_from_is_err_and c.from_residual-in_err-apply_on.result c.from_residual-in_err-apply_on.ensures.1 in
-    rw (from.1, from.2) (λ cut. (replaced_by _ _ _ _ _ (c.in_err-apply_on.ensures.cut (of_write _ cut))).1)
+    record {
+      synced = search rules;
+      replaced = search rules;
+      written = search rules;
+      fault = search rules;
+      blamed = search rules;
+      unwritten = rw (from.1, from.2) (λ apart. c.in_err-apply_on.ensures.unwritten (λ is. apart (ap Refused is)));
+      cut = rw (from.1, from.2) (λ cut. (replaced_by _ _ _ _ _ (c.in_err-apply_on.ensures.cut (of_write _ cut))).1);
+    }
 
-pub returns-in_err-apply_on-clause-unwritten : goal.returns-in_err-apply_on-clause-unwritten
-returns-in_err-apply_on-clause-unwritten g c =
-    let from = err_from_is_err_and c.from_residual-in_err-apply_on.result c.from_residual-in_err-apply_on.ensures.1 in
-    rw (from.1, from.2) (λ apart. c.in_err-apply_on.ensures.unwritten (λ is. apart (ap Refused is)))
-
-pub returns-clause-replaced : goal.returns-clause-replaced
-returns-clause-replaced g c = (_, (replaced_by _ _ _ _ _ c.in_ok-apply_on.ensures.applied).0)
-
-pub returns-clause-written : goal.returns-clause-written
-returns-clause-written g c = (replaced_by _ _ _ _ _ c.in_ok-apply_on.ensures.applied).1
+pub returns-clause-replaces : goal.returns-clause-replaces
+returns-clause-replaces g c = record {
+  synced = search rules;
+  replaced = (_, (replaced_by _ _ _ _ _ c.in_ok-apply_on.ensures.applied).0);
+  written = (replaced_by _ _ _ _ _ c.in_ok-apply_on.ensures.applied).1;
+  fault = search rules;
+  blamed = search rules;
+  unwritten = search rules;
+  cut = search rules;
+}

@@ -26,14 +26,14 @@ returns-in_ok-geometry-in-Make-clause-in_folder g c =
 
 pub returns-in-Replace-clause-in_folder : goal.returns-in-Replace-clause-in_folder
 returns-in-Replace-clause-in_folder g c =
-    rw c.in-Replace.is (both_done _ _ c.replace_in_folder.result c.replace_in_folder.ensures.opened c.replace_in_folder.ensures.synced)
+    rw c.in-Replace.is (both_done _ _ c.replace_in_folder.result c.replace_in_folder.ensures.opened c.replace_in_folder.ensures.replaces.synced)
 
 pub returns-in-Replace-clause-does : goal.returns-in-Replace-clause-does
 returns-in-Replace-clause-does g c =
     rw c.in-Replace.is (replaced_done c.in-Replace.folder c.in-Replace.id c.in-Replace.slot c.replace_in_folder.result
     (streams (g.R.Read.remaining c.args.reader.now) (g.W.Write.contents c.args.out.now))
     (streams (g.R.Read.remaining c.args.reader.now) (g.W.Write.contents c.replace_in_folder.new.out))
-    c.replace_in_folder.ensures.replaced c.replace_in_folder.ensures.written)
+    c.replace_in_folder.ensures.replaces.replaced c.replace_in_folder.ensures.replaces.written)
 
 pub returns-in_default : goal.returns-in_default
 returns-in_default g c =

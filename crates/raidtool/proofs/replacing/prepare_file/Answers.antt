@@ -1,0 +1,38 @@
+use Rattle.std.proofs.Common.{◌≤◌, ◌<◌, ap, arith, inl, inr, subst}
+use Rattle.std.proofs.lemmas.Result.{err_from_is_err_and, on_ok_weaker}
+use Rattle.device_files.specs.DeviceFiles.{file_in}
+use Rattle.raidtool.specs.Done.{IsNeedIn}
+use Rattle.raidtool.proofs.Renewed.{is_none_of, renewed_blamed}
+use Rattle.raidtool.proofs.Taken.{at_any_rate}
+use Rattle.raidtool.proofs.replacing.prepare_file.Goals.{in-Some+in_ok-renew_slot, in_default}
+use Rattle.raidtool.proofs.replacing.prepare_file.Goals as goal
+
+pub returns-in_err-renew_slot-clause-named : goal.returns-in_err-renew_slot-clause-named
+returns-in_err-renew_slot-clause-named g c =
+    let from = err_from_is_err_and c.from_residual-in_err-renew_slot.result c.from_residual-in_err-renew_slot.ensures.1 in
+    rw (from.1, from.2) (renewed_blamed (g.D.SlotFiles.opens c.args.disk.now) (g.D.SlotFiles.creates c.args.disk.now) _ c.args.folder.now c.args.slot
+    c.renew_slot.new.files.files.items _ c.in_err-renew_slot.ensures.fault c.in_err-renew_slot.ensures.blamed c.in_err-renew_slot.ensures.made.unmade)
+
+pub returns-clause-prepared : goal.returns-clause-prepared
+returns-clause-prepared g c =
+    let found : IsNeedIn c.args.id c.args.slot c.in_ok-need.need = (_, _, c.in_ok-need.ensures) in
+    at_any_rate c.sync_folders.result (elim c.match-need.branch [
+      | in-Some+in_ok-renew_slot w ↦ inr (
+        w.in-Some.bytes,
+        subst (IsNeedIn c.args.id c.args.slot) w.in-Some.is found,
+        rw w.files-is w.in_ok-renew_slot.ensures.made,
+      )
+      | in_default w ↦ inl (subst (IsNeedIn c.args.id c.args.slot) (is_none_of c.in_ok-need.need w.in_default.not-Some) found, w.files-is)
+    ])
+
+pub returns-clause-linked : goal.returns-clause-linked
+returns-clause-linked g c = λ under.
+    let from : c.args.slot ≤ c.args.slot = omega arith in
+    let below : c.args.slot < c.saturating_add.result = omega (arith, under, c.saturating_add.ensures) in
+    on_ok_weaker c.sync_folders.result (λ all. all c.args.slot from below) c.sync_folders.ensures.linked
+
+pub returns-clause-others : goal.returns-clause-others
+returns-clause-others g c = elim c.match-need.branch [
+  | in-Some+in_ok-renew_slot w ↦ rw w.files-is w.in_ok-renew_slot.ensures.made.others
+  | in_default w ↦ λ other apart. ap (λ files. file_in files.files.items other) w.files-is
+]

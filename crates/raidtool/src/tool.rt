@@ -14,7 +14,9 @@ ghost use Rattle.raidtool.specs.Done.{DoesOn, IsDone, IsExamined, IsPartExamined
 ghost use Rattle.set_commands.specs.Examining.{IsExamineEnd};
 ghost use Rattle.device_files.specs.Faults.{IsToldLine};
 ghost use Rattle.raidtool.specs.Stops.{HasPassed, IsBlamed, IsInspectionBlamed, IsServeFault, IsTold, IsToldAfter};
+ghost use Rattle.set_commands.specs.DoneLaw.{CommandsMakeInvocations};
 ghost use Rattle.set_commands.specs.Fresh.{RunsFresh};
+ghost use Rattle.set_commands.specs.Invocations.{HeadlineOfTheProgram};
 ghost use Rattle.set_commands.specs.Run.{streams};
 ghost use Rattle.raidtool.specs.Tool.{ComesFirst, IsAsked, IsBlamedIn, IsCutOff, IsDoneIn, IsEndOf, IsEndOfLine};
 ghost use Rattle.raidtool.specs.Tool.{IsFirst, IsMemoryFault, IsMisshapen, IsPartWritten, IsRun, PassesNone, IsServed};
@@ -37,8 +39,8 @@ use layout_map::Geometry;
 use report::replies::{Answer, write_reply, write_text};
 use sector_model::{Bank, Refusal};
 use set_commands::{
-    Health, Meter, ProgressBank, apply_on, examine_on, most_rows, rebuild_on, serve_fresh,
-    serve_on, tell_on,
+    Health, Meter, ProgressBank, apply_on, examine_on, headline_of_the_program, law_of_invocations,
+    most_rows, rebuild_on, serve_fresh, serve_on, tell_on,
 };
 use std::alloc::Global;
 use std::fs::OpenFile;
@@ -78,6 +80,9 @@ where
     S::File: FileExt + Lock,
     D: SlotFiles<File = Locked<S::File>> + InspectFiles + FolderSync,
     ensures status { result ≤ 4 }
+
+    // Of invocations, one after another, each ended by a crash at any moment or after it.
+    ensures headline { HeadlineOfTheProgram }
 
     // 0: it was asked for and done, a script was read to its end, and what the line writes was written.
     ensures done { result ≡ 0 → IsAsked (texts words.now) }
@@ -138,6 +143,7 @@ where
         × (IsTold Refusal.BadGeometry (E.contents err.old) (E.contents err.new)
         ⊎ IsTold Refusal.Memory (E.contents err.old) (E.contents err.new)) }
 {
+    headline_of_the_program();
     if words.is_empty() {
         return status_of(serve_fresh(rt.alloc(), reader, out), err);
     }
@@ -332,6 +338,7 @@ fn do_on<S, B: Bank + Drop, R: BufRead, W: Write>(
 where
     S: Meter + AllocGlobal,
     requires { IsServed line }
+    ensures invocations { CommandsMakeInvocations (B.honest bank) }
     ensures health { OnOk result (HealthOf line.entry (B.honest bank) (bank_seen B.Bank bank) health.old health.new) }
     ensures does { OnOk result (DoesOn line.entry (B.honest bank) (bank_seen B.Bank bank)
         (streams (R.remaining reader.old) (W.contents out.old))
@@ -345,6 +352,7 @@ where
         → IsPartWritten line.entry (W.contents out.old) (W.contents out.new)) }
     ensures beside { ¬ IsRun line.entry → reader.new ≡ reader.old }
 {
+    law_of_invocations(&bank);
     match line {
         Invocation::Run { id, .. } => serve_on(rt.alloc(), bank, entry, id, reader, out),
         Invocation::Status { id, json, .. } => tell_on(

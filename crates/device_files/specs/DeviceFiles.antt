@@ -1,6 +1,7 @@
 -- What the device files of a folder hold, what is noted of them, and what of them is safe.
 use Rattle.std.specs.Prelude.{◌≡◌, ◌≢◌, ◌⊎◌, ℕ, ◌-◌, ◌<◌, ◌≤◌, Bool, false, true, IsSomeAnd, IsTrue, List, ◌++◌, codes, decimal, length, replicate}
 use Rattle.std.specs.Prelude.{slice_index_or, take, Option, Some, None, Result, Ok, Err}
+use Rattle.sector_model.specs.declared.refusal.Refusal.{Refusal}
 use Rattle.superblock.specs.declared.state.State.TheVariants.{Missing}
 use Rattle.superblock.specs.declared.table.Table.{Table}
 use Rattle.superblock.specs.NextTables.{slots_of}
@@ -153,6 +154,10 @@ IsLinkSynced IsNoLink LeadsTo IsSynced path = IsNoLink path ⊎ ((folder : List 
 -- by superblocks on a bank of files, which tell nothing, this is the table of the set of an id, or there is none
 abbrev pub IsTableIn : (id : List ℕ) → Option Table → Type 0
 IsTableIn id table = (old : BankView) × (new : BankView) × FindsTable (IsTrue false) id old new (Ok table)
+
+-- what was sought so was refused for this
+abbrev pub IsNoTableIn : (id : List ℕ) → Refusal → Type 0
+IsNoTableIn id refusal = (old : BankView) × (new : BankView) × FindsTable (IsTrue false) id old new (Err refusal)
 
 -- there is a table, of which this is a slot that it calls missing
 abbrev pub IsMissingBy : Option Table → ℕ → Type 0

@@ -1,10 +1,12 @@
 //! Files of a folder that are there and could not be opened: refused where they are needed, else passed over.
-ghost use Rattle.std.specs.Prelude.{◌≡◌, ◌<◌, ◌≤◌, ◌⊎◌, IfErr, IfOk, IsSome, None, OnErr, OnOk, false, true, ℕ};
+ghost use Rattle.std.specs.Prelude.{◌≡◌, ◌≢◌, ◌<◌, ◌≤◌, ◌⊎◌, IfErr, IfOk, IsSome, None, OnErr, OnOk, false, true, ℕ};
+ghost use Rattle.sector_model.specs.declared.refusal.Refusal.{Refusal};
 ghost use Rattle.sector_model.specs.declared.refusal.Refusal.TheVariants.{Memory, Worn};
 ghost use Rattle.superblock.specs.NextTables.{slots_of};
 ghost use Rattle.superblock.specs.Tables.{state_at};
 ghost use Rattle.superblock.specs.declared.state.State.TheVariants.{Missing};
-ghost use Rattle.device_files.specs.DeviceFiles.{IsMissingBy, IsMissingIn, IsTableIn, barred_in};
+ghost use Rattle.device_files.specs.DeviceFiles.{IsMissingBy, IsMissingIn, IsNoTableIn, IsTableIn, barred_in};
+ghost use Rattle.device_files.specs.declared.FolderFault.{FolderFault};
 ghost use Rattle.device_files.specs.Faults.{IsBarredIn, IsPassingFault, Passes};
 
 use super::{DeviceFiles, FolderFault, Lock, Locked, Reason, SLOTS, bank_over, words_of};
@@ -52,6 +54,8 @@ where
     ensures told { OnOk result (Passes E.contents files.now.barred err.old err.new) }
     ensures quiet { OnErr result (err.new ≡ err.old) }
     ensures fault { IfErr result (IsPassingFault files.now.barred) }
+    ensures cause { IfErr result (λ fault. (refusal : Refusal) → fault ≡ FolderFault.Refused refusal → refusal ≢ Memory
+        → IsNoTableIn id refusal) }
 {
     if refuse_barred(files, 0, SLOTS as u8).is_err() {
         let table = table_over(alloc, files, id)?;
@@ -71,6 +75,7 @@ where
     F: OpenFile + FileExt + Lock + Drop,
     ensures found { IfOk result (IsTableIn id) }
     ensures err { IfErr result (λ refusal. (refusal ≡ Memory) ⊎ (refusal ≡ Worn)) }
+    ensures cause { IfErr result (λ refusal. refusal ≢ Memory → IsNoTableIn id refusal) }
 {
     let mut bank = bank_over(alloc, files)?;
     chosen_table(&mut bank, id)

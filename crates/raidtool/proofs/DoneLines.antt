@@ -23,7 +23,7 @@ use Rattle.raidtool.specs.FolderFiles.{WereTaken}
 use Rattle.device_files.specs.Faults.{fault_line}
 use Rattle.raidtool.specs.Stops.{IsBlamed}
 use Rattle.set_commands.specs.Run.{Streams}
-use Rattle.raidtool.specs.Tool.{IsBlamedIn, IsChecked, IsCutOff, IsDoneIn, IsEndOf, IsEndOfLine, IsFirst, IsMisshapen, IsNone, IsPartWritten, IsStopOf}
+use Rattle.raidtool.specs.Tool.{IsBlamedIn, IsCaused, IsChecked, IsCutOff, IsDoneIn, IsEndOf, IsEndOfLine, IsFirst, IsMisshapen, IsNone, IsPartWritten, IsStopOf}
 use Rattle.raidtool.specs.Tool.{IsWritten, PassesNone, WasRefused, WasStopped, folder_text, id_text}
 use Rattle.command_line.proofs.Asked.{SameInvocation}
 use Rattle.raidtool.proofs.InspectionsTold.{inspections_written}
@@ -168,10 +168,11 @@ pub was_stopped : (words : List Text) (Blamed : Invocation → FolderFault → T
     (Same : Type 0) (fault : FolderFault)
     → AsksFor words line → folder ≡ folder_text line → IsStopOf line fault → Blamed line fault → Told (fault_line folder fault) → (IsFirst fault → Same)
     → ((refusal : Refusal) → fault ≡ Refused refusal → IsChecked line → ¬ IsNone refusal)
+    → ((refusal : Refusal) → fault ≡ Refused refusal → IsCaused line refusal)
     → WasRefused (IsEndOf words) Told Same ⊎ WasStopped words Blamed Told Same
-was_stopped words Blamed line folder Told Same (Refused refusal) asked is stops blamed told alone apart =
-    inl (record { refusal = refusal; ends = inr (inr (line, asked, end_of_line line refusal stops, apart refusal refl)); told = told; alone = alone })
-was_stopped words Blamed line folder Told Same (NoFile slot) asked is stops blamed told alone apart =
+was_stopped words Blamed line folder Told Same (Refused refusal) asked is stops blamed told alone apart cause =
+    inl (record { refusal = refusal; ends = inr (inr (line, asked, end_of_line line refusal stops, apart refusal refl, cause refusal refl)); told = told; alone = alone })
+was_stopped words Blamed line folder Told Same (NoFile slot) asked is stops blamed told alone apart cause =
     inr (record {
       line = line;
       fault = NoFile slot;
@@ -183,7 +184,7 @@ was_stopped words Blamed line folder Told Same (NoFile slot) asked is stops blam
           subst (λ (f : List ℕ). Told (fault_line f (NoFile slot))) is told;
       same = alone tt;
     })
-was_stopped words Blamed line folder Told Same (InUse slot) asked is stops blamed told alone apart =
+was_stopped words Blamed line folder Told Same (InUse slot) asked is stops blamed told alone apart cause =
     inr (record {
       line = line;
       fault = InUse slot;
@@ -195,7 +196,7 @@ was_stopped words Blamed line folder Told Same (InUse slot) asked is stops blame
           subst (λ (f : List ℕ). Told (fault_line f (InUse slot))) is told;
       same = alone tt;
     })
-was_stopped words Blamed line folder Told Same (NotOpened slot reason) asked is stops blamed told alone apart =
+was_stopped words Blamed line folder Told Same (NotOpened slot reason) asked is stops blamed told alone apart cause =
     inr (record {
       line = line;
       fault = NotOpened slot reason;
@@ -206,7 +207,7 @@ was_stopped words Blamed line folder Told Same (NotOpened slot reason) asked is 
       told = subst (λ (f : List ℕ). Told (fault_line f (NotOpened slot reason))) is told;
       same = alone tt;
     })
-was_stopped words Blamed line folder Told Same (NotRegular slot) asked is stops blamed told alone apart =
+was_stopped words Blamed line folder Told Same (NotRegular slot) asked is stops blamed told alone apart cause =
     inr (record {
       line = line;
       fault = NotRegular slot;
@@ -218,7 +219,7 @@ was_stopped words Blamed line folder Told Same (NotRegular slot) asked is stops 
           subst (λ (f : List ℕ). Told (fault_line f (NotRegular slot))) is told;
       same = alone tt;
     })
-was_stopped words Blamed line folder Told Same (NotSafe slot shortage) asked is stops blamed told alone apart =
+was_stopped words Blamed line folder Told Same (NotSafe slot shortage) asked is stops blamed told alone apart cause =
     inr (record {
       line = line;
       fault = NotSafe slot shortage;
@@ -229,7 +230,7 @@ was_stopped words Blamed line folder Told Same (NotSafe slot shortage) asked is 
       told = subst (λ (f : List ℕ). Told (fault_line f (NotSafe slot shortage))) is told;
       same = alone tt;
     })
-was_stopped words Blamed line folder Told Same (OtherSet slot) asked is stops blamed told alone apart =
+was_stopped words Blamed line folder Told Same (OtherSet slot) asked is stops blamed told alone apart cause =
     inr (record {
       line = line;
       fault = OtherSet slot;
@@ -241,7 +242,7 @@ was_stopped words Blamed line folder Told Same (OtherSet slot) asked is stops bl
           subst (λ (f : List ℕ). Told (fault_line f (OtherSet slot))) is told;
       same = alone tt;
     })
-was_stopped words Blamed line folder Told Same NotSynced asked is stops blamed told alone apart =
+was_stopped words Blamed line folder Told Same NotSynced asked is stops blamed told alone apart cause =
     inr (record {
       line = line;
       fault = NotSynced;

@@ -1,3 +1,4 @@
+pub mod Causes
 pub mod Checked
 pub mod DoneLines
 pub mod InspectionsTold

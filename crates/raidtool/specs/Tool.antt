@@ -18,7 +18,7 @@ use Rattle.volume_table.specs.VolumeStep.{Done}
 use Rattle.command_line.specs.Invocations.{AsksFor}
 use Rattle.device_files.specs.DeviceFiles.{IsMissingIn, slot_path}
 use Rattle.raidtool.specs.FolderFiles.{WereOpened, WereTaken}
-use Rattle.raidtool.specs.Done.{IsDone, OfFiles}
+use Rattle.raidtool.specs.Done.{HasCause, IsDone, IsPlainEnd, OfFiles}
 use Rattle.set_commands.specs.Run.{Streams}
 use Rattle.set_commands.specs.Healths.{HealthOn, InspectsHealth}
 use Rattle.set_commands.specs.declared.serving.health.Health.{Health}
@@ -88,10 +88,33 @@ IsNone TwoLost = Unit {0}
 IsNone Worn = Unit {0}
 IsNone refusal = ⊥
 
+-- the line needs no file to be made
+abbrev pub IsServed : Invocation → Type 0
+IsServed (Make folder id members chunk stripes) = ⊥
+IsServed (Replace folder id slot) = ⊥
+IsServed (Examine folder id json check) = ⊥
+IsServed line = Unit {0}
+
+-- the id of the set of a line; of one that may look at each set, none
+abbrev pub id_text : Invocation → List ℕ
+id_text (Run folder id) = id
+id_text (Make folder id members chunk stripes) = id
+id_text (Status folder id json check) = id
+id_text (Fail folder id slot) = id
+id_text (Replace folder id slot) = id
+id_text (Rebuild folder id steps) = id
+id_text (Scrub folder id) = id
+id_text (Upgrade folder id) = id
+id_text (Examine folder id json check) = []
+
+-- a refusal of a line that needs no file to be made has a cause
+abbrev pub IsCaused : Invocation → Refusal → Type 0
+IsCaused line refusal = IsServed line → ¬ IsPlainEnd refusal → HasCause line (id_text line) refusal
+
 -- what these words can be refused with by the exit status 1; a line that asks how well a set is ends otherwise where there is none that could be assembled
 abbrev pub IsEndOf : List Text → Refusal → Type 0
 IsEndOf words refusal = (refusal ≡ Memory) ⊎ (((words ≡ []) × IsFreshEnd refusal)
-    ⊎ ((line : Invocation) × AsksFor words line × IsEndOfLine line refusal × (IsChecked line → ¬ IsNone refusal)))
+    ⊎ ((line : Invocation) × AsksFor words line × IsEndOfLine line refusal × (IsChecked line → ¬ IsNone refusal) × IsCaused line refusal))
 
 -- found before anything is read or written: any other than a fault of the reader or the writer, or the end of a store
 abbrev pub ComesFirst : Refusal → Type 0
@@ -211,18 +234,6 @@ folder_text (Scrub folder id) = folder.now
 folder_text (Upgrade folder id) = folder.now
 folder_text (Examine folder id json check) = folder.now
 
--- the id of the set of a line; of one that may look at each set, none
-abbrev pub id_text : Invocation → List ℕ
-id_text (Run folder id) = id
-id_text (Make folder id members chunk stripes) = id
-id_text (Status folder id json check) = id
-id_text (Fail folder id slot) = id
-id_text (Replace folder id slot) = id
-id_text (Rebuild folder id steps) = id
-id_text (Scrub folder id) = id
-id_text (Upgrade folder id) = id
-id_text (Examine folder id json check) = []
-
 -- The files of a line's folder were opened, and each that was used is safe; or for reading alone where its sets were inspected. The folder was synced where a
 -- set was made, and where a slot was given a device, and no file that is made a part of the set was given up for its sync. One that is there and could not be
 -- opened was passed over only where the set calls its slot missing.
@@ -258,13 +269,6 @@ pub record WasStopped (words : List Text) (Blamed : Invocation → FolderFault �
 pub record IsCutOff (line : Invocation) (out new_out : Option (List ℕ)) (Told : List ℕ → Type 0) : Type 0 where
   pub part : IsPartWritten line out new_out
   pub told : Told (refusal_line WriteFault)
-
--- the line needs no file to be made
-abbrev pub IsServed : Invocation → Type 0
-IsServed (Make folder id members chunk stripes) = ⊥
-IsServed (Replace folder id slot) = ⊥
-IsServed (Examine folder id json check) = ⊥
-IsServed line = Unit {0}
 
 -- the line is to make a set of sizes that none has
 abbrev pub IsMisshapen : Invocation → Type 0
@@ -330,4 +334,4 @@ pub record WasIncomplete (line : Invocation) (was is : Streams) : Type 0 where
 -- it was done, with no fault told, and a set would not be assembled; or none was, which was told
 abbrev pub WasUnassembled : Invocation → (was is : Streams) (Quiet : Type 0) (Told : List ℕ → Type 0) → Type 0
 WasUnassembled line was is Quiet Told = ((IsDone line was is × HasHealth line Complete Unassembled) × Quiet)
-    ⊎ ((refusal : Refusal) × IsNone refusal × Told (refusal_line refusal))
+    ⊎ ((refusal : Refusal) × IsNone refusal × IsCaused line refusal × Told (refusal_line refusal))

@@ -10,7 +10,7 @@ ghost use Rattle.device_files.specs.declared.FolderFault.{FolderFault};
 ghost use Rattle.command_line.specs.Invocations.{AsksFor, IsFaultOf};
 ghost use Rattle.device_files.specs.DeviceFiles.{IsMissingIn, slot_path};
 ghost use Rattle.raidtool.specs.FolderFiles.{WereOpened, WereTaken};
-ghost use Rattle.raidtool.specs.Done.{DoesOn, IsDone, IsExamined, IsPartExamined};
+ghost use Rattle.raidtool.specs.Done.{DoesOn, IsCauseOn, IsDone, IsExamined, IsPartExamined, IsPlainEnd};
 ghost use Rattle.set_commands.specs.Examining.{IsExamineEnd};
 ghost use Rattle.device_files.specs.Faults.{IsToldLine};
 ghost use Rattle.raidtool.specs.Stops.{HasPassed, IsBlamed, IsInspectionBlamed, IsServeFault, IsTold, IsToldAfter};
@@ -18,7 +18,7 @@ ghost use Rattle.set_commands.specs.DoneLaw.{CommandsMakeInvocations};
 ghost use Rattle.set_commands.specs.Fresh.{RunsFresh};
 ghost use Rattle.set_commands.specs.Invocations.{HeadlineOfTheProgram};
 ghost use Rattle.set_commands.specs.Run.{streams};
-ghost use Rattle.raidtool.specs.Tool.{ComesFirst, IsAsked, IsBlamedIn, IsCutOff, IsDoneIn, IsEndOf, IsEndOfLine};
+ghost use Rattle.raidtool.specs.Tool.{ComesFirst, IsAsked, IsBlamedIn, IsCaused, IsCutOff, IsDoneIn, IsEndOf, IsEndOfLine};
 ghost use Rattle.raidtool.specs.Tool.{IsFirst, IsMemoryFault, IsMisshapen, IsPartWritten, IsRun, PassesNone, IsServed};
 ghost use Rattle.raidtool.specs.Tool.{IsServing, IsStopOf, IsWritten, WasRefused, WasStopped, bad_id_line};
 ghost use Rattle.raidtool.specs.Tool.{checked_status, folder_text, id_text};
@@ -185,6 +185,8 @@ where
         (streams (R.remaining reader.new) (W.contents out.new))) }
     ensures read { IsRun line.entry → R.remaining reader.old ≢ None → OnOk result (R.remaining reader.new ≡ Some []) }
     ensures stopped { IfErr result (IsStopOf line.entry) }
+    ensures cause { IfErr result (λ fault. (refusal : Refusal) → fault ≡ FolderFault.Refused refusal
+        → IsCaused line.entry refusal) }
     ensures named { IfErr result (IsBlamedIn (D.opens disk.now) (D.creates disk.now)
         ⟦<Locked<S::File> as Growing>⟧.has_failed (D.inspects disk.now) line.entry) }
     ensures alone { IfErr result (λ fault. IsFirst fault → (reader.new ≡ reader.old) × (out.new ≡ out.old)) }
@@ -308,6 +310,8 @@ where
         (streams (R.remaining reader.new) (W.contents out.new))) }
     ensures read { IsRun line.entry → R.remaining reader.old ≢ None → OnOk result (R.remaining reader.new ≡ Some []) }
     ensures stopped { IfErr result (IsStopOf line.entry) }
+    ensures cause { IfErr result (λ fault. (refusal : Refusal) → fault ≡ FolderFault.Refused refusal
+        → IsCaused line.entry refusal) }
     ensures named { IfErr result (IsBlamed (D.opens disk.now) (D.creates disk.now)
         ⟦<Locked<F> as Growing>⟧.has_failed (folder_text line.entry)) }
     ensures alone { IfErr result (λ fault. IsFirst fault → (reader.new ≡ reader.old) × (out.new ≡ out.old)) }
@@ -345,6 +349,8 @@ where
         (streams (R.remaining reader.new) (W.contents out.new))) }
     ensures read { IsRun line.entry → R.remaining reader.old ≢ None → OnOk result (R.remaining reader.new ≡ Some []) }
     ensures end { IfErr result (IsEndOfLine line.entry) }
+    ensures cause { IfErr result (λ refusal. ¬ IsPlainEnd refusal
+        → IsCauseOn line.entry (B.honest bank) (bank_seen B.Bank bank) refusal) }
     ensures alone { IfErr result (λ refusal. ComesFirst refusal → (reader.new ≡ reader.old) × (out.new ≡ out.old)) }
     ensures unwritten { ¬ IsRun line.entry
         → IfErr result (λ refusal. refusal ≢ Refusal.WriteFault → out.new ≡ out.old) }

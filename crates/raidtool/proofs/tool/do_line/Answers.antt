@@ -45,6 +45,7 @@ returns-in_default g c =
       does = served.does;
       read = served.read;
       stopped = served.stopped;
+      cause = served.cause;
       named = served_blamed (g.D.SlotFiles.opens c.args.disk.now) (g.D.SlotFiles.creates c.args.disk.now) _ (g.D.InspectFiles.inspects c.args.disk.now)
           c.args.line c.serve_folder.result c.in_default.not-Examine served.named;
       alone = served.alone;

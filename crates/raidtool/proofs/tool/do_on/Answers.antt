@@ -2,6 +2,7 @@ use Rattle.std.proofs.Common.{sym}
 use Rattle.std.proofs.lemmas.Result.{IfErr-weaker}
 use Rattle.set_commands.proofs.Applied.{failed_by, scrubbed_by, upgrade_end, upgraded_by}
 use Rattle.set_commands.proofs.ServedSet.{ok_then}
+use Rattle.raidtool.proofs.Causes.{done_for, ran_for, told_for}
 use Rattle.raidtool.proofs.Repaired.{told_progress, told_scrub}
 use Rattle.raidtool.proofs.Statuses.{cut_status}
 use Rattle.raidtool.proofs.tool.do_on.Goals as goal
@@ -39,3 +40,25 @@ returns-in-Upgrade-clause-end g c = IfErr-weaker c.apply_on-in-Upgrade.result _ 
 pub returns-in-Upgrade-clause-cut : goal.returns-in-Upgrade-clause-cut
 returns-in-Upgrade-clause-cut g c = λ _. IfErr-weaker c.apply_on-in-Upgrade.result _ _
     (λ refusal part cut. rw c.in-Upgrade.is (upgraded_by _ _ _ _ (part cut)).1) c.apply_on-in-Upgrade.ensures.cut
+
+-- ---- why it was refused
+
+pub returns-in-Run-clause-cause : goal.returns-in-Run-clause-cause
+returns-in-Run-clause-cause g c = rw c.in-Run.is (ran_for _ _ _ c.serve_on.result _ _ _ c.serve_on.ensures.end c.serve_on.ensures.unopened
+    c.serve_on.ensures.loss)
+
+pub returns-in-Status-clause-cause : goal.returns-in-Status-clause-cause
+returns-in-Status-clause-cause g c = rw c.in-Status.is (told_for c.tell_on.result _ c.tell_on.ensures.unopened)
+
+pub returns-in-Fail-clause-cause : goal.returns-in-Fail-clause-cause
+returns-in-Fail-clause-cause g c = rw c.in-Fail.is (done_for c.apply_on.result _ c.apply_on.ensures.refused)
+
+pub returns-in-Rebuild-clause-cause : goal.returns-in-Rebuild-clause-cause
+returns-in-Rebuild-clause-cause g c = rw (c.in-Rebuild.is, sym c.of_set-bank.ensures.bank) (done_for c.rebuild_on.result _ c.rebuild_on.ensures.refused)
+
+pub returns-in-Scrub-clause-cause : goal.returns-in-Scrub-clause-cause
+returns-in-Scrub-clause-cause g c = rw (c.in-Scrub.is, sym c.of_set-bank-in-Scrub.ensures.bank)
+    (done_for c.apply_on-in-Scrub.result _ c.apply_on-in-Scrub.ensures.refused)
+
+pub returns-in-Upgrade-clause-cause : goal.returns-in-Upgrade-clause-cause
+returns-in-Upgrade-clause-cause g c = rw c.in-Upgrade.is (done_for c.apply_on-in-Upgrade.result _ c.apply_on-in-Upgrade.ensures.refused)

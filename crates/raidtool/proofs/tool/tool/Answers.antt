@@ -9,6 +9,7 @@ use Rattle.report.specs.Replies.{refusal_line}
 use Rattle.raidtool.specs.Stops.{IsToldAfter}
 use Rattle.raidtool.specs.Tool.{IsBlamedIn, IsRun}
 use Rattle.set_commands.specs.declared.serving.health.Health.TheVariants.{Complete, Incomplete, Unassembled}
+use Rattle.raidtool.proofs.Causes.{caused_too}
 use Rattle.raidtool.proofs.Checked.{checked_of, checked_too, complete_of, health_too, incomplete_of, well_of, misshapen_status, most_of, never_two}
 use Rattle.raidtool.proofs.Checked.{none_of_four, one_of, unassembled_of, zero_of}
 use Rattle.raidtool.proofs.Taken.{nothing_passed, told_at_once}
@@ -171,7 +172,7 @@ returns-in-Ok-clause-refused g c = λ is.
     c.in-Ok.ensures.ok c.folder_of.ensures stop.2 (rw stop.1 at c.do_line-done.ensures.named) (c.do_line-done.new.err, c.do_line-done.ensures.passed, stop.3)
     (rw stop.1 at c.do_line-done.ensures.alone)
     (λ refusal same. none_of_four c.in-Ok.line c.do_line-done.result c.folder_status-status.result c.do_line-done.new.health c.checked.result c.checked.ensures
-    is refusal (stop.1 ∙ ap Err same))
+    is refusal (stop.1 ∙ ap Err same)) (rw stop.1 at c.do_line-done.ensures.cause)
 
 pub returns-in-Ok-clause-unwritten : goal.returns-in-Ok-clause-unwritten
 returns-in-Ok-clause-unwritten g c = λ line asked beside is.
@@ -254,7 +255,12 @@ returns-in-Ok-clause-unassembled g c = λ line asked is.
         rw (done_by _ c.do_line-done.result c.folder_status-status.result c.folder_status-status.ensures.status both.0 c.folder_status-status.ensures.quiet)
             c.do_line-done.ensures.passed,
       )
-      | inr (refusal, by, none) ↦ inr (refusal, none, (c.do_line-done.new.err, c.do_line-done.ensures.passed, rw by at c.folder_status-status.ensures.told))
+      | inr (refusal, by, none) ↦ inr (
+        refusal,
+        none,
+        caused_too line c.in-Ok.line refusal same ((rw by at c.do_line-done.ensures.cause) refusal refl),
+        (c.do_line-done.new.err, c.do_line-done.ensures.passed, rw by at c.folder_status-status.ensures.told),
+      )
     ]
 
 pub returns-in-Ok-clause-complete : goal.returns-in-Ok-clause-complete

@@ -16,7 +16,8 @@ use Rattle.device_files.specs.declared.FolderFault.{FolderFault}
 use Rattle.device_files.specs.declared.slot_files.CreateFault.{CreateFault}
 use Rattle.device_files.specs.declared.slot_files.OpenFault.{OpenFault}
 use Rattle.device_files.specs.declared.FolderFault.TheVariants.{InUse, NoFile, NotOpened, NotRegular, NotSafe, NotSynced, OtherSet, Refused}
-use Rattle.raidtool.specs.Done.{DoesOn, HasSizes, IsDone, IsMadeSet, IsReplacedSlot}
+use Rattle.raidtool.specs.Done.{DoesOn, HasSizes, IsDone, IsReplacedSlot}
+use Rattle.raidtool.specs.OtherSets.{IsMadeAlone}
 use Rattle.command_line.specs.Invocations.{AsksFor}
 use Rattle.device_files.specs.DeviceFiles.{IsMissingIn, slot_path}
 use Rattle.raidtool.specs.FolderFiles.{WereTaken}
@@ -70,9 +71,9 @@ done_too a b was is same done = absurd same
 -- a set was made
 pub made_done : (folder : Bor Text) (id : List ℕ) (members chunk stripes : ℕ) (geometry : Geometry) (done : Result (Unit {0}) FolderFault) (was is : Streams)
     → HasSizes members chunk stripes geometry
-    → OnOk done (IsMadeSet id geometry) → OnOk done (Appends was.contents is.contents made_line)
+    → OnOk done (IsMadeAlone id geometry) → OnOk done (Appends was.contents is.contents made_line)
     → OnOk done (IsDone (Make folder id members chunk stripes) was is)
-made_done folder id members chunk stripes geometry (Ok value) was is sizes made written = (made.0, ((geometry, sizes, made.1), written))
+made_done folder id members chunk stripes geometry (Ok value) was is sizes made written = (made.1.inspected, ((geometry, sizes, made.1.makes), written))
 made_done folder id members chunk stripes geometry (Err fault) was is sizes made written = tt
 
 -- a slot was given a device

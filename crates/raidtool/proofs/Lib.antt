@@ -2,6 +2,7 @@ pub mod Causes
 pub mod Checked
 pub mod DoneLines
 pub mod InspectionsTold
+pub mod MadeAlone
 pub mod MadeFiles
 pub mod MakeEnds
 pub mod Needs

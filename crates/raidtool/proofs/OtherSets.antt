@@ -1,5 +1,5 @@
 -- The slots after a set are inspected, one after another.
-use Rattle.std.proofs.Common.{◌≡◌, ◌⊎◌, ◌<◌, ◌≤◌, ◌+◌, inl, inr, arith, sym, subst, refl, ℕ, true, false, List, Option, Some, None, Ok}
+use Rattle.std.proofs.Common.{◌≡◌, ◌⊎◌, ◌<◌, ◌≤◌, ◌+◌, inl, inr, arith, sym, subst, refl, ℕ, true, false, List, Option, Some, None, Ok, Err}
 use Rattle.std.specs.Prelude.{Result}
 use Rattle.std.specs.Option.{is_some}
 use Rattle.std.proofs.lemmas.Bool.{cases_lt}
@@ -15,7 +15,8 @@ use Rattle.superblock.specs.Newest.{SlotCountsNone}
 use Rattle.array_io.specs.Believed.ReadWhole.{NoDeviceFailed}
 use Rattle.recovery.specs.Finding.{Finds, NewestFound}
 use Rattle.recovery.specs.Making.{BankView}
-use Rattle.recovery.proofs.Finding.{Honest, none_failed_first, none_failed_second, same_readable}
+use Rattle.recovery.proofs.Finding.{Honest, no_found, none_failed_first, none_failed_second, same_found, same_readable}
+use Rattle.raidtool.specs.OtherSets.{InspectsBeyond, IsFoundBeyond}
 
 -- the slots from one on and below another were inspected, and in none a superblock counts
 pub record InspectedTo (honest : Type 0) (id : List ℕ) (first n : ℕ) (old now : BankView) : Type 0 where
@@ -30,6 +31,21 @@ inspected_none honest id first old = record {
   reads = λ fair. read_none old.history;
   none = λ fair stay slot from below. absurd (omega (arith, from, below));
 }
+
+-- one was found
+pub has_one : (id : List ℕ) (devices slot : ℕ) (image : Slots) (found : Option Superblock) → is_some found ≡ true → NewestFound id devices slot image found
+    → (superblock : Superblock) × NewestFound id devices slot image (Some superblock)
+has_one id devices slot image (Some superblock) is there = (superblock, there)
+has_one id devices slot image None is there =
+    let never : true ≡ false = sym is in
+    absurd cc
+
+-- none was
+pub has_none : (found : Option Superblock) → is_some found ≡ false → ◌≡◌ {A = Result (Option Superblock) Refusal} (Ok found) (Ok None)
+has_none None is = refl
+has_none (Some superblock) is =
+    let never : true ≡ false = is in
+    absurd cc
 
 module _ (honest honest_mid : Type 0) (on : honest → honest_mid) (id : List ℕ) (first n : ℕ) (old mid new : BankView) (is_old : honest → Honest old)
     (is_mid : honest → Honest mid) (inspected : InspectedTo honest id first n old mid) where
@@ -63,17 +79,31 @@ module _ (honest honest_mid : Type 0) (on : honest → honest_mid) (id : List �
           let at : n ≡ slot = omega (arith, beyond, below) in
           subst (λ (k : ℕ). SlotCountsNone id old.panel.devices k (readable old.history k)) at (found_next None answer is finds fair stay)
 
--- one was found
-pub has_one : (id : List ℕ) (devices slot : ℕ) (image : Slots) (found : Option Superblock) → is_some found ≡ true → NewestFound id devices slot image found
-    → (superblock : Superblock) × NewestFound id devices slot image (Some superblock)
-has_one id devices slot image (Some superblock) is there = (superblock, there)
-has_one id devices slot image None is there =
-    let never : true ≡ false = sym is in
-    absurd cc
+  -- it has one
+  pub one_beyond : (found : Option Superblock) → is_some found ≡ true
+      → Finds honest_mid id mid.panel.devices (NewestFound id mid.panel.devices n) mid new (Ok found) → InspectsBeyond honest id first old new (Ok (Some n))
+  one_beyond found some finds = record {
+    later = later_both old.panel mid.panel new.panel inspected.later finds.later;
+    reads = λ fair. read_both (inspected.reads fair) (finds.reads (on fair));
+    finds = λ other is fair stay. subst (IsFoundBeyond id first old) (same_found (Some n) other is)
+        (has_one id old.panel.devices n (readable old.history) found some (found_next found (Ok found) refl finds fair stay));
+  }
 
--- none was
-pub has_none : (found : Option Superblock) → is_some found ≡ false → ◌≡◌ {A = Result (Option Superblock) Refusal} (Ok found) (Ok None)
-has_none None is = refl
-has_none (Some superblock) is =
-    let never : true ≡ false = is in
-    absurd cc
+  -- it could not be looked at
+  pub refused_beyond : (refusal : Refusal) → Finds honest_mid id mid.panel.devices (NewestFound id mid.panel.devices n) mid new (Err refusal)
+      → InspectsBeyond honest id first old new (Err refusal)
+  refused_beyond refusal finds = record {
+    later = later_both old.panel mid.panel new.panel inspected.later finds.later;
+    reads = λ fair. read_both (inspected.reads fair) (finds.reads (on fair));
+    finds = λ found is. absurd (no_found found refusal is);
+  }
+
+-- all were inspected
+pub all_beyond : (honest : Type 0) (id : List ℕ) (first n : ℕ) (old now : BankView) → old.panel.devices ≤ n → InspectedTo honest id first n old now
+    → InspectsBeyond honest id first old now (Ok None)
+all_beyond honest id first n old now all inspected = record {
+  later = inspected.later;
+  reads = inspected.reads;
+  finds = λ found is fair stay. subst (IsFoundBeyond id first old) (same_found None found is)
+      (λ slot from below. inspected.none fair stay slot from (omega (arith, all, below)));
+}

@@ -65,6 +65,12 @@ IsOtherFault first fault = ⊥
 abbrev pub IsMakingRefusal : Refusal → Type 0
 IsMakingRefusal refusal = (refusal ≡ BadGeometry) ⊎ ((refusal ≡ NotUsable) ⊎ (refusal ≡ Worn))
 
+-- what stops the making on a bank of so many devices: a slot after the set has another set, or such a refusal
+abbrev pub IsMakingFault : (members devices : ℕ) → FolderFault → Type 0
+IsMakingFault members devices (OtherSet slot) = (members + 2 ≤ slot) × (slot < devices)
+IsMakingFault members devices (Refused refusal) = IsMakingRefusal refusal
+IsMakingFault members devices fault = ⊥
+
 -- what making can be refused with
 abbrev pub IsMakeEnd : Refusal → Type 0
 IsMakeEnd refusal = IsMakingRefusal refusal ⊎ ((refusal ≡ Memory) ⊎ (refusal ≡ WriteFault))

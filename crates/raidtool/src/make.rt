@@ -7,7 +7,7 @@ ghost use Rattle.report.specs.Written.{AppendsPart};
 ghost use Rattle.device_files.specs.declared.FolderFault.{FolderFault};
 ghost use Rattle.device_files.specs.DeviceFiles.{IsLinkSynced, slot_path};
 ghost use Rattle.raidtool.specs.FolderFiles.{WereTaken};
-ghost use Rattle.raidtool.specs.Done.{IsMadeSet};
+ghost use Rattle.raidtool.specs.OtherSets.{IsAloneIn, IsMadeAlone};
 ghost use Rattle.raidtool.specs.Stops.{IsBlamed, IsFileFault, IsMakeFault, IsOtherFault, IsUnmade};
 ghost use Rattle.raidtool.specs.FolderFiles.{MakesFiles};
 
@@ -19,7 +19,7 @@ use device_files::{
     bytes_of, lengthen_slot, open_folder, refuse_barred, refuse_unsynced, sync_folders, undo,
 };
 use layout_map::Geometry;
-use on_bank::make_with_progress;
+use on_bank::make_alone;
 use other_set::refuse_other;
 use report::replies::write_made;
 use set_commands::Meter;
@@ -58,7 +58,7 @@ where
         (λ slot. D.opens disk.now (slot_path folder.now slot))
         (λ slot. slot < geometry.members + 2) (λ _. ⊥)) }
     ensures synced { OnOk result (D.is_safe disk.now folder.now ⊎ D.is_never disk.now folder.now) }
-    ensures made { OnOk result (IsMadeSet id geometry) }
+    ensures made { OnOk result (IsMadeAlone id geometry) }
     ensures written { OnOk result (Appends (W.contents out.old) (W.contents out.new) made_line) }
     ensures fault { IfErr result (IsMakeFault geometry.members) }
     ensures named { IfErr result (IsBlamed (D.opens disk.now) (D.creates disk.now)
@@ -89,7 +89,7 @@ where
         (λ slot. D.opens disk.now (slot_path folder.now slot))
         (λ slot. slot < geometry.members + 2) (λ _. ⊥)) }
     ensures synced { OnOk result (D.is_safe disk.now folder.now ⊎ D.is_never disk.now folder.now) }
-    ensures made { OnOk result (IsMadeSet id geometry) }
+    ensures made { OnOk result (IsMadeAlone id geometry) }
     ensures fault { IfErr result (IsUnmade geometry.members) }
     ensures named { IfErr result (IsBlamed (D.opens disk.now) (D.creates disk.now)
         ⟦<Locked<S::File> as Growing>⟧.has_failed folder.now) }
@@ -118,7 +118,7 @@ where
     S::File: FileExt + Lock,
     D: SlotFiles<File = Locked<S::File>> + FolderSync,
     ensures synced { OnOk result (D.is_safe disk.now folder.now ⊎ D.is_never disk.now folder.now) }
-    ensures made { OnOk result (IsMadeSet id geometry) }
+    ensures made { OnOk result (IsMadeAlone id geometry) }
     ensures fault { IfErr result (IsUnmade geometry.members) }
     ensures named { IfErr result (IsBlamed (D.opens disk.now) (D.creates disk.now)
         ⟦<Locked<S::File> as Growing>⟧.has_failed folder.now) }
@@ -127,11 +127,10 @@ where
     refuse_other_set(rt.alloc(), files, &id, geometry.members + 2)?;
     make_files(rt.alloc(), disk, folder, &geometry, files)?;
     let bank = bank_over(rt.alloc(), files)?;
-    make_with_progress(bank, rt, entry, id, geometry)?;
-    Ok(())
+    make_alone(bank, rt, entry, id, geometry)
 }
 
-// Refuses a slot from this one on that has a superblock of this id.
+// Refuses a slot from this one on that has a superblock of this id, before a file is touched.
 fn refuse_other_set<F>(
     alloc: Global,
     files: &DeviceFiles<Locked<F>>,
@@ -140,7 +139,8 @@ fn refuse_other_set<F>(
 ) -> Result<(), FolderFault>
 where
     F: OpenFile + FileExt + Lock + Drop,
-    ensures { IfErr result (IsOtherFault first) }
+    ensures none { OnOk result (IsAloneIn id.now first) }
+    ensures fault { IfErr result (IsOtherFault first) }
 {
     let mut bank = bank_over(alloc, files)?;
     refuse_other(&mut bank, id, first)

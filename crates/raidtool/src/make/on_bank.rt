@@ -3,9 +3,12 @@ ghost use Rattle.std.specs.Prelude.{IfErr, IfOk, OnOk};
 ghost use Rattle.recovery.specs.Making.{Makes};
 ghost use Rattle.recovery.specs.SeenBank.{bank_seen, opened_as};
 ghost use Rattle.raidtool.specs.Done.{MakesOn};
-ghost use Rattle.raidtool.specs.Stops.{IsMakingRefusal};
+ghost use Rattle.raidtool.specs.OtherSets.{MakesAlone};
+ghost use Rattle.raidtool.specs.Stops.{IsMakingFault, IsMakingRefusal};
 
+use super::other_set::refuse_other;
 use array_io::Array;
+use device_files::FolderFault;
 use layout_map::Geometry;
 use recovery::make;
 use sector_model::{Bank, Refusal};
@@ -48,5 +51,24 @@ pub fn make_with_progress<B: Bank + Drop, M: Meter>(
         id,
         geometry,
     )?;
+    Ok(())
+}
+
+/// Makes a set as `make_with_progress` does, on a bank where no slot after the set's has a superblock of this id that
+/// counts: another set's would be taken for that of this one. `OtherSet` and `Worn` as `refuse_other` says; nothing is
+/// written then.
+pub(super) fn make_alone<B: Bank + Drop, M: Meter>(
+    bank: B,
+    meter: &M,
+    entry: Entry,
+    id: [u8; 16],
+    geometry: Geometry,
+) -> Result<(), FolderFault>
+    ensures made { OnOk result (MakesAlone (B.honest bank) id geometry (bank_seen B.Bank bank)) }
+    ensures fault { IfErr result (IsMakingFault geometry.members (B.panel bank).devices) }
+{
+    let mut bank = bank;
+    refuse_other(&mut bank, &id, geometry.members + 2)?;
+    make_with_progress(bank, meter, entry, id, geometry)?;
     Ok(())
 }

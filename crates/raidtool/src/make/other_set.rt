@@ -19,6 +19,7 @@ pub(super) fn refuse_other<B: Bank>(
     id: &[u8; 16],
     first: u8,
 ) -> Result<(), FolderFault>
+    ensures honest { B.honest bank.old → B.honest bank.new }
     ensures none { OnOk result (InspectsBeyond (B.honest bank.old) id.now first (bank_seen B.Bank bank.old)
         (bank_seen B.Bank bank.new) (Ok None)) }
     ensures fault { IfErr result (RefusesOther (B.honest bank.old) id.now first (bank_seen B.Bank bank.old)
@@ -32,6 +33,7 @@ pub(super) fn refuse_other<B: Bank>(
 
 // The lowest slot from this one on in which a superblock of this id counts, if there is one.
 fn other_set<B: Bank>(bank: &mut B, id: &[u8; 16], first: u8) -> Result<Option<u8>, Refusal>
+    ensures honest { B.honest bank.old → B.honest bank.new }
     ensures found { IfOk result (λ other. IfSome other (λ slot. (first ≤ slot) × (slot < (B.panel bank.old).devices))) }
     ensures inspections { InspectsBeyond (B.honest bank.old) id.now first (bank_seen B.Bank bank.old)
         (bank_seen B.Bank bank.new) result }

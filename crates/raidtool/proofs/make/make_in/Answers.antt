@@ -1,4 +1,4 @@
-use Rattle.std.proofs.Common.{◌<◌, ◌≤◌, ◌+◌, ℕ, arith}
+use Rattle.std.proofs.Common.{◌<◌, ◌≤◌, ◌+◌, arith}
 use Rattle.std.proofs.lemmas.Result.{err_from_is_err_and}
 use Rattle.device_files.specs.DeviceFiles.{slot_path}
 use Rattle.raidtool.proofs.Taken.{at_any_rate, barred_blamed, barred_passing, barred_unmade, none_barred, unsynced_blamed, were_taken}

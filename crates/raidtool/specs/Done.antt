@@ -77,10 +77,6 @@ IsDone line was is = (bank : BankView) × DoesOn line OfFiles bank was is
 abbrev pub HasCause : Invocation → (id : List ℕ) → Refusal → Type 0
 HasCause line id refusal = ((bank : BankView) × IsCauseOn line OfFiles bank refusal) ⊎ IsNoTableIn id refusal
 
--- a set of this id and geometry was made on such a bank
-abbrev pub IsMadeSet : (id : List ℕ) → Geometry → Type 0
-IsMadeSet id geometry = (bank : BankView) × MakesOn OfFiles id geometry bank
-
 -- the set of an id, or each set, was inspected on such a bank, and what was found was written
 abbrev pub IsExamined : (id : Option (List ℕ)) (json : Bool) (was is : Option (List ℕ)) → Type 0
 IsExamined id json was is = (bank : BankView) × ExaminesOn OfFiles id json bank was is

@@ -1,5 +1,5 @@
 -- What the exit status of a line says that asks how well a set is.
-use Rattle.std.proofs.Common.{◌≡◌, ◌≢◌, ◌⊎◌, ◌∙◌, ◌≤◌, inl, inr, arith, refl, sym, ap, subst, ℕ, Bool, true, false, List}
+use Rattle.std.proofs.Common.{◌≡◌, ◌≢◌, ◌⊎◌, ◌∙◌, ◌≤◌, inl, inr, arith, refl, ap, ℕ, true, false}
 use Rattle.std.specs.Prelude.{Err, Ok, Result, is_ok, if◌then◌else◌}
 use Rattle.sector_model.specs.declared.refusal.Refusal.{Refusal}
 use Rattle.sector_model.specs.declared.refusal.Refusal.TheVariants.{BadTable, NoSet, TwoLost, Worn}

@@ -1,23 +1,20 @@
 -- What the contracts of the program's commands say is something that was done on a bank.
-use Rattle.std.proofs.Common.{◌≡◌, ◌⊎◌, inl, inr, ℕ, zero, suc, ◌+◌, Bool, List, [], ◌∷◌, ◌++◌, length, Option, Some, None, Result, Ok, Err, refl, sym, ap, subst, subst₂}
+use Rattle.std.proofs.Common.{◌≡◌, inl, inr, ℕ, zero, suc, Bool, List, [], ◌∷◌, ◌++◌, length, Option, Some, None, Result, Ok, Err, refl, sym, ap, subst, subst₂}
 use Rattle.std.specs.Prelude.{replicate}
 use Rattle.std.proofs.lemmas.List.{append-nil}
 use Rattle.sector_model.specs.declared.refusal.Refusal.{Refusal}
 use Rattle.sector_model.specs.declared.refusal.Refusal.TheVariants.{BadLine, TwoLost, Worn}
-use Rattle.sector_model.specs.History.{History}
 use Rattle.sector_model.specs.Reads.{HasRead}
 use Rattle.sector_model.proofs.Reading.{read_both, read_none}
-use Rattle.array_io.specs.Believed.Views.{ArrayView, EndsIt}
 use Rattle.recovery.specs.Making as recovery
 use Rattle.recovery.specs.Making.{BankView}
 use Rattle.recovery.specs.Assembling.{Assembles}
 use Rattle.rebuild.specs.Rebuilding.{Position, Progress}
-use Rattle.volume_table.specs.declared.status.Status.{Status}
 use Rattle.volume_table.specs.VolumeStep.{Command, Event, OnSet, OnVolumes, Progressed, RebuildStep, Refused, Reply}
 use Rattle.volume_table.specs.Stands.{StoreView}
 use Rattle.volume_table.specs.StoreCalls.{Applies, EndsStore}
 use Rattle.volume_table.specs.StoreFunctions.{progress_reply}
-use Rattle.volume_table.specs.Opening.{Opened, Opens, Outcome, Returned}
+use Rattle.volume_table.specs.Opening.{Opened, Returned}
 use Rattle.volume_table.proofs.RunChains.{applies_for}
 use Rattle.report.specs.Grammar.{IsBadLine}
 use Rattle.report.specs.Script.{Answers, IsDoneLine, IsRefusedLine, Serves, none_read, then_read}
@@ -27,7 +24,7 @@ use Rattle.set_commands.specs.Invocations.{DoneOn, Served, events_in, none_asked
 use Rattle.set_commands.specs.Invocations.{then_no_event}
 use Rattle.set_commands.specs.Run.{HasAnswered, Streams}
 use Rattle.set_commands.specs.ScriptLaw.{AreCommandsOf}
-use Rattle.set_commands.specs.Serving.{AppliesOn, IsNotOpened, IsOpened, RebuildsOn, RefusesOn, ServesOn, StatusOn, StopsRebuildingOn}
+use Rattle.set_commands.specs.Serving.{IsNotOpened, IsOpened}
 use Rattle.set_commands.specs.Steps.{Rebuilds, Steps, none_made, then_made}
 use Rattle.set_commands.proofs.Served.{answers_for, opens_for, serves_for}
 

@@ -1,4 +1,5 @@
 pub mod Appended
 pub mod MadeSafe
+pub mod PathsBySlot
 pub mod SlotBySlot
 pub mod ToldLines

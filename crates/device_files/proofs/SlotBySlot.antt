@@ -5,7 +5,7 @@ use Rattle.std.specs.Prelude.{Result}
 use Rattle.std.specs.Result.{result_and}
 use Rattle.device_files.specs.declared.locked.Before.{Before}
 use Rattle.device_files.specs.declared.locked.Before.TheVariants.{Same}
-use Rattle.device_files.specs.DeviceFiles.{AreOthersKept, IsTakenBack, before_in, file_in}
+use Rattle.device_files.specs.DeviceFiles.{AreOthersKept, before_in, file_in}
 
 -- what holds of each file below a slot, and of its own, where each other is as it was
 pub made_after : {F : Type 0} (P : ℕ → Option F → Type 0) (was is : List (Option F)) (slot : ℕ) → ((k : ℕ) → k < slot → P k (file_in was k))
@@ -30,18 +30,17 @@ untouched_next first was is slot beyond others k from =
     let on : slot ≤ k = omega (arith, from) in
     others k apart ∙ beyond k on
 
--- what was noted of the files below a slot is taken back, and of its own
-pub taken_next : {F : Type 0} (told : F → List ℕ) (Removed : ℕ → Type 0) (notes_first notes : List Before) (first was is : List (Option F)) (slot : ℕ)
-    → notes ≡ notes_first
-    → ((k : ℕ) → k < slot → IsTakenBack told (Removed k) (before_in notes_first k) (file_in first k) (file_in was k))
+-- what becomes of the files below a slot by what was noted of them becomes of its own too
+pub undone_next : {F : Type 0} (P : ℕ → Before → (old new : Option F) → Type 0) (notes_first notes : List Before) (first was is : List (Option F)) (slot : ℕ)
+    → notes ≡ notes_first → ((k : ℕ) → k < slot → P k (before_in notes_first k) (file_in first k) (file_in was k))
     → ((k : ℕ) → slot ≤ k → file_in was k ≡ file_in first k) → AreOthersKept was is slot
-    → IsTakenBack told (Removed slot) (before_in notes slot) (file_in was slot) (file_in is slot)
-    → (k : ℕ) → k < slot + 1 → IsTakenBack told (Removed k) (before_in notes_first k) (file_in first k) (file_in is k)
-taken_next told Removed notes_first notes first was is slot same below beyond others here =
+    → P slot (before_in notes slot) (file_in was slot) (file_in is slot)
+    → (k : ℕ) → k < slot + 1 → P k (before_in notes_first k) (file_in first k) (file_in is k)
+undone_next P notes_first notes first was is slot same below beyond others here =
     let on : slot ≤ slot = omega arith in
-    made_after (λ k file. IsTakenBack told (Removed k) (before_in notes_first k) (file_in first k) file) was is slot below others
-    (subst (λ (all : List Before). IsTakenBack told (Removed slot) (before_in all slot) (file_in first slot) (file_in is slot)) same
-    (subst (λ file. IsTakenBack told (Removed slot) (before_in notes slot) file (file_in is slot)) (beyond slot on) here))
+    made_after (λ k file. P k (before_in notes_first k) (file_in first k) file) was is slot below others
+    (subst (λ (all : List Before). P slot (before_in all slot) (file_in first slot) (file_in is slot)) same
+    (subst (λ file. P slot (before_in notes slot) file (file_in is slot)) (beyond slot on) here))
 
 -- a file of which nothing was noted is as it was
 pub same_next : {F : Type 0} (notes_first notes : List Before) (first was is : List (Option F)) (slot : ℕ) → notes ≡ notes_first

@@ -1,6 +1,7 @@
 -- What the device files of a folder hold, what is noted of them, and what of them is safe.
-use Rattle.std.specs.Prelude.{◌≡◌, ◌≢◌, ◌⊎◌, ℕ, ◌-◌, ◌<◌, ◌≤◌, Bool, false, true, IsSomeAnd, IsTrue, List, ◌++◌, codes, decimal, length, replicate}
-use Rattle.std.specs.Prelude.{slice_index_or, take, Option, Some, None, Result, Ok, Err}
+use Rattle.std.specs.Prelude.{◌≡◌, ◌≢◌, ◌⊎◌, ℕ, ◌-◌, ◌<◌, ◌≤◌, Bool, false, true, IsSomeAnd, IsTrue, List, [], ◌++◌, codes, decimal, length}
+use Rattle.std.specs.Prelude.{if◌then◌else◌, replicate, slice_index_or, take, Option, Some, None, Result, Ok, Err}
+use Rattle.std.specs.declared.io.Error.{Error}
 use Rattle.sector_model.specs.declared.refusal.Refusal.{Refusal}
 use Rattle.superblock.specs.declared.state.State.TheVariants.{Missing}
 use Rattle.superblock.specs.declared.table.Table.{Table}
@@ -42,6 +43,11 @@ file_in files slot = slice_index_or files slot None
 abbrev pub has_file : {F : Type 0} → (is : F → Bool) → Option F → Bool
 has_file is None = false
 has_file is (Some file) = is file
+
+-- the file that something of a slot has, where there is one of which this is so
+abbrev pub file_where : {L F : Type 0} → (is : L → Bool) (file : L → F) → Option L → Option F
+file_where is file None = None
+file_where is file (Some locked) = if is locked then Some (file locked) else None
 
 -- a file was created, whatever it was before
 abbrev pub IsCreated : {F Fault : Type 0} → (Creates : Result (F × Before) Fault → Type 0) → F → Type 0
@@ -94,10 +100,26 @@ abbrev pub IsCutBack : {F : Type 0} → (told : F → List ℕ) → Before → (
 IsCutBack told (Shorter bytes) (Some old) new = IsSomeAnd new (λ file. told file ≡ take bytes (told old))
 IsCutBack told before old new = new ≡ old
 
--- what was noted of a file is taken back: one that was created was removed, one that got longer has the bytes that it had, any other is as it was
+-- what was noted of a file is taken back: one that was created was removed, and is closed; one that got longer has the bytes that it had, any other is as it
+-- was
 abbrev pub IsTakenBack : {F : Type 0} → (told : F → List ℕ) (Removed : Type 0) → Before → (old new : Option F) → Type 0
-IsTakenBack told Removed Absent old new = Removed × (new ≡ old)
+IsTakenBack told Removed Absent old new = Removed × (new ≡ None)
 IsTakenBack told Removed note old new = IsCutBack told note old new
+
+-- a file of which that was noted was cut to the bytes that it had, or that call failed
+abbrev pub IsCutOrFailed : {F : Type 0} → (tells : Bool) (told : F → List ℕ) (HasFailed : F → Type 0) → Before → (old new : Option F) → Type 0
+IsCutOrFailed tells told HasFailed (Shorter bytes) (Some old) new = IsSomeAnd new (λ file. (IsTrue tells → told file ≡ take bytes (told old)) ⊎ HasFailed file)
+IsCutOrFailed tells told HasFailed before old new = new ≡ old
+
+-- what was noted of a file is taken back, or the call failed that was to do so; one that was created is closed at any rate
+abbrev pub IsTakenBackOrFailed : {F : Type 0} → (tells : Bool) (told : F → List ℕ) (HasFailed : F → Type 0) (Removes : Result (Unit {0}) Error → Type 0)
+    → Before → (old new : Option F) → Type 0
+IsTakenBackOrFailed tells told HasFailed Removes Absent old new = ((result : Result (Unit {0}) Error) × Removes result) × (new ≡ None)
+IsTakenBackOrFailed tells told HasFailed Removes note old new = IsCutOrFailed tells told HasFailed note old new
+
+-- the path of a slot among those of ten
+abbrev pub path_in : List (List ℕ) → ℕ → List ℕ
+path_in paths slot = slice_index_or paths slot []
 
 -- ---- what is made safe where files are opened
 

@@ -1,12 +1,15 @@
 -- What is promised of the files of slots by the calls that make one of them long enough or anew.
 -- A disk is told by what its files tell, whether that is safe, whether a call of one failed, and what creating the file at a path came to.
-use Rattle.std.specs.Prelude.{◌≡◌, ◌≢◌, ℕ, Bool, List, Option, Result, IfErr, IsSomeAnd, IsTrue, OnOk}
+use Rattle.std.specs.Prelude.{◌≡◌, ◌≢◌, ◌<◌, ℕ, Bool, List, Option, Result, Ok, IfErr, IsSomeAnd, IsTrue, OnOk}
+use Rattle.std.specs.declared.io.Error.{Error}
 use Rattle.device_files.specs.declared.FolderFault.{FolderFault}
 use Rattle.device_files.specs.declared.FolderFault.TheVariants.{NoFile}
 use Rattle.device_files.specs.declared.locked.Before.{Before}
+use Rattle.device_files.specs.declared.locked.Before.TheVariants.{Same}
 use Rattle.device_files.specs.declared.slot_files.CreateFault.{CreateFault}
-use Rattle.device_files.specs.DeviceFiles.{AreOtherNotesKept, AreOthersKept, Begins, HasMade, IsCreated, IsNotedOf, IsRenewedTo, StaysOrMade, before_in}
-use Rattle.device_files.specs.DeviceFiles.{file_in, lengthened, slot_path}
+use Rattle.device_files.specs.DeviceFiles.{AreOtherNotesKept, AreOthersKept, Begins, HasMade, IsCreated, IsNotedOf, IsRenewedTo, IsTakenBack}
+use Rattle.device_files.specs.DeviceFiles.{IsTakenBackOrFailed, StaysOrMade, before_in}
+use Rattle.device_files.specs.DeviceFiles.{file_in, lengthened, path_in, slot_path}
 use Rattle.device_files.specs.Faults.{IsFailedCreating, IsFileFaultOf, IsUnmadeFile}
 
 -- The file of a slot, the one that was there or one that is created at its path, is made so many bytes long: no byte of it is changed, what it was is
@@ -40,4 +43,16 @@ RenewsSlot tells told IsSafe HasFailed Creates folder slot bytes was is result =
   safe : OnOk result (IsSomeAnd (file_in is slot) IsSafe);
   others : AreOthersKept was is slot;
   unmade : IfErr result (IsUnmadeFile (λ other. Creates (slot_path folder other)) (λ other. IsSomeAnd (file_in is other) HasFailed));
+}
+
+-- What was noted of the files of ten slots is taken back: of each where that is answered well; and of each whose own call does not fail at any rate.
+abbrev pub TakesBack : {F : Type 0} → (tells : Bool) (told : F → List ℕ) (HasFailed : F → Type 0)
+    (Removes : (path : List ℕ) → Result (Unit {0}) Error → Type 0) → (paths : List (List ℕ)) (was is : List (Option F)) (notes : List Before)
+    → Result (Unit {0}) Error → Type 0
+TakesBack tells told HasFailed Removes paths was is notes result = record {
+  undone : IsTrue tells → OnOk result ((slot : ℕ) → slot < 10
+      → IsTakenBack told (Removes (path_in paths slot) (Ok tt)) (before_in notes slot) (file_in was slot) (file_in is slot));
+  each : (slot : ℕ) → slot < 10
+      → IsTakenBackOrFailed tells told HasFailed (Removes (path_in paths slot)) (before_in notes slot) (file_in was slot) (file_in is slot);
+  same : (slot : ℕ) → before_in notes slot ≡ Same → file_in is slot ≡ file_in was slot;
 }

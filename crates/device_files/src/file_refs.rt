@@ -1,7 +1,8 @@
 //! A bank over device files that stay with whoever opened them, who so holds their locks to the end.
 ghost use Rattle.std.specs.Prelude.{◌≡◌, IfErr, IfOk, is_some, map};
 ghost use Rattle.sector_model.specs.declared.refusal.Refusal.TheVariants.{Memory};
-ghost use Rattle.device_files.specs.DeviceFiles.{has_file};
+ghost use Rattle.std.specs.Option.{option_map};
+ghost use Rattle.device_files.specs.DeviceFiles.{file_where, has_file};
 
 use super::{DeviceFiles, Lock, Locked};
 use sector_model::{Bank, FileBank, HasFile, NoRecord, Refusal, SystemFile};
@@ -28,7 +29,9 @@ impl<F: OpenFile + FileExt + Lock> HasFile for FileRef<'_, F> {
 
 // A reference to the file of a slot, unless that was not synced.
 fn file_ref_of<'a, F: Lock>(slot: &'a Option<Locked<F>>) -> Option<SystemFile<FileRef<'a, F>>>
-    ensures { is_some result ≡ has_file (λ locked. locked.is_synced) slot.now }
+    ensures there { is_some result ≡ has_file (λ locked. locked.is_synced) slot.now }
+    ensures file { option_map (λ reference. reference.of.file.now) result ≡ file_where (λ locked. locked.is_synced)
+        (λ locked. locked.file) slot.now }
 {
     match slot {
         Some(locked) => {
@@ -51,8 +54,10 @@ fn file_refs_of<'a, F>(
 ) -> Result<Vec<Option<SystemFile<FileRef<'a, F>>>>, AllocError>
 where
     F: OpenFile + FileExt + Lock + Drop,
-    ensures { IfOk result (λ file_refs. map is_some file_refs.items ≡ map (has_file (λ locked. locked.is_synced))
+    ensures there { IfOk result (λ file_refs. map is_some file_refs.items ≡ map (has_file (λ locked. locked.is_synced))
         files.now) }
+    ensures files { IfOk result (λ file_refs. map (option_map (λ reference. reference.of.file.now)) file_refs.items ≡
+        map (file_where (λ locked. locked.is_synced) (λ locked. locked.file)) files.now) }
 {
     let mut file_refs = Vec::with_capacity(alloc, files.len())?;
     for slot in files {
@@ -72,7 +77,8 @@ pub fn bank_over<'a, F>(
 ) -> Result<FileBank<SystemFile<FileRef<'a, F>>>, Refusal>
 where
     F: OpenFile + FileExt + Lock + Drop,
-    ensures devices { IfOk result (λ bank. (⟦<FileBank<SystemFile<FileRef<'a, F>>, NoRecord> as Bank>⟧.panel bank).devices ≡ 10) }
+    ensures devices { IfOk result (λ bank.
+        (⟦<FileBank<SystemFile<FileRef<'a, F>>, NoRecord> as Bank>⟧.panel bank).devices ≡ 10) }
     ensures err { IfErr result (λ refusal. refusal ≡ Memory) }
 {
     FileBank::over(alloc, file_refs_of(alloc, &files.files)?, NoRecord)

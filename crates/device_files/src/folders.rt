@@ -1,6 +1,9 @@
 //! The names of device files are made safe.
-ghost use Rattle.std.specs.Prelude.{◌≡◌, ◌<◌, ◌≤◌, ◌↔◌, ◌⊎◌, IfErr, IfOk, IfSome, IsNone, IsOk, List, OnOk, ℕ, true};
-ghost use Rattle.std.specs.Path.{path_buf_bytes};
+ghost use Rattle.std.specs.Prelude.{◌≡◌, ◌≢◌, ◌<◌, ◌≤◌, ◌↔◌, ◌⊎◌, IfErr, IfOk, IfSome, IsNone, IsOk, List, OnOk};
+ghost use Rattle.std.specs.Prelude.{true, ℕ};
+ghost use Rattle.std.specs.IoError.{error_kind};
+ghost use Rattle.std.specs.Option.{option_map};
+ghost use Rattle.std.specs.Path.{path_buf_bytes, path_parent};
 ghost use Rattle.device_files.specs.DeviceFiles.{IsLinkSynced, slot_path};
 ghost use Rattle.device_files.specs.Faults.{IsSyncFault, SaysAbsent, SaysNever};
 
@@ -77,6 +80,8 @@ fn folder_of_target(file: io::Result<PathBuf>) -> io::Result<Option<PathBuf>>
     ensures nowhere { IfErr file (λ error. SaysAbsent error → result ≡ Ok None) }
     ensures fault { IfErr file (λ error. ¬ SaysAbsent error → result ≡ Err error) }
     ensures there { OnOk file (IsOk result) }
+    ensures folder { IfOk file (λ path. IfOk result (λ folder. option_map path_buf_bytes folder ≡ path_parent
+        (path_buf_bytes path))) }
 {
     match file {
         Ok(mut file) => Ok(if file.pop() { Some(file) } else { None }),
@@ -135,7 +140,9 @@ fn sync_linked<D: FolderSync>(disk: &D, path: &str) -> Result<(), FolderFault>
 
 // What stops the sync of a folder that is not found, since looking for it failed so.
 fn unsynced(error: &io::Error) -> FolderFault
-    ensures { IsSyncFault result }
+    ensures fault { IsSyncFault result }
+    ensures memory { error_kind error.now ≡ ErrorKind.OutOfMemory → result ≡ FolderFault.Refused Refusal.Memory }
+    ensures other { error_kind error.now ≢ ErrorKind.OutOfMemory → result ≡ FolderFault.NotSynced }
 {
     match error.kind() {
         ErrorKind::OutOfMemory => FolderFault::Refused(Refusal::Memory),

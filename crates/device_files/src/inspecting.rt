@@ -1,5 +1,6 @@
 //! The device files of a folder are opened for reading alone, and without a lock.
 ghost use Rattle.std.specs.Prelude.{◌≡◌, ◌<◌, IfErr, IfOk, List, Ok, Option, Result, is_some, map, ℕ};
+ghost use Rattle.std.specs.Option.{option_map};
 ghost use Rattle.sector_model.specs.declared.refusal.Refusal.TheVariants.{Memory};
 ghost use Rattle.device_files.specs.declared.slot_files.OpenFault.{OpenFault};
 ghost use Rattle.device_files.specs.DeviceFiles.{file_in, slot_path};
@@ -133,7 +134,8 @@ fn inspect_slot<D: InspectFiles>(
 
 // The file of a slot, to be read.
 fn read_one<'a, F>(slot: &'a Option<F>) -> Option<ReadOnlyFile<SystemFile<&'a F>>>
-    ensures { is_some result ≡ is_some slot.now }
+    ensures there { is_some result ≡ is_some slot.now }
+    ensures file { option_map (λ read. read.file.of.now) result ≡ slot.now }
 {
     match slot {
         Some(file) => Some(ReadOnlyFile {
@@ -150,7 +152,8 @@ fn read_all<'a, F>(
 ) -> Result<Vec<Option<ReadOnlyFile<SystemFile<&'a F>>>>, AllocError>
 where
     F: OpenFile + FileExt + Drop,
-    ensures { IfOk result (λ inspected. map is_some inspected.items ≡ map is_some files.now) }
+    ensures there { IfOk result (λ inspected. map is_some inspected.items ≡ map is_some files.now) }
+    ensures files { IfOk result (λ inspected. map (option_map (λ read. read.file.of.now)) inspected.items ≡ files.now) }
 {
     let mut inspected = Vec::with_capacity(alloc, files.len())?;
     for slot in files {

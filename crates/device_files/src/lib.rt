@@ -28,7 +28,7 @@ pub use locked::{Before, DeviceFiles, Lock, Locked};
 pub use opening::{open_folder, refuse_unsynced};
 pub use passing::{pass_over, refuse_barred};
 use report::replies::{Answer, write_reply, write_slot_line, write_text};
-pub use reserving::{lengthen_slot, renew_slot, undo};
+pub use reserving::{SlotPaths, lengthen_slot, renew_slot, slot_paths, undo};
 use sector_model::Refusal;
 pub use slot_files::{CreateFault, OpenFault, SlotFiles};
 use std::alloc::{AllocError, Global};

@@ -1,17 +1,18 @@
 //! Device files that a command makes, and takes back where it is not done.
-ghost use Rattle.std.specs.Prelude.{◌≡◌, ◌≢◌, ◌<◌, IfErr, IfOk, IsSome, IsSomeAnd, IsTrue, OnOk, ℕ};
+ghost use Rattle.std.specs.Prelude.{◌≡◌, ◌≢◌, ◌<◌, IfErr, IfOk, IsSome, IsSomeAnd, IsTrue, OnOk, Ok, map};
+ghost use Rattle.std.specs.Prelude.{string_bytes, vec_len, ℕ};
 ghost use Rattle.device_files.specs.declared.FolderFault.{FolderFault};
 ghost use Rattle.device_files.specs.declared.locked.Before.{Before};
 ghost use Rattle.device_files.specs.DeviceFiles.{AreOtherNotesKept, AreOthersKept, Begins, HasFile, IsCutBack, IsNoted};
-ghost use Rattle.device_files.specs.DeviceFiles.{IsRenewedTo, IsTakenBack, IsThere, StaysThere, before_in, file_in};
-ghost use Rattle.device_files.specs.DeviceFiles.{lengthened, slot_path};
+ghost use Rattle.device_files.specs.DeviceFiles.{IsCutOrFailed, IsRenewedTo, IsTakenBack, IsTakenBackOrFailed, IsThere};
+ghost use Rattle.device_files.specs.DeviceFiles.{StaysThere, before_in, file_in, lengthened, path_in, slot_path};
 ghost use Rattle.device_files.specs.Faults.{IsFailedCreating, IsFileFaultOf};
-ghost use Rattle.device_files.specs.SlotCalls.{LengthensSlot, RenewsSlot};
+ghost use Rattle.device_files.specs.SlotCalls.{LengthensSlot, RenewsSlot, TakesBack};
 
 use super::growing::{Growing, lengthen, renew};
 use super::slot_files::{CreateFault, SlotFiles};
 use super::{Before, DeviceFiles, FolderFault, SLOTS, path_of};
-use std::alloc::Global;
+use std::alloc::{AllocError, Global};
 use std::io;
 
 /// Creates the file of a slot (below 10, condition) where it was not opened, lengthens it by zero bytes where it is
@@ -156,40 +157,56 @@ fn noted<G: Growing>(before: Before, bytes: u64, file: &Option<G>) -> Before
     }
 }
 
+/// The paths of the files of a folder's ten slots. Who has them can take back what was made without memory.
+#[derive(Drop)]
+pub struct SlotPaths {
+    paths: Vec<String>,
+    ghost ten: { vec_len paths ≡ 10 },
+}
+
+/// The paths of the files of a folder. `AllocError` where an allocation was refused.
+pub fn slot_paths(alloc: Global, folder: &str) -> Result<SlotPaths, AllocError>
+    ensures { IfOk result (λ paths. (slot : ℕ) → slot < 10
+        → path_in (map string_bytes paths.paths.items) slot ≡ slot_path folder.now slot) }
+{
+    let mut paths = Vec::with_capacity(alloc, SLOTS)?;
+    for slot in 0..SLOTS as u8 {
+        paths.push(path_of(alloc, folder, slot)?)?;
+    }
+    Ok(SlotPaths { paths })
+}
+
 /// Takes back what a command that was not done made of a folder's files, as it was noted: each that it created is
-/// removed, and each that it lengthened is cut to the bytes that it had. Where that can't be done with one, it is done
-/// with the others all the same, and the error is the first one of the system's.
+/// removed and closed, and each that it lengthened is cut to the bytes that it had. Where that can't be done with one,
+/// it is done with the others all the same, and the error is the first one of the system's.
 pub fn undo<D: SlotFiles>(
-    alloc: Global,
     disk: &D,
-    folder: &str,
+    paths: &SlotPaths,
     files: &mut DeviceFiles<D::File>,
 ) -> io::Result<()>
-    ensures undone { IsTrue D.File.tells → OnOk result ((slot : ℕ) → slot < 10
-        → IsTakenBack D.File.told (D.is_removed disk.now (slot_path folder.now slot)) (before_in files.old.before slot)
-        (file_in files.old.files.items slot) (file_in files.new.files.items slot)) }
-    ensures same { (slot : ℕ) → before_in files.old.before slot ≡ Before.Same
-        → file_in files.new.files.items slot ≡ file_in files.old.files.items slot }
+    ensures { TakesBack D.File.tells D.File.told D.File.has_failed (D.removes disk.now)
+        (map string_bytes paths.now.paths.items) files.old.files.items files.new.files.items files.old.before result }
 {
     let mut done = Ok(());
     for slot in 0..SLOTS {
-        done = done.and(undo_slot(alloc, disk, folder, slot as u8, files));
+        done = done.and(undo_slot(disk, paths.paths[slot].as_str(), slot as u8, files));
     }
     done
 }
 
-// The same of the file of a slot.
+// The same of the file of a slot, which has this path.
 fn undo_slot<D: SlotFiles>(
-    alloc: Global,
     disk: &D,
-    folder: &str,
+    path: &str,
     slot: u8,
     files: &mut DeviceFiles<D::File>,
 ) -> io::Result<()>
     requires { slot < 10 }
     ensures undone { IsTrue D.File.tells → OnOk result (IsTakenBack D.File.told
-        (D.is_removed disk.now (slot_path folder.now slot)) (before_in files.old.before slot)
+        (D.removes disk.now path.now (Ok tt)) (before_in files.old.before slot)
         (file_in files.old.files.items slot) (file_in files.new.files.items slot)) }
+    ensures each { IsTakenBackOrFailed D.File.tells D.File.told D.File.has_failed (D.removes disk.now path.now)
+        (before_in files.old.before slot) (file_in files.old.files.items slot) (file_in files.new.files.items slot) }
     ensures same { before_in files.old.before slot ≡ Before.Same
         → file_in files.new.files.items slot ≡ file_in files.old.files.items slot }
     ensures others { AreOthersKept files.old.files.items files.new.files.items slot }
@@ -197,7 +214,8 @@ fn undo_slot<D: SlotFiles>(
 {
     let before = files.before[slot as usize];
     if before == Before::Absent {
-        return remove(alloc, disk, folder, slot);
+        files.files[slot as usize] = None;
+        return disk.remove(path);
     }
     cut_back(before, &mut files.files[slot as usize])
 }
@@ -205,18 +223,11 @@ fn undo_slot<D: SlotFiles>(
 // Cuts a file that was lengthened to the bytes that it had.
 fn cut_back<G: Growing>(before: Before, file: &mut Option<G>) -> io::Result<()>
     ensures cut { IsTrue G.tells → OnOk result (IsCutBack G.told before file.old file.new) }
+    ensures each { IsCutOrFailed G.tells G.told G.has_failed before file.old file.new }
     ensures same { before ≡ Before.Same → file.new ≡ file.old }
 {
     match (before, file) {
         (Before::Shorter(bytes), Some(file)) => file.cut(bytes),
         _ => Ok(()),
     }
-}
-
-// Removes the file of a slot; where its path is a link, the file to which that leads, and not the link.
-fn remove<D: SlotFiles>(alloc: Global, disk: &D, folder: &str, slot: u8) -> io::Result<()>
-    ensures { OnOk result (D.is_removed disk.now (slot_path folder.now slot)) }
-{
-    let path = path_of(alloc, folder, slot)?;
-    disk.remove(path.as_str())
 }

@@ -1,5 +1,6 @@
 //! The files of slots are opened and created by their paths, and locked.
-ghost use Rattle.std.specs.Prelude.{◌≡◌, ◌≢◌, IfOk, IfSome, IsTrue, List, OnOk, Option, Result, length, true, ℕ};
+ghost use Rattle.std.specs.Prelude.{◌≡◌, ◌≢◌, IfOk, IfSome, IsTrue, List, Option, Result, length, true, ℕ};
+ghost use Rattle.std.specs.declared.io.Error.{Error};
 ghost use Rattle.device_files.specs.declared.locked.Before.{Before};
 ghost use Rattle.device_files.specs.declared.slot_files.CreateFault.{CreateFault};
 ghost use Rattle.device_files.specs.declared.slot_files.OpenFault.{OpenFault};
@@ -44,8 +45,8 @@ pub trait SlotFiles {
     /// What the creating of the file at a path came to, with what it was before.
     ghost creates: { Self → (path : List ℕ) → Result (Self.File × Before) CreateFault → Type 0 };
 
-    /// The file at a path was removed; where the path is a link, that to which it leads.
-    ghost is_removed: { Self → (path : List ℕ) → Type 0 };
+    /// What the removing of the file at a path came to; where the path is a link, of that to which it leads.
+    ghost removes: { Self → (path : List ℕ) → Result (Unit {0}) Error → Type 0 };
 
     /// Opens a file for reading and writing, and locks it without waiting; none where the file is absent, a link leads
     /// nowhere, or the device has a fault of its own. No file is created or cut, and nothing is opened that is not a
@@ -62,7 +63,7 @@ pub trait SlotFiles {
     /// Removes the file at a path; where the path is a link, the file to which that leads, and not the link. The error
     /// is that of the system.
     fn remove(&self, path: &str) -> io::Result<()>
-        ensures { OnOk result (is_removed self.now path.now) };
+        ensures { removes self.now path.now result };
 }
 
 impl<S> SlotFiles for SystemFolders<'_, S>
@@ -78,7 +79,7 @@ where
 
     ghost creates = { λ _ _ _. ⊤ };
 
-    ghost is_removed = { λ _ _. ⊤ };
+    ghost removes = { λ _ _ _. ⊤ };
 
     fn open(&self, path: &str) -> Result<Option<Locked<S::File>>, OpenFault> {
         open_claimed(self, path)

@@ -13,3 +13,4 @@ pub mod SentReplies
 pub mod SomeReplies
 pub mod Statuses
 pub mod Taken
+pub mod Undone

@@ -1,15 +1,18 @@
 -- What becomes of the device files of a folder in a command over them.
-use Rattle.std.specs.Prelude.{◌≡◌, ◌⊎◌, ◌<◌, ◌+◌, ◌*◌, ℕ, Bool, List, Option, Result, Ok, IfErr, IfSome, IsSome, IsSomeAnd, IsTrue, OnOk, is_some}
+use Rattle.std.specs.Prelude.{◌≡◌, ◌⊎◌, ◌<◌, ◌+◌, ◌*◌, ℕ, Bool, List, Option, Result, Ok, Err, IfErr, IfSome, IsSome, IsSomeAnd, IsTrue, OnOk, is_some}
+use Rattle.std.specs.declared.io.Error.{Error}
 use Rattle.layout_map.specs.declared.geometry.Geometry.{Geometry}
 use Rattle.superblock.specs.Counted.{least_sectors}
 use Rattle.device_files.specs.declared.FolderFault.{FolderFault}
 use Rattle.device_files.specs.declared.FolderFault.TheVariants.{InUse, NoFile}
 use Rattle.device_files.specs.declared.Reason.{Reason}
+use Rattle.device_files.specs.declared.growing.Growing.{Ghosts}
 use Rattle.device_files.specs.declared.locked.Before.{Before}
 use Rattle.device_files.specs.declared.slot_files.CreateFault.{CreateFault}
 use Rattle.device_files.specs.declared.slot_files.OpenFault.{OpenFault}
-use Rattle.device_files.specs.DeviceFiles.{Begins, HasMade, IsCreated, IsNotedOf, IsOpenedAs, StaysOrMade, barred_in, before_in, file_in, lengthened, slot_path}
+use Rattle.device_files.specs.DeviceFiles.{AreOthersKept, Begins, HasMade, IsCreated, IsNotedOf, IsOpenedAs, StaysOrMade, barred_in, before_in, file_in, lengthened, slot_path}
 use Rattle.device_files.specs.Faults.{IsUnmadeFile}
+use Rattle.device_files.specs.SlotCalls.{TakesBack}
 
 -- The files of ten slots were opened, each that was used is safe, none of which this holds was given up for its sync, and one that is there was passed over
 -- because it could not be opened only where its slot may be lacking.
@@ -55,3 +58,38 @@ MakesFiles tells told IsSafe HasFailed Creates folder geometry was is notes_were
   blamed : IfErr result (IsStoppedAt (λ slot. IsSomeAnd (file_in is slot) IsSafe) (λ slot. file_in is slot ≡ file_in was slot));
   unmade : IfErr result (IsUnmadeFile (λ slot. Creates (slot_path folder slot)) (λ slot. IsSomeAnd (file_in is slot) HasFailed));
 }
+
+-- The files of a set that was to be made over them: made, or as they were, or as the making of its files left them. A type of files is told by what its
+-- files tell.
+abbrev pub LeavesFiles : {F : Type 0} → (growing : Ghosts F) (Creates : (path : List ℕ) → Result (F × Before) CreateFault → Type 0) → (folder : List ℕ)
+    → Geometry → (was is : List (Option F)) (notes_were notes_are : List Before) → Result (Unit {0}) FolderFault → Type 0
+LeavesFiles growing Creates folder geometry was is notes_were notes_are (Ok done) =
+    MakesFiles growing.tells growing.told growing.is_safe growing.has_failed Creates folder geometry was is notes_were notes_are (Ok done)
+LeavesFiles growing Creates folder geometry was is notes_were notes_are (Err fault) = ((is ≡ was) × (notes_are ≡ notes_were))
+    ⊎ ((made : Result (Unit {0}) FolderFault)
+    × MakesFiles growing.tells growing.told growing.is_safe growing.has_failed Creates folder geometry was is notes_were notes_are made)
+
+-- Files were left so, and what was noted of them was then taken back, but where the call failed that was to do so.
+pub record AreTakenBack {F : Type 0} (growing : Ghosts F) (Left : List (Option F) → List Before → Type 0)
+    (Removes : (path : List ℕ) → Result (Unit {0}) Error → Type 0) (paths : List (List ℕ)) (is : List (Option F)) : Type 0 where
+  pub files : List (Option F)
+  pub notes : List Before
+  pub left : Left files notes
+  pub result : Result (Unit {0}) Error
+  pub taken_back : TakesBack growing.tells growing.told growing.has_failed Removes paths files is notes result
+
+-- the files of a set that was to be made over them: made, or taken back
+abbrev pub MakesOrUndoes : {F : Type 0} → (growing : Ghosts F) (Creates : (path : List ℕ) → Result (F × Before) CreateFault → Type 0)
+    (Removes : (path : List ℕ) → Result (Unit {0}) Error → Type 0) (folder : List ℕ) (paths : List (List ℕ))
+    → Geometry → (was is : List (Option F)) (notes_were notes_are : List Before) → Result (Unit {0}) FolderFault → Type 0
+MakesOrUndoes growing Creates Removes folder paths geometry was is notes_were notes_are (Ok done) =
+    LeavesFiles growing Creates folder geometry was is notes_were notes_are (Ok done)
+MakesOrUndoes growing Creates Removes folder paths geometry was is notes_were notes_are (Err fault) =
+    AreTakenBack growing (λ left notes. LeavesFiles growing Creates folder geometry was left notes_were notes (Err fault)) Removes paths is
+
+-- The files of a folder over which a slot was to be given a device: it has a file, or none was touched; or what was made is taken back, and the file of no
+-- other slot was touched.
+pub record ReplacesOrUndoes {F : Type 0} (growing : Ghosts F) (Removes : (path : List ℕ) → Result (Unit {0}) Error → Type 0) (paths : List (List ℕ))
+    (slot : ℕ) (was is : List (Option F)) (IsUndone : Type 0) : Type 0 where
+  pub kept : ¬ IsUndone → (is ≡ was) ⊎ IsSome (file_in is slot)
+  pub undone : IsUndone → AreTakenBack growing (λ left notes. AreOthersKept was left slot) Removes paths is

@@ -1,22 +1,22 @@
 //! Making a set on the device files of a folder.
-ghost use Rattle.std.specs.Prelude.{◌≡◌, ◌≢◌, ◌<◌, ◌+◌, ◌⊎◌, IfErr, OnOk, ℕ};
+ghost use Rattle.std.specs.Prelude.{◌≡◌, ◌≢◌, ◌<◌, ◌+◌, ◌⊎◌, IfErr, OnOk, map, string_bytes, ℕ};
 ghost use Rattle.std.specs.Io.KnownBytes.{Appends};
 ghost use Rattle.sector_model.specs.declared.refusal.Refusal.{Refusal};
 ghost use Rattle.report.specs.Replies.{made_line};
 ghost use Rattle.report.specs.Written.{AppendsPart};
 ghost use Rattle.device_files.specs.declared.FolderFault.{FolderFault};
 ghost use Rattle.device_files.specs.DeviceFiles.{IsLinkSynced, slot_path};
-ghost use Rattle.raidtool.specs.FolderFiles.{WereTaken};
 ghost use Rattle.raidtool.specs.OtherSets.{IsAloneIn, IsMadeAlone};
 ghost use Rattle.raidtool.specs.Stops.{IsBlamed, IsFileFault, IsMakeFault, IsOtherFault, IsUnmade};
-ghost use Rattle.raidtool.specs.FolderFiles.{MakesFiles};
+ghost use Rattle.raidtool.specs.FolderFiles.{LeavesFiles, MakesFiles, MakesOrUndoes, WereTaken};
 
 mod on_bank;
 mod other_set;
 
 use device_files::{
-    DeviceFiles, FolderFault, FolderSync, Growing, Lock, Locked, SLOTS, SlotFiles, bank_over,
-    bytes_of, lengthen_slot, open_folder, refuse_barred, refuse_unsynced, sync_folders, undo,
+    DeviceFiles, FolderFault, FolderSync, Growing, Lock, Locked, SLOTS, SlotFiles, SlotPaths,
+    bank_over, bytes_of, lengthen_slot, open_folder, refuse_barred, refuse_unsynced, slot_paths,
+    sync_folders, undo,
 };
 use layout_map::Geometry;
 use on_bank::make_alone;
@@ -94,17 +94,45 @@ where
     ensures named { IfErr result (IsBlamed (D.opens disk.now) (D.creates disk.now)
         ⟦<Locked<S::File> as Growing>⟧.has_failed folder.now) }
 {
+    let paths = slot_paths(rt.alloc(), folder)?;
     let mut files = open_folder(rt.alloc(), disk, folder)?;
     refuse_barred(&files, 0, SLOTS as u8)?;
     refuse_unsynced(&files, 0, geometry.members + 2)?;
-    let made = make_over(rt, disk, folder, id, geometry, &mut files);
+    make_or_undo(rt, disk, folder, &paths, id, geometry, &mut files)
+}
+
+// Makes the set over the files of a folder, which have these paths, or takes back what was made of them. A fault of
+// that has no place to be told.
+fn make_or_undo<S, D>(
+    rt: &S,
+    disk: &D,
+    folder: &str,
+    paths: &SlotPaths,
+    id: [u8; 16],
+    geometry: Geometry,
+    files: &mut DeviceFiles<Locked<S::File>>,
+) -> Result<(), FolderFault>
+where
+    S: Files + Meter + AllocGlobal,
+    S::File: FileExt + Lock,
+    D: SlotFiles<File = Locked<S::File>> + FolderSync,
+    ensures files { MakesOrUndoes ⟦<Locked<S::File> as Growing>⟧ (D.creates disk.now) (D.removes disk.now)
+        folder.now (map string_bytes paths.now.paths.items) geometry files.old.files.items files.new.files.items
+        files.old.before files.new.before result }
+    ensures synced { OnOk result (D.is_safe disk.now folder.now ⊎ D.is_never disk.now folder.now) }
+    ensures made { OnOk result (IsMadeAlone id geometry) }
+    ensures fault { IfErr result (IsUnmade geometry.members) }
+    ensures named { IfErr result (IsBlamed (D.opens disk.now) (D.creates disk.now)
+        ⟦<Locked<S::File> as Growing>⟧.has_failed folder.now) }
+{
+    let made = make_over(rt, disk, folder, id, geometry, files);
     if made.is_err() {
-        let _ = undo(rt.alloc(), disk, folder, &mut files);
+        let _ = undo(disk, paths, files);
     }
     made
 }
 
-// Makes the set over the files of a folder.
+// Makes the set over the files of a folder, and takes nothing back.
 fn make_over<S, D>(
     rt: &S,
     disk: &D,
@@ -117,6 +145,8 @@ where
     S: Files + Meter + AllocGlobal,
     S::File: FileExt + Lock,
     D: SlotFiles<File = Locked<S::File>> + FolderSync,
+    ensures files { LeavesFiles ⟦<Locked<S::File> as Growing>⟧ (D.creates disk.now) folder.now geometry
+        files.old.files.items files.new.files.items files.old.before files.new.before result }
     ensures synced { OnOk result (D.is_safe disk.now folder.now ⊎ D.is_never disk.now folder.now) }
     ensures made { OnOk result (IsMadeAlone id geometry) }
     ensures fault { IfErr result (IsUnmade geometry.members) }
@@ -127,7 +157,8 @@ where
     refuse_other_set(rt.alloc(), files, &id, geometry.members + 2)?;
     make_files(rt.alloc(), disk, folder, &geometry, files)?;
     let bank = bank_over(rt.alloc(), files)?;
-    make_alone(bank, rt, entry, id, geometry)
+    make_alone(bank, rt, entry, id, geometry)?;
+    Ok(())
 }
 
 // Refuses a slot from this one on that has a superblock of this id, before a file is touched.

@@ -1,9 +1,10 @@
 //! Giving a slot a device, on the device files of a folder.
-ghost use Rattle.std.specs.Prelude.{◌≡◌, ◌≢◌, ◌⊎◌, ◌↔◌, ◌<◌, ◌≤◌, ℕ, IfErr, None, OnOk, Ok, Some, false, true};
+ghost use Rattle.std.specs.Prelude.{◌≡◌, ◌≢◌, ◌⊎◌, ◌↔◌, ◌<◌, ◌≤◌, ℕ, IfErr, IsSome, None, OnOk, Ok, Some, map};
+ghost use Rattle.std.specs.Prelude.{false, string_bytes, true};
 ghost use Rattle.superblock.specs.NextTables.{slots_of};
 ghost use Rattle.recovery.specs.SeenBank.{bank_seen};
 ghost use Rattle.device_files.specs.DeviceFiles.{AreOthersKept, IsLinkSynced, IsMissingIn, file_in, slot_path};
-ghost use Rattle.raidtool.specs.FolderFiles.{WereTaken};
+ghost use Rattle.raidtool.specs.FolderFiles.{ReplacesOrUndoes, WereTaken};
 ghost use Rattle.raidtool.specs.Needs.{AreOthersWhole, FindsNeed, IsNeed, IsWhole};
 ghost use Rattle.raidtool.specs.Done.{IsNeedIn, IsUndone};
 ghost use Rattle.raidtool.specs.Replacing.{Replaces};
@@ -11,8 +12,9 @@ ghost use Rattle.raidtool.specs.Stops.{HasPassed, IsBlamed, IsPreparingRefusal, 
 ghost use Rattle.device_files.specs.SlotCalls.{RenewsSlot};
 
 use device_files::{
-    DeviceFiles, FolderFault, FolderSync, Growing, Lock, Locked, SlotFiles, bank_over, bytes_of,
-    open_folder, pass_over, refuse_barred, refuse_unsynced, renew_slot, sync_folders, undo,
+    DeviceFiles, FolderFault, FolderSync, Growing, Lock, Locked, SlotFiles, SlotPaths, bank_over,
+    bytes_of, open_folder, pass_over, refuse_barred, refuse_unsynced, renew_slot, slot_paths,
+    sync_folders, undo,
 };
 use recovery::chosen_table;
 use sector_model::{Bank, Refusal};
@@ -60,13 +62,39 @@ where
         (IsBlamed (D.opens disk.now) (D.creates disk.now) ⟦<Locked<S::File> as Growing>⟧.has_failed folder.now)
         W.contents id slot out.old out.new result }
 {
+    let paths = slot_paths(rt.alloc(), folder)?;
     let mut files = open_folder(rt.alloc(), disk, folder)?;
     refuse_barred(&files, slot, slot.saturating_add(1))?;
     refuse_unsynced(&files, slot, slot.saturating_add(1))?;
     pass_over(rt.alloc(), &files, id, err)?;
-    let done = replace_over(rt, disk, folder, id, slot, &mut files, out);
+    replace_or_undo(rt, disk, folder, &paths, id, slot, &mut files, out)
+}
+
+// Replaces the device of a slot over the files of a folder, which have these paths, or takes back what was made of
+// them. A fault of that has no place to be told.
+fn replace_or_undo<S, D, W: Write>(
+    rt: &S,
+    disk: &D,
+    folder: &str,
+    paths: &SlotPaths,
+    id: [u8; 16],
+    slot: u8,
+    files: &mut DeviceFiles<Locked<S::File>>,
+    out: &mut W,
+) -> Result<(), FolderFault>
+where
+    S: Files + AllocGlobal,
+    S::File: FileExt + Lock,
+    D: SlotFiles<File = Locked<S::File>> + FolderSync,
+    ensures files { ReplacesOrUndoes ⟦<Locked<S::File> as Growing>⟧ (D.removes disk.now)
+        (map string_bytes paths.now.paths.items) slot files.old.files.items files.new.files.items (IsUndone result) }
+    ensures replaces { Replaces (D.is_safe disk.now folder.now ⊎ D.is_never disk.now folder.now)
+        (IsBlamed (D.opens disk.now) (D.creates disk.now) ⟦<Locked<S::File> as Growing>⟧.has_failed folder.now)
+        W.contents id slot out.old out.new result }
+{
+    let done = replace_over(rt, disk, folder, id, slot, files, out);
     if is_undone(&done) {
-        let _ = undo(rt.alloc(), disk, folder, &mut files);
+        let _ = undo(disk, paths, files);
     }
     done
 }
@@ -96,6 +124,7 @@ where
     S::File: FileExt + Lock,
     D: SlotFiles<File = Locked<S::File>> + FolderSync,
     ensures others { AreOthersKept files.old.files.items files.new.files.items slot }
+    ensures kept { ¬ IsUndone result → (files.new ≡ files.old) ⊎ IsSome (file_in files.new.files.items slot) }
     ensures replaces { Replaces (D.is_safe disk.now folder.now ⊎ D.is_never disk.now folder.now)
         (IsBlamed (D.opens disk.now) (D.creates disk.now) ⟦<Locked<S::File> as Growing>⟧.has_failed folder.now)
         W.contents id slot out.old out.new result }

@@ -140,7 +140,7 @@ where
 
     ghost creates = { λ _ _ _. ⊤ };
 
-    ghost is_removed = { λ _ _. ⊤ };
+    ghost removes = { λ _ _ _. ⊤ };
 
     fn open(&self, path: &str) -> Result<Option<Locked<Remembering<'a, S::File>>>, OpenFault> {
         let Ok(safe) = format!(in self.rt.alloc(); "{path}.safe") else {

@@ -1,13 +1,16 @@
-use Rattle.std.proofs.Common.{◌≡◌, ◌<◌, ◌≤◌, ℕ, IsTrue, OnOk}
+use Rattle.std.proofs.Common.{◌≡◌, ◌<◌, ◌≤◌, ℕ, IsTrue, Ok, OnOk, map, string_bytes}
 use Rattle.device_files.specs.declared.locked.Before.TheVariants.{Same}
-use Rattle.device_files.specs.DeviceFiles.{IsTakenBack, before_in, file_in, slot_path}
+use Rattle.device_files.specs.DeviceFiles.{IsTakenBack, IsTakenBackOrFailed, before_in, file_in, path_in}
 use Rattle.device_files.proofs.reserving.undo.Given as goal
 
 abbrev pub invariant-loop-slot : goal.invariant-loop-slot
 invariant-loop-slot g l = record {
   undone : IsTrue g.D.File.Growing.tells → OnOk l.done ((k : ℕ) → k < l.slot
-      → IsTakenBack g.D.File.Growing.told (g.D.SlotFiles.is_removed l.disk (slot_path l.folder k)) (before_in l.initial.files.before k)
-      (file_in l.initial.files.files.items k) (file_in l.files.files.items k));
+      → IsTakenBack g.D.File.Growing.told (g.D.SlotFiles.removes l.disk (path_in (map string_bytes l.paths.paths.items) k) (Ok tt))
+      (before_in l.initial.files.before k) (file_in l.initial.files.files.items k) (file_in l.files.files.items k));
+  each : (k : ℕ) → k < l.slot → IsTakenBackOrFailed g.D.File.Growing.tells g.D.File.Growing.told g.D.File.Growing.has_failed
+      (g.D.SlotFiles.removes l.disk (path_in (map string_bytes l.paths.paths.items) k))
+      (before_in l.initial.files.before k) (file_in l.initial.files.files.items k) (file_in l.files.files.items k);
   same : (k : ℕ) → before_in l.initial.files.before k ≡ Same → file_in l.files.files.items k ≡ file_in l.initial.files.files.items k;
   untouched : (k : ℕ) → l.slot ≤ k → file_in l.files.files.items k ≡ file_in l.initial.files.files.items k;
   notes : l.files.before ≡ l.initial.files.before;

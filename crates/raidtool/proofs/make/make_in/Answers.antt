@@ -5,7 +5,7 @@ use Rattle.raidtool.proofs.Taken.{at_any_rate, barred_blamed, barred_passing, ba
 use Rattle.raidtool.proofs.make.make_in.Goals as goal
 
 pub returns-clause-opened : goal.returns-clause-opened
-returns-clause-opened g c = at_any_rate c.make_over-made.result
+returns-clause-opened g c = at_any_rate c.make_or_undo.result
     (were_taken _ _ _ _ (λ slot. g.D.SlotFiles.opens c.args.disk.now (slot_path c.args.folder.now slot))
     c.in_ok-files.files.files.items c.in_ok-files.files.unsynced c.in_ok-files.files.barred (λ slot. slot < c.args.geometry.members + 2) (λ _. ⊥)
     c.in_ok-files.ensures.safe (λ slot under needed. let from : 0 ≤ slot = omega arith in c.in_ok-refuse_unsynced.ensures.none slot from needed under)

@@ -1,18 +1,43 @@
-use Rattle.std.proofs.lemmas.Result.{IfErr-weaker, on_ok_weaker}
+use Rattle.std.proofs.Common.{inl, inr, refl}
+use Rattle.std.proofs.lemmas.Result.{err_from_is_err_and}
 use Rattle.raidtool.proofs.MakeEnds.{making_blamed, making_unmade}
-use Rattle.raidtool.proofs.Taken.{at_any_rate}
 use Rattle.raidtool.proofs.make.make_over.Goals as goal
 
-pub returns-clause-synced : goal.returns-clause-synced
-returns-clause-synced g c = at_any_rate c.make_alone.result c.in_ok-make_files.ensures.synced
+pub returns-in_err-make_alone-clause-fault : goal.returns-in_err-make_alone-clause-fault
+returns-in_err-make_alone-clause-fault g c =
+    let from = err_from_is_err_and c.from_residual-in_err-make_alone.result c.from_residual-in_err-make_alone.ensures.1 in
+    rw (from.1, from.2) (making_unmade _ _ _ c.in_ok-bank.ensures.devices c.in_err-make_alone.ensures.fault)
+
+pub returns-in_err-make_alone-clause-named : goal.returns-in_err-make_alone-clause-named
+returns-in_err-make_alone-clause-named g c =
+    let from = err_from_is_err_and c.from_residual-in_err-make_alone.result c.from_residual-in_err-make_alone.ensures.1 in
+    rw (from.1, from.2) (making_blamed (g.D.SlotFiles.opens c.args.disk.now) (g.D.SlotFiles.creates c.args.disk.now) _ c.args.folder.now _ _ _
+    c.in_err-make_alone.ensures.fault)
+
+pub returns-in_err-make_alone-clause-files : goal.returns-in_err-make_alone-clause-files
+returns-in_err-make_alone-clause-files g c =
+    let from = err_from_is_err_and c.from_residual-in_err-make_alone.result c.from_residual-in_err-make_alone.ensures.1 in
+    rw (from.1) (inr (c.make_files.result, c.make_files.ensures.made))
+
+pub returns-in_err-bank-clause-files : goal.returns-in_err-bank-clause-files
+returns-in_err-bank-clause-files g c =
+    let from = err_from_is_err_and c.from_residual-in_err-bank.result c.from_residual-in_err-bank.ensures.1 in
+    rw (from.1) (inr (c.make_files.result, c.make_files.ensures.made))
+
+pub returns-in_err-make_files-clause-files : goal.returns-in_err-make_files-clause-files
+returns-in_err-make_files-clause-files g c =
+    let from = err_from_is_err_and c.from_residual-in_err-make_files.result c.from_residual-in_err-make_files.ensures.1 in
+    rw (from.1) (inr (c.make_files.result, c.make_files.ensures.made))
+
+pub returns-in_err-refuse_other_set-clause-files : goal.returns-in_err-refuse_other_set-clause-files
+returns-in_err-refuse_other_set-clause-files g c =
+    let from = err_from_is_err_and c.from_residual-in_err-refuse_other_set.result c.from_residual-in_err-refuse_other_set.ensures.1 in
+    rw (from.1) (inl (refl, refl))
+
+pub returns-in_err-entry-clause-files : goal.returns-in_err-entry-clause-files
+returns-in_err-entry-clause-files g c =
+    let from = err_from_is_err_and c.from_residual.result c.from_residual.ensures.1 in
+    rw (from.1) (inl (refl, refl))
 
 pub returns-clause-made : goal.returns-clause-made
-returns-clause-made g c = on_ok_weaker c.make_alone.result (λ made. (_, made)) c.make_alone.ensures.made
-
-pub returns-clause-fault : goal.returns-clause-fault
-returns-clause-fault g c = IfErr-weaker c.make_alone.result _ _ (λ fault is. making_unmade _ _ fault c.in_ok-bank.ensures.devices is) c.make_alone.ensures.fault
-
-pub returns-clause-named : goal.returns-clause-named
-returns-clause-named g c = IfErr-weaker c.make_alone.result _ _
-    (λ fault is. making_blamed (g.D.SlotFiles.opens c.args.disk.now) (g.D.SlotFiles.creates c.args.disk.now) _ c.args.folder.now _ _ fault is)
-    c.make_alone.ensures.fault
+returns-clause-made g c = (_, c.in_ok-make_alone.ensures.made)

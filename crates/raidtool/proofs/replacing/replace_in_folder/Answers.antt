@@ -35,7 +35,7 @@ returns-in_err-refuse_unsynced-clause-replaces g c =
     })
 
 pub returns-clause-opened : goal.returns-clause-opened
-returns-clause-opened g c = at_any_rate c.replace_over-done.result
+returns-clause-opened g c = at_any_rate c.replace_or_undo.result
     (were_taken _ _ _ _ (λ other. g.D.SlotFiles.opens c.args.disk.now (slot_path c.args.folder.now other))
     c.in_ok-files.files.files.items c.in_ok-files.files.unsynced c.in_ok-files.files.barred (λ other. other ≡ c.args.slot)
     (λ other. (other ≢ c.args.slot) × IsMissingIn c.args.id other)

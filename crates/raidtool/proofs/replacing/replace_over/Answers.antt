@@ -1,9 +1,11 @@
-use Rattle.std.proofs.Common.{◌≡◌, ap, rules}
+use Rattle.std.proofs.Common.{◌≡◌, ap, inl, inr, rules}
 use Rattle.std.proofs.lemmas.Result.{err_from_is_err_and}
 use Rattle.sector_model.specs.declared.refusal.Refusal.{Refusal}
 use Rattle.sector_model.specs.declared.refusal.Refusal.TheVariants.{WriteFault}
 use Rattle.device_files.specs.declared.FolderFault.TheVariants.{Refused}
 use Rattle.set_commands.proofs.Applied.{replaced_by}
+use Rattle.device_files.specs.DeviceFiles.{file_in}
+use Rattle.raidtool.proofs.Undone.{is_there}
 use Rattle.raidtool.proofs.replacing.replace_over.Goals as goal
 
 of_write : (refusal : Refusal) → Refused refusal ≡ Refused WriteFault → refusal ≡ WriteFault
@@ -32,3 +34,9 @@ returns-clause-replaces g c = record {
   unwritten = search rules;
   cut = search rules;
 }
+
+pub returns-clause-kept : goal.returns-clause-kept
+returns-clause-kept g c = λ _. elim c.in_ok-prepare_file.ensures.prepared [
+  | inl same ↦ inl same.1
+  | inr made ↦ inr (is_there _ (file_in c.prepare_file.new.files.files.items c.args.slot) made.2.safe)
+]

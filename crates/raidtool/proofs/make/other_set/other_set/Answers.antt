@@ -29,8 +29,8 @@ returns-in_err-newest_at-clause-inspections g c =
     let mid = bank_view (g.B.Bank.panel c.loop-slot.bank) (g.B.Bank.history c.loop-slot.bank) in
     let new = bank_view (g.B.Bank.panel c.newest_at.new.bank) (g.B.Bank.history c.newest_at.new.bank) in
     let from = err_from_is_err_and c.from_residual.result c.from_residual.ensures.1 in
-    rw (from.1, from.2) (refused_beyond (g.B.Bank.honest c.args.bank.now) (g.B.Bank.honest c.loop-slot.bank) c.loop-slot.invariant.honest c.args.id.now c.args.first
-    c.loop-slot.slot old mid new
+    rw (from.1, from.2) (refused_beyond (g.B.Bank.honest c.args.bank.now) (g.B.Bank.honest c.loop-slot.bank) c.loop-slot.invariant.honest c.args.id.now
+    c.args.first c.loop-slot.slot old mid new
     (λ fair. g.met.B.Bank.true_to c.args.bank.now fair) (λ fair. g.met.B.Bank.true_to c.loop-slot.bank (c.loop-slot.invariant.honest fair))
     c.loop-slot.invariant.inspected _ c.in_err-newest_at.ensures.found)
 

@@ -63,11 +63,24 @@ class Calls:
 
     def ask(self, name, folder, script=SCRIPTS[0], **said):
         """What a command says where calls have these faults, and whether any had one."""
+        told, many = self.ask_counting(name, folder, script, **said)
+        return told, many > 0
+
+    def ask_counting(self, name, folder, script=SCRIPTS[0], **said):
+        """The same, and how many had one."""
         seen = self.new_path()
         told = self.trials.ask(name, folder, script, env=self.environment(seen, said))
-        is_seen = seen.exists()
+        many = len(seen.read_bytes()) if seen.exists() else 0
         seen.unlink(missing_ok=True)
-        return told, is_seen
+        return told, many
+
+    def log(self, variable, name, folder, **said):
+        """What a command says, and the lines that the library writes to the file of this variable."""
+        log = self.new_path()
+        told, _ = self.ask(name, folder, **{variable: log}, **said)
+        lines = log.read_text(encoding="utf-8").splitlines() if log.exists() else []
+        log.unlink(missing_ok=True)
+        return told, lines
 
     def refused(self, what, name, told, folder, **said):
         """A command that is refused for such a fault."""
@@ -83,9 +96,7 @@ def opens_once(trials, calls):
     names = [file(slot) for slot in range(10)]
     for name, start in itertools.product(COMMANDS, ("whole", "ten")):
         with trials.over(start) as folder:
-            opened = calls.new_path()
-            calls.ask(name, folder, OPENED=opened)
-            found = opened.read_text(encoding="utf-8").split()
+            _, found = calls.log("OPENED", name, folder)
             check(f"{name}, the files that it opens", sorted(found), names)
             trials.count()
 

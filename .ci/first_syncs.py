@@ -31,11 +31,8 @@ def of_sync(number, fault):
 
 def calls_of(calls, name, folder):
     """The calls of a command on device files, each its kind and its file."""
-    log = calls.new_path()
-    said, _ = calls.ask(name, folder, CALLED=log)
-    found = [tuple(it.split(" ")) for it in log.read_text(encoding="utf-8").splitlines()]
-    log.unlink()
-    return said, found
+    said, found = calls.log("CALLED", name, folder)
+    return said, [tuple(it.split(" ")) for it in found]
 
 
 def beginning(found):

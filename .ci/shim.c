@@ -5,10 +5,13 @@
             number fails, counted from 1; with `NUMBER+` also each one after it. Kinds: `open`,
             `create` (an open that may create), `lock`, `stat`, `sync` of a file, `names` (a sync of
             a folder), `cut`, `read`, `write`, `unlink`, `path` (what a link leads to), `memory`.
-   SEEN     a file that is made where a call failed, or what else is asked for here was done.
-   OPEN_NAME, OPEN_FAULT   an open of this path, or of one whose last part this is, fails.
+   SEEN     a file to which a line goes each time that a call failed, or what else is asked for here
+            was done.
+   OPEN_NAME, OPEN_FAULT   an open of this path, or of one whose last part this is, fails, unless it
+            may create.
    OPENED   a file to which the names of device files go that are opened.
    SYNCED   a file to which the paths of folders go that were synced.
+   COUNTED  a file to which each call goes that FAULTS counts, in order, as its kind, but no `memory`.
    CALLED   a file to which the calls on device files go, and the syncs of folders, in order, each
             as its kind and the last part of the path: `open`, `create`, `lock`, `fsync`,
             `fdatasync`, `read`, `write`, `cut`.
@@ -74,21 +77,21 @@ static int opened(const char *path, int flags) {
     REAL(open);
     return real(path, flags | O_CLOEXEC, 0600);
 }
-static int seen(void) {
-    const char *path = getenv("SEEN");
-    if (path) close(opened(path, O_WRONLY | O_CREAT));
-    return 1;
-}
 static void note(const char *to, const char *text) {
     const char *path = getenv(to);
     int out = path ? opened(path, O_WRONLY | O_CREAT | O_APPEND) : -1;
     if (out >= 0) { dprintf(out, "%s\n", text); close(out); }
 }
+static int seen(void) {
+    note("SEEN", "");
+    return 1;
+}
 
 /* Whether this call of a kind fails, with its number in errno. */
 static int fails(int kind) {
-    if (!is_begun || !many) return 0;
+    if (!is_begun) return 0;
     long number = __sync_add_and_fetch(&made[kind], 1);
+    if (kind != MEMORY) note("COUNTED", KIND[kind]);
     for (int each = 0; each < many; each++) {
         long at = faults[each].at;
         int is_it = number == at || (number > at && faults[each].is_on);
@@ -135,7 +138,10 @@ static int is_unopened(const char *path, int flags) {
         note("OPENED", last);
         called(flags & O_CREAT ? "create" : "open", path);
     }
-    if (is_named("OPEN_NAME", path)) { seen(); errno = atoi(getenv("OPEN_FAULT")); return 1; }
+    if (!(flags & O_CREAT) && is_named("OPEN_NAME", path) && seen()) {
+        errno = atoi(getenv("OPEN_FAULT"));
+        return 1;
+    }
     if (flags & O_CREAT && is_named("PUT_NAME", path) && seen()) rename(getenv("PUT_FROM"), path);
     return fails(OPEN) || (flags & O_CREAT && fails(CREATE));
 }

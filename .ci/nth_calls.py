@@ -106,33 +106,42 @@ def numbers():
         number += 1 + max(0, number - EACH) // 4
 
 
-class Faulty:
-    """A command over a folder of which one call failed, and how it ended."""
+def put_more(folder, slots):
+    """The files of these slots are links, each into a folder of its own, and other files are beside."""
+    for slot in slots:
+        (folder / f"disk{slot}").mkdir()
+        (folder / file(slot)).unlink(missing_ok=True)
+        (folder / file(slot)).symlink_to(f"disk{slot}/raid.img")
+    for name, content in BESIDE.items():
+        (folder / name).write_bytes(content)
 
-    def __init__(self, trials, calls, line, name, start, slots, fault):
+
+class Faulty:
+    """A command over a folder of which a call failed, or some, and how it ended."""
+
+    def __init__(self, trials, calls, line, name, start, slots, *faults, unopened=None):
         self.trials, self.calls, self.line = trials, calls, line
-        self.name, self.start, self.slots, self.fault = name, start, slots, fault
-        kind, number, error = fault
-        text = f"{errno.errorcode[error]} for {kind} {number}"
-        self.what = f"{name} from {start}, with links {slots}, and {text}"
+        self.name, self.start, self.slots, self.faults = name, start, slots, faults
+        texts = [f"{errno.errorcode[error]} for {kind} {number}" for kind, number, error in faults]
+        # A file whose first open fails, too.
+        self.more = {"OPEN_NAME": unopened, "OPEN_FAULT": errno.EIO} if unopened else {}
+        texts += [f"for the open of {unopened}"] if unopened else []
+        self.what = f"{name} from {start}, with links {slots}, and {' and '.join(texts)}"
 
     def told(self, number):
         return self.said[2].startswith(f"refused {number} ")
 
     def run(self):
-        """Makes the call fail, and says whether it was made; then all that has to hold is
+        """Makes the calls fail, and says whether all were made; then all that has to hold is
         checked."""
         with self.trials.over(self.start) as folder:
             self.folder = folder
-            for slot in self.slots:
-                (folder / f"disk{slot}").mkdir()
-                (folder / file(slot)).unlink(missing_ok=True)
-                (folder / file(slot)).symlink_to(f"disk{slot}/raid.img")
-            for name, content in BESIDE.items():
-                (folder / name).write_bytes(content)
+            put_more(folder, self.slots)
             self.kept, log = held(folder), self.calls.new_path()
-            said = {"FAULTS": failing(*self.fault), "SYNCED": log}
-            self.said, is_seen = self.calls.ask(self.name, folder, SCRIPT, **said)
+            faults = " ".join(failing(*it) for it in self.faults)
+            said = {"FAULTS": faults, "SYNCED": log, **self.more}
+            self.said, many = self.calls.ask_counting(self.name, folder, SCRIPT, **said)
+            is_seen = many == len(self.faults) + bool(self.more)
             self.found = held(folder)
             self.synced = log.read_text(encoding="utf-8").splitlines() if log.exists() else []
             log.unlink(missing_ok=True)
@@ -153,17 +162,20 @@ class Faulty:
             check(f"{self.what}, the output", output, OUTPUTS[self.name])
         self.check_set()
 
+    def is_begun(self):
+        """Whether it was refused, and what was begun may stand."""
+        return any(self.told(it) for it in FALLS)
+
     def check_refused(self, output):
         """A refusal before the set is touched leaves all files as they were."""
-        begun = [it for it in FALLS if self.told(it)]
         if self.name != "run":
             check(f"{self.what}, the output where it is refused", output, "")
         if self.name == "make":
-            self.check_unmade(bool(begun))
-        elif not begun or self.name == "examine":
+            self.check_unmade()
+        elif not self.is_begun() or self.name == "examine":
             self.check_untouched()
 
-    def left_empty(self):
+    def left(self):
         """The file that was created, and that another program seems to have: it stays, with nothing
         in it."""
         named = re.fullmatch(r"in use dev(\d)\.img\n", self.said[2])
@@ -174,7 +186,7 @@ class Faulty:
         return [place] if place not in self.kept and self.found.get(place) == b"" else []
 
     def check_untouched(self):
-        left = self.left_empty()
+        left = self.left()
         other = [it for it in differing(self.found, self.kept) if it not in left]
         if self.name == "replace" and self.start == "short" and file(LOST) in other:
             # It was emptied first, and that stays.
@@ -182,15 +194,15 @@ class Faulty:
             check(f"{self.what}, what is left of it", self.found[file(LOST)].strip(b"\0"), b"")
         check(f"{self.what}, what was changed where it told {self.said[2]!r}", other, [])
 
-    def check_unmade(self, is_begun):
+    def check_unmade(self):
         """No file stays that it created, and none is longer than it was. No byte is another one,
         where the making had not begun."""
-        if not is_begun:
+        if not self.is_begun():
             self.check_untouched()
             return
-        sizes = lambda files: {name: len(it) for name, it in files.items() if isinstance(it, bytes)}
+        left, size = self.left(), lambda it: len(it) if isinstance(it, bytes) else it
+        sizes = lambda files: {name: size(it) for name, it in files.items() if name not in left}
         check(f"{self.what}, the sizes", sizes(self.found), sizes(self.kept))
-        check(f"{self.what}, what is there", [*self.found], [*self.kept])
         check(f"{self.what}, what dev7.img holds", self.found.get(file(7)), self.kept.get(file(7)))
 
     def check_set(self):
@@ -207,11 +219,10 @@ class Faulty:
 
     def check_synced(self):
         """Each folder in which something was created was synced, where that can be."""
-        kind, numbers = PASSED_OVER
-        is_passed_over = self.fault[2] in numbers and self.fault[0] in (kind, "open")
-        is_told_gone = self.fault[0] == "stat" and self.fault[2] == errno.ENOENT
-        if is_passed_over or is_told_gone:
-            return
+        for kind, _, error in self.faults:
+            is_passed_over = error in PASSED_OVER[1] and kind in (PASSED_OVER[0], "open")
+            if is_passed_over or (kind, error) == ("stat", errno.ENOENT):
+                return
         wanted = {str(self.folder), *(str(self.folder / f"disk{slot}") for slot in self.slots)}
         check(f"{self.what}, the folders that were synced", wanted - {*self.synced}, set())
 
@@ -219,7 +230,7 @@ class Faulty:
         """There is no set. In files that were there what the making wrote of it stays, on too few
         to assemble."""
         said = self.trials.ask("status", self.folder)
-        is_in_part = self.start != "empty" and said == TWO_LOST
+        is_in_part = said == TWO_LOST and (self.start != "empty" or bool(self.left()))
         check(f"{self.what}, then the status", said, TWO_LOST if is_in_part else NO_SET)
 
     def check_look(self):

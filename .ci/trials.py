@@ -78,8 +78,8 @@ class Trials:
 
     def begin(self):
         """Makes the starts: a set with a volume, one whose slot is given up, one with a new device
-        there, one whose file is away there or too short, one with files after the set, and some
-        files of no set, of which one is too short."""
+        there, one whose file is away there or too short, one with files after the set, some files
+        of no set, of which one is too short, and such that are all too short."""
         starts = self.starts
         starts["whole"] = self.after("empty", ("make", "made\n"), ("run", "ok\n" * 3))
         starts["given up"] = self.after("whole", ("fail", "ok\n"))
@@ -91,6 +91,7 @@ class Trials:
         starts["ten"] = {**starts["whole"], **behind}
         sizes = {0: BYTES[0], 1: 1000, 4: BYTES[4] + 5000, 7: 6}
         starts["some"] = {file(slot): b"\1" * size for slot, size in sizes.items()}
+        starts["mixed"] = {file(0): b"\1" * 1000, file(2): b"", file(4): b"\2" * 5000}
 
     def after(self, start, *done):
         """What a folder holds after these commands, which have to say this."""

@@ -4,8 +4,8 @@ builds it."""
 import errno, itertools, os, pathlib, shutil, subprocess
 
 from shared import SLOTS
-from trials import COMMANDS, LOST, MADE, SCRIPTS
-from trials import asked, check, check_files, check_text, differing, file, held
+from trials import ABSENT, COMMANDS, LOST, MADE, SCRIPTS
+from trials import asked, check, check_files, check_text, differing, file, held, inspected
 
 UNREADABLE = {
     errno.EACCES: "permission denied",
@@ -109,6 +109,7 @@ def unopened(trials, calls):
         with trials.over("ten") as folder:
             what = f"with fault {fault} for {file(slot)}"
             calls.refused(what, name, told, folder, OPEN_NAME=file(slot), OPEN_FAULT=fault)
+            calls.refused(what, "examine", told, folder, OPEN_NAME=file(slot), OPEN_FAULT=fault)
 
 
 def lost_by_a_fault(trials, calls):
@@ -124,12 +125,19 @@ def lost_by_a_fault(trials, calls):
             after[file(1)] = trials.starts["whole"][file(1)]
             check_files(f"{name} with fault {fault}", held(folder), after)
             trials.count()
+    for fault, slot in itertools.product((errno.EIO, errno.ENXIO), range(10)):
+        with trials.over("ten") as folder:
+            said = calls.ask("examine", folder, OPEN_NAME=file(slot), OPEN_FAULT=fault)
+            wanted = inspected({slot: ABSENT} if slot < SLOTS else ())
+            check(f"examine with fault {fault} for {file(slot)}", said, (wanted, True))
+            check_files("the same", held(folder), trials.starts["ten"])
+            trials.count()
 
 
 def no_start(trials, calls):
     """What stands in for closed streams cannot be opened."""
     numbers = (errno.EMFILE, errno.ENFILE, errno.EACCES)
-    for fault, name in itertools.product(numbers, ("run", "make", "status")):
+    for fault, name in itertools.product(numbers, ("run", "make", "status", "examine")):
         with trials.over("whole") as folder:
             said, is_seen = calls.ask(name, folder, OPEN_NAME="/", OPEN_FAULT=fault)
             what = f"{name} that cannot start"

@@ -3,7 +3,7 @@ missing, and says so; else it is refused, and no file is changed."""
 import contextlib, fcntl, struct
 
 from trials import COMMANDS, LOST
-from trials import check, check_files, file, held
+from trials import check, check_files, file, held, inspected, missing
 
 GET_FLAGS, SET_FLAGS, IMMUTABLE = 0x80086601, 0x40086602, 0x10
 WHY = "operation not permitted\n"
@@ -63,4 +63,6 @@ def passed_over(trials):
     refused += (("given up", (LOST, IN_SYNC), IN_SYNC, GO_ON), ("ten", (BEHIND,), BEHIND, COMMANDS))
     for start, slots, named, commands in refused:
         with trials.over(start) as folder, closed(folder, *slots):
-            trials.each_refused("where a file that is needed can't be opened", f"cannot open {file(named)}: {WHY}", folder, commands)
+            what, said = "where a file that is needed can't be opened", inspected()
+            trials.each_refused(what, f"cannot open {file(named)}: {WHY}", folder, commands)
+            trials.inspects(what, folder, missing("there generation 1 incarnation 1 called missing") if start == "given up" else said)

@@ -2,20 +2,26 @@
 one, and how what all files hold is compared."""
 import collections, contextlib, itertools, os, re, shutil, subprocess, tempfile, threading
 
-from looks import LONGEST, NO_SET, held, look
-from shared import MEMBERS, SLOTS, Failed, shape, words
+from looks import COMPLETE, LONGEST, NO_SET, TWO_LOST, held, look
+from shared import CHUNK, ID, MEMBERS, ROWS, SLOTS, STRIPES, Failed, shape, words
 
 COMMANDS = ("make", "run", "status", "fail", "replace", "rebuild", "scrub", "upgrade")
 # The slot that is given up and gets a device.
 LOST = 0
 BYTES = [135_168] * MEMBERS + [266_240] * (SLOTS - MEMBERS)
 PUT = "create a 64\nwrite a 0 5a*512 A5*512\nwrite a 62 01*512 02*512\n"
+# The entries of these lines: zeros for the blocks in two, the table, and two writes.
+ENTRIES = 5
 # What a run is given, as the first or as the second of two.
 SCRIPTS = (
     "write a 0 11*512 12*512\nwrite a 40 13*512\nread a 0 2\nlist\n",
     "write a 1 21*512\nread a 0 2\nwrite a 63 22*512\nlist\n",
 )
 MADE = (0, "made\n", "")
+
+# What an inspection tells of a slot without a device of the set, after its number and its role.
+ABSENT = "absent generation 0 incarnation 0 not there"
+TOO_SHORT = "too short generation 0 incarnation 0 not there"
 
 # A run: its status, output and standard error, and how far it read its script.
 Ran = collections.namedtuple("Ran", "said read")
@@ -29,6 +35,30 @@ def differing(got, wanted):
 
 def file(slot):
     return f"dev{slot}.img"
+
+
+def other_device(slot, entries=ENTRIES):
+    """The same of a slot that has a device of no slot of the set, or of another one."""
+    entry = f" entry {entries}" * (slot >= MEMBERS)
+    return f"there generation 0 incarnation 0{entry} no superblock"
+
+
+def inspected(others=(), last=None, generation=1, entries=ENTRIES):
+    """How an inspection ends of the set of the starts, of which these slots have other lines. Where the
+    last line is not given, it is by the slots that are lost so."""
+    head = f"set {ID}\nmembers {MEMBERS} chunk {CHUNK} stripes {STRIPES} rows {ROWS}\n"
+    text, others = f"{head}generation {generation} position 0 left 0\n", dict(others)
+    for slot in range(SLOTS):
+        role, entry = ("journal ", f" entry {entries}") if slot >= MEMBERS else ("member  ", "")
+        live = f"there generation {generation} incarnation 1{entry} live"
+        text += f"{slot:2} {role} {others.get(slot, live)}\n"
+    lasts = [COMPLETE, *(f"would mark slot {slot} missing" for slot in others)]
+    return 0, f"{text}{last or (lasts[-1] if len(others) < 2 else TWO_LOST)}\n", ""
+
+
+def missing(line):
+    """The same where the first slot is given up, and has this line."""
+    return inspected({LOST: line}, f"would assemble: slot {LOST} missing", 2)
 
 
 def asked(name, folder):
@@ -155,6 +185,13 @@ class Trials:
     def each_refused(self, what, told, folder, commands=COMMANDS, **how):
         for name in commands:
             self.refused(f"{name} {what}", asked(name, folder), told, folder, **how)
+
+    def inspects(self, what, folder, said, **how):
+        """An inspection that ends so, and changes no file."""
+        kept = held(folder)
+        check(f"examine {what}", self.ask("examine", folder, **how), said)
+        check_files(f"examine {what}", held(folder), kept)
+        self.count()
 
     def works(self, what, folder, reads=""):
         """A set that assembles, with all slots in sync, and answers this to `read a 0 2`."""

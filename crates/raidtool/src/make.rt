@@ -65,7 +65,7 @@ where
         ⟦<Locked<S::File> as Growing>⟧.has_failed folder.now) }
     ensures unmade { IfErr result (λ fault. fault ≢ FolderFault.Refused Refusal.WriteFault → out.new ≡ out.old) }
     ensures part { IfErr result (λ fault. fault ≡ FolderFault.Refused Refusal.WriteFault
-        → AppendsPart (W.contents out.old) (W.contents out.new) made_line) }
+        → IsMadeAlone id geometry × AppendsPart (W.contents out.old) (W.contents out.new) made_line) }
 {
     make_in(rt, disk, folder, id, geometry)?;
     write_made(out)?;

@@ -184,8 +184,9 @@ pub fn undo<D: SlotFiles>(
     paths: &SlotPaths,
     files: &mut DeviceFiles<D::File>,
 ) -> io::Result<()>
-    ensures { TakesBack D.File.tells D.File.told D.File.has_failed (D.removes disk.now)
+    ensures taken_back { TakesBack D.File.tells D.File.told D.File.has_failed (D.removes disk.now)
         (map string_bytes paths.now.paths.items) files.old.files.items files.new.files.items files.old.before result }
+    ensures notes { files.new.before ≡ files.old.before }
 {
     let mut done = Ok(());
     for slot in 0..SLOTS {

@@ -78,6 +78,8 @@ made_alone honest honest_mid on id geometry old mid is_old is_mid alone made = r
   inspected = mid;
   alone = alone;
   makes = made_by honest honest_mid on id geometry mid made;
+  quiet = λ fair still stay.
+      quiet_beyond id (geometry.members + 2) old mid (is_old fair) (is_mid fair) alone.later (alone.reads fair) stay still (alone.finds None refl fair stay);
   rests = λ fair still stay. made.makes.rests (on fair)
       (quiet_beyond id (geometry.members + 2) old mid (is_old fair) (is_mid fair) alone.later (alone.reads fair) stay still (alone.finds None refl fair stay))
       made.array refl;

@@ -10,7 +10,8 @@ use Rattle.device_files.specs.declared.growing.Growing.{Ghosts}
 use Rattle.device_files.specs.declared.locked.Before.{Before}
 use Rattle.device_files.specs.declared.slot_files.CreateFault.{CreateFault}
 use Rattle.device_files.specs.declared.slot_files.OpenFault.{OpenFault}
-use Rattle.device_files.specs.DeviceFiles.{AreOthersKept, Begins, HasMade, IsCreated, IsNotedOf, IsOpenedAs, StaysOrMade, barred_in, before_in, file_in, lengthened, slot_path}
+use Rattle.device_files.specs.DeviceFiles.{AreOthersKept, Begins, HasMade, IsCreated, IsNotedOf, IsOpenedAs, StaysOrMade, barred_in}
+use Rattle.device_files.specs.DeviceFiles.{before_in, file_in, lengthened, slot_path}
 use Rattle.device_files.specs.Faults.{IsUnmadeFile}
 use Rattle.device_files.specs.SlotCalls.{TakesBack}
 
@@ -69,12 +70,11 @@ LeavesFiles growing Creates folder geometry was is notes_were notes_are (Err fau
     ⊎ ((made : Result (Unit {0}) FolderFault)
     × MakesFiles growing.tells growing.told growing.is_safe growing.has_failed Creates folder geometry was is notes_were notes_are made)
 
--- Files were left so, and what was noted of them was then taken back, but where the call failed that was to do so.
-pub record AreTakenBack {F : Type 0} (growing : Ghosts F) (Left : List (Option F) → List Before → Type 0)
-    (Removes : (path : List ℕ) → Result (Unit {0}) Error → Type 0) (paths : List (List ℕ)) (is : List (Option F)) : Type 0 where
+-- Files were left so, and what is noted of them was then taken back, but where the call failed that was to do so.
+pub record AreTakenBack {F : Type 0} (growing : Ghosts F) (Left : List (Option F) → Type 0)
+    (Removes : (path : List ℕ) → Result (Unit {0}) Error → Type 0) (paths : List (List ℕ)) (is : List (Option F)) (notes : List Before) : Type 0 where
   pub files : List (Option F)
-  pub notes : List Before
-  pub left : Left files notes
+  pub left : Left files
   pub result : Result (Unit {0}) Error
   pub taken_back : TakesBack growing.tells growing.told growing.has_failed Removes paths files is notes result
 
@@ -85,11 +85,11 @@ abbrev pub MakesOrUndoes : {F : Type 0} → (growing : Ghosts F) (Creates : (pat
 MakesOrUndoes growing Creates Removes folder paths geometry was is notes_were notes_are (Ok done) =
     LeavesFiles growing Creates folder geometry was is notes_were notes_are (Ok done)
 MakesOrUndoes growing Creates Removes folder paths geometry was is notes_were notes_are (Err fault) =
-    AreTakenBack growing (λ left notes. LeavesFiles growing Creates folder geometry was left notes_were notes (Err fault)) Removes paths is
+    AreTakenBack growing (λ left. LeavesFiles growing Creates folder geometry was left notes_were notes_are (Err fault)) Removes paths is notes_are
 
 -- The files of a folder over which a slot was to be given a device: it has a file, or none was touched; or what was made is taken back, and the file of no
 -- other slot was touched.
 pub record ReplacesOrUndoes {F : Type 0} (growing : Ghosts F) (Removes : (path : List ℕ) → Result (Unit {0}) Error → Type 0) (paths : List (List ℕ))
-    (slot : ℕ) (was is : List (Option F)) (IsUndone : Type 0) : Type 0 where
+    (slot : ℕ) (was is : List (Option F)) (notes_are : List Before) (IsUndone : Type 0) : Type 0 where
   pub kept : ¬ IsUndone → (is ≡ was) ⊎ IsSome (file_in is slot)
-  pub undone : IsUndone → AreTakenBack growing (λ left notes. AreOthersKept was left slot) Removes paths is
+  pub undone : IsUndone → AreTakenBack growing (λ left. AreOthersKept was left slot) Removes paths is notes_are

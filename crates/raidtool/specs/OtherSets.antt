@@ -13,7 +13,7 @@ use Rattle.array_io.specs.Believed.Fresh.{zeros_of}
 use Rattle.array_io.specs.Believed.ReadWhole.{NoDeviceFailed}
 use Rattle.array_io.specs.Believed.Views.{RestsOn}
 use Rattle.recovery.specs.Finding.{NewestFound}
-use Rattle.recovery.specs.Making.{BankView}
+use Rattle.recovery.specs.Making.{BankView, IsQuietBeyond}
 use Rattle.device_files.specs.declared.FolderFault.{FolderFault}
 use Rattle.device_files.specs.declared.FolderFault.TheVariants.{OtherSet, Refused}
 use Rattle.raidtool.specs.Done.{MakesOn, OfFiles}
@@ -47,11 +47,13 @@ pub record IsStillBeyond (slots : ℕ) (bank : BankView) : Type 0 where
   pub none_lost : (slot : ℕ) → slots ≤ slot → is_down bank.history slot ≡ true → start_of bank.history slot ≡ None
 
 -- No slot after those of a set was found to have another one of its id, by reads alone, and then the set was made on this very bank. Where no device failed
--- meanwhile, it is settled on zeros.
+-- meanwhile, the bank was as the headline asks, and the set is settled on zeros.
 pub record MakesAlone (honest : Type 0) (id : List ℕ) (geometry : Geometry) (bank : BankView) : Type 0 where
   pub inspected : BankView
   pub alone : InspectsBeyond honest id (geometry.members + 2) bank inspected (Ok None)
   pub makes : MakesOn honest id geometry inspected
+  pub quiet : honest → IsStillBeyond (geometry.members + 2) bank → NoDeviceFailed bank.panel inspected.panel
+      → IsQuietBeyond id (geometry.members + 2) inspected
   pub rests : honest → IsStillBeyond (geometry.members + 2) bank → NoDeviceFailed bank.panel inspected.panel → RestsOn makes.array None (zeros_of geometry)
 
 -- a set of this id and geometry was so made on some bank of files

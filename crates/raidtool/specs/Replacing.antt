@@ -22,5 +22,6 @@ Replaces Synced Blamed contents id slot was is result = record {
   fault : IfErr result (IsSlotFault IsReplaceEnd slot);
   blamed : IfErr result Blamed;
   unwritten : IfErr result (λ fault. fault ≢ Refused WriteFault → is ≡ was);
-  cut : IfErr result (λ fault. fault ≡ Refused WriteFault → AppendsPart (contents was) (contents is) (reply_text Done));
+  cut : IfErr result (λ fault. fault ≡ Refused WriteFault
+      → IsReplacedSlot id slot × AppendsPart (contents was) (contents is) (reply_text Done));
 }

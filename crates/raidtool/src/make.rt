@@ -38,7 +38,7 @@ use stripe_journal::Entry;
 /// that is absent is created, and each that is too short is lengthened by zero bytes; none is shortened, and no byte
 /// that is there is changed, before the making of the set begins. `NoFile` names the first file that this could not be
 /// done with, and `NotSynced` says that a folder could not be synced. The set itself is refused with `NotUsable`,
-/// `Worn` or `Memory`.
+/// `Worn` or `Memory`, and with `OtherSet` where a slot gives such a superblock only then.
 ///
 /// Where it is not made, the files that it created are removed again, and those that it lengthened are cut to the bytes
 /// that they had. `WriteFault` says that the set was made and `out` failed.
@@ -65,15 +65,14 @@ where
         ⟦<Locked<S::File> as Growing>⟧.has_failed folder.now) }
     ensures unmade { IfErr result (λ fault. fault ≢ FolderFault.Refused Refusal.WriteFault → out.new ≡ out.old) }
     ensures part { IfErr result (λ fault. fault ≡ FolderFault.Refused Refusal.WriteFault
-        → AppendsPart (W.contents out.old) (W.contents out.new) made_line) }
+        → IsMadeAlone id geometry × AppendsPart (W.contents out.old) (W.contents out.new) made_line) }
 {
     make_in(rt, disk, folder, id, geometry)?;
     write_made(out)?;
     Ok(())
 }
 
-// Makes the set, or leaves the files that were there as long as they were, and no other. A fault of that has no place
-// to be told.
+// Makes the set, or leaves the files that were there as long as they were, and no other.
 fn make_in<S, D>(
     rt: &S,
     disk: &D,

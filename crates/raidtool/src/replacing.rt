@@ -87,7 +87,8 @@ where
     S::File: FileExt + Lock,
     D: SlotFiles<File = Locked<S::File>> + FolderSync,
     ensures files { ReplacesOrUndoes ⟦<Locked<S::File> as Growing>⟧ (D.removes disk.now)
-        (map string_bytes paths.now.paths.items) slot files.old.files.items files.new.files.items (IsUndone result) }
+        (map string_bytes paths.now.paths.items) slot files.old.files.items files.new.files.items files.new.before
+        (IsUndone result) }
     ensures replaces { Replaces (D.is_safe disk.now folder.now ⊎ D.is_never disk.now folder.now)
         (IsBlamed (D.opens disk.now) (D.creates disk.now) ⟦<Locked<S::File> as Growing>⟧.has_failed folder.now)
         W.contents id slot out.old out.new result }

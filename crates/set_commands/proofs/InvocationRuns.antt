@@ -1,15 +1,17 @@
 -- Invocations of the program are runs of a set, so that the headline holds of them.
-use Rattle.std.proofs.Common.{ℕ, List, [], ◌∷◌, ◌++◌, length, sym, subst}
+use Rattle.std.proofs.Common.{◌≢◌, ℕ, List, [], ◌∷◌, ◌++◌, length, sym, subst}
 use Rattle.std.proofs.Math.Logic.{∥∥₁_map}
 use Rattle.std.proofs.lemmas.List.{append-nil}
 use Rattle.sector_model.specs.Bank.{IsTrueTo, Panel}
+use Rattle.sector_model.specs.declared.refusal.Refusal.TheVariants.{TwoLost}
+use Rattle.superblock.specs.Losses.{IsSingleFailure}
 use Rattle.superblock.specs.NextTables.{slots_of}
 use Rattle.array_io.specs.Believed.Views.{ArrayView}
 use Rattle.recovery.specs.Making as recovery
 use Rattle.recovery.specs.Making.{BankView}
 use Rattle.volume_table.specs.Volumes.{VolumeMap}
-use Rattle.volume_table.specs.VolumeStep.{Event, Reply, left_by}
-use Rattle.volume_table.specs.Stands.{StoreView, extents_in}
+use Rattle.volume_table.specs.VolumeStep.{Event, Refused, Reply, left_by}
+use Rattle.volume_table.specs.Stands.{IsSettledOn, StoreView, extents_in}
 use Rattle.volume_table.specs.StoreCalls.{Applies, lost_in}
 use Rattle.volume_table.specs.Opening.{Opened, Returned}
 use Rattle.volume_table.specs.Runs as runs
@@ -32,7 +34,8 @@ data Rest (slots : ℕ) (serving : Serving) (left : World) : (answered crashed :
 
 abbrev right_in : {slots : ℕ} {serving : Serving} {left : World} {events crashed : List Event} → ℕ → VolumeMap → Rest slots serving left events crashed → Type 0
 right_in extents volumes (between replies last does crashes) = AreRight extents volumes does
-right_in extents volumes (in_one replies last event store reply does applies true_to crashes) = AreRight extents volumes does
+right_in {slots = slots} extents volumes (in_one replies last event store reply does applies true_to crashes) = AreRight extents volumes does
+    × (IsSingleFailure slots (lost_in event last.store.array.table last.fate.lost) store.array.history → reply ≢ Refused TwoLost)
 
 -- an event is answered first
 one_more : {slots : ℕ} {old mid : Serving} {left : World} {events crashed : List Event} (event : Event) (reply : Reply) → runs.IsDone slots event reply old mid
@@ -46,7 +49,8 @@ right_more : {slots : ℕ} {old mid : Serving} {left : World} {events crashed : 
     → IsRight extents volumes event mid.store reply × right_in extents (left_by extents event volumes) rest
 unfolding one_more
 right_more extents volumes event reply done (between replies last does crashes) right = right
-right_more extents volumes event reply done (in_one replies last other store answer does applies true_to crashes) right = right
+right_more extents volumes event reply done (in_one replies last other store answer does applies true_to crashes) right =
+    (right.0.0, (right.0.1, right.1))
 
 rest_of : (slots : ℕ) {replies : List Reply} {old new : StoreView} (asks : Served replies old new) (fate : Fate) (left : World)
     (ends : EndsServing slots asks fate left) → Rest slots (record { store = old; fate = fate }) left (answered slots asks fate left ends) (crashed_in slots asks fate left ends)
@@ -69,7 +73,7 @@ rightly slots extents volumes (then_answered mid event reply applies goes rest) 
     (rest_of slots rest next left ends) right in
     (both.0, rightly slots extents (left_by extents event volumes) rest next left ends both.1)
 rightly slots extents volumes (then_no_event rest) fate left ends right = rightly slots extents volumes rest fate left ends right
-rightly slots extents volumes (then_ended event reply applies last) fate left ends right = tt
+rightly slots extents volumes (then_ended event reply applies last) fate left ends right = right.1
 
 -- ---- a session, and what it keeps
 
@@ -82,17 +86,18 @@ session_by {first = first} {events = events} opened (in_one replies last event s
 session_keeps : {slots : ℕ} {array : ArrayView} {fate : Fate} {first : Serving} {left : World} {events crashed : List Event} (extents : ℕ) (before : Before)
     (opened : IsServing slots array fate first) (rest : Rest slots first left events crashed) (Later : Before → Type 0)
     → SessionKeeps extents slots before (session_by opened rest) Later
-    → (volumes : VolumeMap) × IsAfterPrefix extents before volumes × right_in extents volumes rest
+    → (volumes : VolumeMap) × IsAfterPrefix extents before volumes × IsSettledOn first.store first.fate.lost volumes × right_in extents volumes rest
     × Later (record { volumes = volumes; events = events ++ crashed; acknowledged = length events })
 unfolding session_by
 session_keeps {events = events} extents before opened (between replies last does crashes) Later keeps = (
   keeps.0,
   keeps.1.after_prefix,
+  keeps.1.settled,
   keeps.1.right,
   subst (λ (e : List Event). Later (record { volumes = keeps.0; events = e; acknowledged = length events })) (sym (append-nil events)) keeps.2,
 )
 session_keeps extents before opened (in_one replies last event store reply does applies true_to crashes) Later keeps =
-    (keeps.0, keeps.1.after_prefix, keeps.1.right, keeps.3)
+    (keeps.0, keeps.1.after_prefix, keeps.1.settled, (keeps.1.right, keeps.2), keeps.3)
 
 -- ---- a run, and what it keeps
 
@@ -116,9 +121,10 @@ module _ (id : List ℕ) (slots : ℕ) (panel : Panel) (begun left : World) wher
       → RunKeeps id extents slots before (run_of done ends) Later → BankKeeps slots extents before done begun.fate left ends Other
   unfolding run_of
   run_keeps extents before (only_read after reads) crashes Later Other more keeps = more before keeps
-  run_keeps extents before (not_assembled after refusal assembles) crashes Later Other more keeps = more before keeps.1
+  run_keeps extents before (not_assembled after refusal assembles) crashes Later Other more keeps = (keeps.0, more before keeps.1)
   run_keeps extents before (not_opened array after refusal assembles opens) (here crashes) Later Other more keeps = more before keeps.1
-  run_keeps extents before (not_opened array after refusal assembles opens) (later next (over, (true_to, crashes))) Later Other more keeps = more before keeps.1
+  run_keeps extents before (not_opened array after refusal assembles opens) (later next (over, (true_to, crashes))) Later Other more keeps =
+      (keeps.0, more before keeps.1)
   run_keeps extents before (served array first last assembles opens asks) (here crashes) Later Other more keeps = more before keeps.1
   run_keeps extents before (served array first last assembles opens asks) (later next (over, here (true_to, crashes))) Later Other more keeps =
       more before keeps.1
@@ -126,8 +132,9 @@ module _ (id : List ℕ) (slots : ℕ) (panel : Panel) (begun left : World) wher
       let is = session_keeps extents before (record { opens = opens; goes_over = over' }) (rest_of slots asks then left ends) Later keeps in (
         is.0,
         is.1,
-        rightly slots extents is.0 asks then left ends is.2,
-        more (kept_by slots is.0 asks then left ends) is.3,
+        is.2,
+        rightly slots extents is.0 asks then left ends is.3,
+        more (kept_by slots is.0 asks then left ends) is.4,
       )
 
 -- Invocations are runs.

@@ -1,62 +1,66 @@
--- What the contracts of the program's commands say was done on a bank, as the headline of the program speaks of it.
-use Rattle.std.specs.Prelude.{◌≡◌, ℕ, Bool, List, [], ◌∷◌, ◌++◌, length, replicate, Option}
-use Rattle.std.specs.Io.KnownBytes.{Appends}
+-- What the contracts of the program's commands say, as the headline of the program speaks of it: of a bank that is honest, and of the very stores that they name.
+use Rattle.std.specs.Prelude.{◌≡◌, ℕ, ◌+◌, Bool, List, [], ◌∷◌, ◌++◌, replicate, Option, None, Result}
 use Rattle.sector_model.specs.declared.refusal.Refusal.{Refusal}
-use Rattle.recovery.specs.Making.{BankView}
-use Rattle.volume_table.specs.declared.status.Status.{Status}
+use Rattle.sector_model.specs.Reads.{HasRead}
+use Rattle.superblock.specs.declared.table.Table.{Table}
+use Rattle.recovery.specs.Making as recovery
+use Rattle.recovery.specs.Making.{BankView, FindsTable}
+use Rattle.recovery.specs.Assembling.{Assembles}
+use Rattle.rebuild.specs.Rebuilding.{Progress}
 use Rattle.volume_table.specs.VolumeStep.{Event, OnSet, RebuildStep, Refused, Reply}
-use Rattle.set_commands.specs.Examining.{Inspects, ReadsOn}
-use Rattle.set_commands.specs.Invocations.{DoneOn, events_on}
-use Rattle.report.specs.Written.{AppendsPart}
-use Rattle.set_commands.specs.Run.{StoppedByStore, StoppedReading, StoppedWriting, Streams}
+use Rattle.volume_table.specs.Stands.{StoreView}
+use Rattle.volume_table.specs.StoreCalls.{Applies}
+use Rattle.volume_table.specs.Opening.{Opened, Opens, Returned}
+use Rattle.set_commands.specs.Examining.{InspectsAbove, InspectsOne}
+use Rattle.set_commands.specs.Invocations.{Served, events_in}
+use Rattle.set_commands.specs.Run.{HasRun, StoppedByStore, StoppedReading, StoppedWriting, Streams}
 use Rattle.set_commands.specs.ScriptLaw.{AreCommandsOf}
-use Rattle.set_commands.specs.Serving.{AppliesOn, IsNotOpened, OpensOnly, RebuildsOn, RefusesOn, RunsOn, ServesOn, StatusOn, StopsRebuildingOn}
+use Rattle.set_commands.specs.Serving.{IsOpened, IsUnassembled, IsUnread}
+use Rattle.set_commands.specs.Steps.{Rebuilds}
 
--- these events were done on a bank, with these replies
-pub record WereDone (id : List ℕ) (bank : BankView) (events : List Event) (replies : List Reply) : Type 0 where
-  pub done : DoneOn id bank replies
-  pub events_are : events_on done ≡ events
+-- a store was asked the commands of these lines, and answered so
+pub record LinesAsked (lines : List (List ℕ)) (replies : List Reply) (first last : StoreView) : Type 0 where
+  pub does : Served replies first last
+  pub commands : AreCommandsOf lines (events_in does)
 
--- the commands of these lines were done on a bank, with these replies
-pub record LinesWereDone (id : List ℕ) (bank : BankView) (lines : List (List ℕ)) (replies : List Reply) : Type 0 where
-  pub done : DoneOn id bank replies
-  pub commands : AreCommandsOf lines (events_on done)
+-- it was asked this event, and answered so
+pub record EventAsked (event : Event) (reply : Reply) (first last : StoreView) : Type 0 where
+  pub does : Served (reply ∷ []) first last
+  pub asked : events_in does ≡ event ∷ []
 
--- steps of a rebuild were done on a bank, so many as there are replies
-pub record StepsWereDone (id : List ℕ) (bank : BankView) : Type 0 where
+-- it was asked so many steps of a rebuild
+pub record StepsAsked (count : ℕ) (first last : StoreView) : Type 0 where
   pub replies : List Reply
-  pub were : WereDone id bank (replicate (length replies) (OnSet (RebuildStep 64))) replies
+  pub does : Served replies first last
+  pub asked : events_in does ≡ replicate count (OnSet (RebuildStep 64))
 
--- Each way in which a command ends on an honest bank: what it says of the store that it opened there, and of its replies, is something that was done on
--- the bank.
+-- What the contracts say on a bank that is honest: how a set was assembled and its volumes opened there, or why not; what the store was asked then, by each
+-- command and each of its ends; and that the others only read. Of such is a `DoneOn` made.
 pub record CommandsAreDone (honest : Type 0) (id : List ℕ) (bank : BankView) : Type 0 where
-  -- `run`: lines were answered, to the end of the script
-  pub ran : (was is : Streams) → (runs : RunsOn honest id bank was is) → LinesWereDone id bank runs.comes.lines runs.comes.replies
-  -- until the reader failed
-  pub unread : (was is : Streams) → (serves : ServesOn honest id bank (λ first last. StoppedReading honest first last was is))
-      → LinesWereDone id bank serves.comes.lines serves.comes.replies
-  -- until the writer failed
-  pub cut : (was is : Streams) → (serves : ServesOn honest id bank (λ first last. StoppedWriting honest first last was is))
-      → LinesWereDone id bank (serves.comes.lines ++ serves.comes.line ∷ []) (serves.comes.replies ++ serves.comes.reply ∷ [])
-  -- until the store ended
-  pub lost : (refusal : Refusal) (was is : Streams) → (serves : ServesOn honest id bank (λ first last. StoppedByStore honest refusal first last was is))
-      → LinesWereDone id bank (serves.comes.lines ++ serves.comes.line ∷ []) (serves.comes.replies ++ Refused refusal ∷ [])
-  -- `fail`, `replace`, `scrub`, `upgrade`: an event was done, and its answer written or a part of it; or it was refused
-  pub applied : (event : Event) (was is : Option (List ℕ)) → (does : AppliesOn honest id event bank (Appends was is))
-      → WereDone id bank (event ∷ []) (does.reply ∷ [])
-  pub applied_part : (event : Event) (was is : Option (List ℕ)) → (does : AppliesOn honest id event bank (AppendsPart was is))
-      → WereDone id bank (event ∷ []) (does.reply ∷ [])
-  pub refused : (event : Event) (refusal : Refusal) → RefusesOn honest id event bank refusal → WereDone id bank (event ∷ []) (Refused refusal ∷ [])
-  -- `rebuild`: steps were done, and how far they came was written or a part of it; or the last was refused
-  pub rebuilt : (steps : Option ℕ) (was is : Option (List ℕ)) → RebuildsOn honest id steps bank (Appends was is) → StepsWereDone id bank
-  pub rebuilt_part : (steps : Option ℕ) (was is : Option (List ℕ)) → RebuildsOn honest id steps bank (AppendsPart was is) → StepsWereDone id bank
-  pub rebuild_refused : (steps : Option ℕ) (refusal : Refusal) → StopsRebuildingOn honest id steps bank refusal → StepsWereDone id bank
-  -- `status`, `examine`, whatever found no memory once the set was opened, and whatever found no set
-  pub told : (status : Status) → StatusOn honest id bank status → WereDone id bank [] []
-  pub opened : OpensOnly honest id bank → WereDone id bank [] []
-  pub unopened : (refusal : Refusal) → IsNotOpened honest id bank refusal → WereDone id bank [] []
-  pub inspected : (one : Option (List ℕ)) (json : Bool) (text : List ℕ) → Inspects honest one json bank text → WereDone id bank [] []
-  pub read : ReadsOn honest bank → WereDone id bank [] []
+  pub opened : (store : StoreView) (is : IsOpened honest id bank store)
+      → Assembles (Unit {0}) id bank (recovery.Opened is.array) × Opens (Unit {0}) is.array (Opened store)
+  pub unassembled : (refusal : Refusal) (is : IsUnassembled honest id bank refusal) → Assembles (Unit {0}) id bank (recovery.Returned is.back refusal)
+  pub unread : (refusal : Refusal) (is : IsUnread honest id bank refusal)
+      → Assembles (Unit {0}) id bank (recovery.Opened is.array) × Opens (Unit {0}) is.array (Returned is.back refusal)
+  -- `run`: to the end of the script, until the reader failed, until the writer failed, or until the store ended
+  pub ran : (first last : StoreView) (was is : Streams) (run : HasRun honest first last was is) → LinesAsked run.lines run.replies first last
+  pub stopped_reading : (first last : StoreView) (was is : Streams) (run : StoppedReading honest first last was is)
+      → LinesAsked run.lines run.replies first last
+  pub stopped_writing : (first last : StoreView) (was is : Streams) (run : StoppedWriting honest first last was is)
+      → LinesAsked (run.lines ++ run.line ∷ []) (run.replies ++ run.reply ∷ []) first last
+  pub ended : (refusal : Refusal) (first last : StoreView) (was is : Streams) (run : StoppedByStore honest refusal first last was is)
+      → LinesAsked (run.lines ++ run.line ∷ []) (run.replies ++ Refused refusal ∷ []) first last
+  -- `fail`, `replace`, `scrub`, `upgrade`, whatever it was answered
+  pub applied : (event : Event) (first last : StoreView) (reply : Reply) → Applies honest event first last reply → EventAsked event reply first last
+  -- `rebuild`, whatever the last step was answered
+  pub rebuilt : (steps : Option ℕ) (first last : StoreView) (answer : Result Progress Refusal) (rebuilds : Rebuilds honest steps first last answer)
+      → StepsAsked (rebuilds.before + 1) first last
+  -- `examine`; and whoever asks for the table of the set, as `replace` and a command with a file that it can't open do
+  pub inspected : (which : List ℕ) (json : Bool) (after : BankView) (text : List ℕ) → InspectsOne honest which json bank after text
+      → HasRead bank.history after.history
+  pub inspected_all : (json : Bool) (most : ℕ) (after : BankView) (text : List ℕ) → InspectsAbove honest json most None bank after text
+      → HasRead bank.history after.history
+  pub sought : (after : BankView) (answer : Result (Option Table) Refusal) → FindsTable honest id bank after answer → HasRead bank.history after.history
 
 -- So what the contracts say of commands is what invocations are made of.
 abbrev pub CommandsMakeInvocations : Type 0 → Type 0

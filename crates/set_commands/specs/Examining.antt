@@ -4,7 +4,6 @@ use Rattle.std.specs.Io.KnownBytes.{Appends}
 use Rattle.sector_model.specs.declared.refusal.Refusal.{Refusal}
 use Rattle.sector_model.specs.declared.refusal.Refusal.TheVariants.{Memory, NoSet, Worn, WriteFault}
 use Rattle.serde_json.specs.Written.{compact_text}
-use Rattle.sector_model.specs.Reads.{HasRead}
 use Rattle.recovery.specs.declared.examination.Examined.{Examined}
 use Rattle.recovery.specs.Making.{BankView}
 use Rattle.recovery.specs.Examining.{Examines}
@@ -56,10 +55,6 @@ InspectsAbove honest json (suc most) above old new text =
 abbrev pub Inspects : (honest : Type 0) → Option (List ℕ) → (json : Bool) → BankView → List ℕ → Type 0
 Inspects honest None json bank text = (after : BankView) × InspectsAbove honest json 20 None bank after text
 Inspects honest (Some id) json bank text = (after : BankView) × InspectsOne honest id json bank after text
-
--- devices of a bank were read alone
-abbrev pub ReadsOn : (honest : Type 0) → BankView → Type 0
-ReadsOn honest bank = (after : BankView) × (honest → HasRead bank.history after.history)
 
 -- bytes of which this holds were put after what there was
 pub record Puts (old new : List ℕ) (Is : List ℕ → Type 0) : Type 0 where

@@ -1,10 +1,11 @@
 -- Invocations of the program on a set, one after another: what each did on its banks, what it answered, where a crash came in it, and what is kept.
-use Rattle.std.specs.Prelude.{◌≡◌, ℕ, ◌+◌, List, [], ◌∷◌, ◌++◌, length}
+use Rattle.std.specs.Prelude.{◌≡◌, ◌≢◌, ℕ, ◌+◌, List, [], ◌∷◌, ◌++◌, length}
 use Rattle.sector_model.specs.declared.refusal.Refusal.{Refusal}
-use Rattle.sector_model.specs.declared.refusal.Refusal.TheVariants.{BadLine}
+use Rattle.sector_model.specs.declared.refusal.Refusal.TheVariants.{BadLine, TwoLost}
 use Rattle.sector_model.specs.Bank.{IsTrueTo, Panel}
 use Rattle.sector_model.specs.Reads.{HasRead}
 use Rattle.layout_map.specs.declared.geometry.Geometry.{Geometry}
+use Rattle.superblock.specs.Losses.{IsSingleFailure}
 use Rattle.superblock.specs.NextTables.{slots_of}
 use Rattle.array_io.specs.Believed.DeviceRules.{MayBegin}
 use Rattle.array_io.specs.Believed.Views.{ArrayView}
@@ -13,11 +14,11 @@ use Rattle.recovery.specs.Making.{BankView, IsQuietBeyond, Makes}
 use Rattle.recovery.specs.Assembling.{Assembles}
 use Rattle.volume_table.specs.Volumes.{VolumeMap}
 use Rattle.volume_table.specs.VolumeStep.{Event, Refused, Reply, left_by}
-use Rattle.volume_table.specs.Stands.{StoreView, extents_in}
+use Rattle.volume_table.specs.Stands.{IsSettledOn, StoreView, extents_in}
 use Rattle.volume_table.specs.StoreCalls.{Applies, EndsStore, lost_in}
 use Rattle.volume_table.specs.Opening.{Opened, Opens, Returned}
 use Rattle.volume_table.specs.Runs.{Crashes, Fate, GoesOver, World, begun_with, case_of}
-use Rattle.volume_table.specs.Headline.{Before, IsAfterPrefix, IsRight, nothing_before, nothing_lost}
+use Rattle.volume_table.specs.Headline.{Before, IsAfterPrefix, IsAssembledUnlessWorn, IsOpenedUnlessWorn, IsRight, nothing_before, nothing_lost}
 
 -- ---- what a command does on a bank
 
@@ -96,8 +97,8 @@ EndsOn slots {bank = bank} (not_opened array after refusal assembles opens) fate
 EndsOn slots {bank = bank} (served array first last assembles opens asks) fate left =
     EndsAssembled slots bank array fate left (λ next. EndsOpened slots array first asks next left)
 
--- Of the events those that were answered before the crash, and the one in which it came, if it came in one. A reply is written after the event is answered,
--- and before the next thing is asked: so whatever was written of the replies when the crash came is of events that were answered.
+-- Of the events those that were answered before the crash, and the one in which it came, if it came in one. A reply is written after the event is answered:
+-- so whatever was written of the replies when the crash came is of events that were answered.
 abbrev pub answered : (slots : ℕ) {replies : List Reply} {old new : StoreView} (asks : Served replies old new) (fate : Fate) (left : World)
     → EndsServing slots asks fate left → List Event
 answered slots none_asked fate left ends = []
@@ -125,7 +126,7 @@ pub data Invocations (id : List ℕ) (devices slots : ℕ) : World → Type 0 wh
       → panel.devices ≡ devices → (done : DoneOn id (begun_with panel begun.image) replies) → EndsOn slots done begun.fate left
       → Invocations id devices slots left → Invocations id devices slots world
 
--- What was answered before the crash was answered rightly, from these volumes on.
+-- What was answered before the crash was answered rightly, from these volumes on; and with one slot lost at most no store is ended by 15.
 abbrev pub AnswersRightly : (slots extents : ℕ) → VolumeMap → {replies : List Reply} {old new : StoreView} (asks : Served replies old new) (fate : Fate)
     (left : World) → EndsServing slots asks fate left → Type 0
 AnswersRightly slots extents volumes none_asked fate left ends = Unit {0}
@@ -133,7 +134,8 @@ AnswersRightly slots extents volumes (then_answered mid event reply applies goes
 AnswersRightly slots extents volumes (then_answered mid event reply applies goes rest) fate left (later next (over, ends)) =
     IsRight extents volumes event mid reply × AnswersRightly slots extents (left_by extents event volumes) rest next left ends
 AnswersRightly slots extents volumes (then_no_event rest) fate left ends = AnswersRightly slots extents volumes rest fate left ends
-AnswersRightly slots extents volumes (then_ended event reply applies last) fate left ends = Unit {0}
+AnswersRightly slots extents volumes (then_ended {old = old} {new = new} event reply applies last) fate left ends =
+    IsSingleFailure slots (lost_in event old.array.table fate.lost) new.array.history → reply ≢ Refused TwoLost
 
 -- what was kept by the volumes, and what is to be kept of them
 abbrev pub kept_by : (slots : ℕ) (volumes : VolumeMap) {replies : List Reply} {old new : StoreView} (asks : Served replies old new) (fate : Fate) (left : World)
@@ -144,18 +146,22 @@ kept_by slots volumes asks fate left ends = record {
   acknowledged = length (answered slots asks fate left ends);
 }
 
--- A store was opened with volumes after a prefix of the events before that has each one answered, and answered rightly; and then what comes later is kept.
+-- A store was opened, and is settled on volumes after a prefix of the events before that has each one answered; it answered rightly; and then what comes later
+-- is kept.
 abbrev pub ServingKeeps : (slots extents : ℕ) → Before → {replies : List Reply} {old new : StoreView} (asks : Served replies old new) (fate : Fate)
     (left : World) → EndsServing slots asks fate left → (Before → Type 0) → Type 0
-ServingKeeps slots extents before asks fate left ends Later =
-    (volumes : VolumeMap) × IsAfterPrefix extents before volumes × AnswersRightly slots extents volumes asks fate left ends
+ServingKeeps slots extents before {old = old} asks fate left ends Later =
+    (volumes : VolumeMap) × IsAfterPrefix extents before volumes × IsSettledOn old fate.lost volumes × AnswersRightly slots extents volumes asks fate left ends
     × Later (kept_by slots volumes asks fate left ends)
 
 abbrev pub BankKeeps : (slots extents : ℕ) → Before → {id : List ℕ} {bank : BankView} {replies : List Reply} (done : DoneOn id bank replies) (fate : Fate)
     (left : World) → EndsOn slots done fate left → (Before → Type 0) → Type 0
 BankKeeps slots extents before (only_read after reads) fate left ends Later = Later before
-BankKeeps slots extents before (not_assembled after refusal assembles) fate left ends Later = Later before
-BankKeeps slots extents before (not_opened array after refusal assembles opens) fate left ends Later = Later before
+BankKeeps slots extents before {id = id} {bank = bank} (not_assembled after refusal assembles) fate left ends Later =
+    IsAssembledUnlessWorn id slots fate.lost bank (recovery.Returned after refusal) × Later before
+BankKeeps slots extents before (not_opened array after refusal assembles opens) fate left (here is) Later = Later before
+BankKeeps slots extents before (not_opened array after refusal assembles opens) fate left (later next is) Later =
+    IsOpenedUnlessWorn slots next.lost array (Returned after refusal) × Later before
 BankKeeps slots extents before (served array first last assembles opens asks) fate left (here is) Later = Later before
 BankKeeps slots extents before (served array first last assembles opens asks) fate left (later next (over, here is)) Later = Later before
 BankKeeps slots extents before (served array first last assembles opens asks) fate left (later next (over, later then (opened, ends))) Later =
@@ -168,7 +174,7 @@ InvocationsKeep id extents devices slots before (next_bank begun left panel repl
     BankKeeps slots extents before done begun.fate left ends (λ then. InvocationsKeep id extents devices slots then rest)
 
 -- The theorem: from a set that `make` has made, whatever invocations of the program follow, each ended by a crash at any moment, or after it: each that opens
--- the set has volumes that are those after a prefix of the events of the last one that opened it, with every event among them that was answered then.
+-- the set is settled on volumes that are those after a prefix of the events of the last one that opened it, with every event among them that was answered then.
 abbrev pub HeadlineOfTheProgram : Type 0
 HeadlineOfTheProgram = (id : List ℕ) (geometry : Geometry) (bank : BankView) (array : ArrayView) (left : World)
     → Makes (Unit {0}) id geometry bank (recovery.Opened array) → IsQuietBeyond id (geometry.members + 2) bank

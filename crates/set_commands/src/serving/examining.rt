@@ -1,11 +1,10 @@
 //! Sets are inspected.
 ghost use Rattle.std.specs.Prelude.{◌≡◌, ◌≢◌, ◌≤◌, ◌↔◌, IfErr, IfOk, OnOk, [], string_bytes};
 ghost use Rattle.sector_model.specs.declared.refusal.Refusal.{Refusal};
-ghost use Rattle.sector_model.specs.Reads.{HasRead};
 ghost use Rattle.recovery.specs.SeenBank.{bank_seen};
 ghost use Rattle.set_commands.specs.Healths.{HealthAbove, HealthAt, InspectsHealth};
 ghost use Rattle.set_commands.specs.Examining.{ExaminesOn, ExaminesPartOn, IsExamineEnd, IsInspectionEnd};
-ghost use Rattle.set_commands.specs.Examining.{IsInspectionText, Inspects, InspectsAbove, InspectsOne, Puts, ReadsOn};
+ghost use Rattle.set_commands.specs.Examining.{IsInspectionText, Inspects, InspectsAbove, InspectsOne, Puts};
 
 use super::health::{Health, foreseen, worse};
 use recovery::{Examined, examine, id_above};
@@ -36,8 +35,6 @@ pub fn examine_on<W: Write, B: Bank + Drop>(
     ensures examined { OnOk result (ExaminesOn (B.honest bank) id json (bank_seen B.Bank bank) (W.contents out.old)
         (W.contents out.new)) }
     ensures end { IfErr result IsExamineEnd }
-    ensures refused { IfErr result (λ refusal. refusal ≢ Refusal.WriteFault
-        → ReadsOn (B.honest bank) (bank_seen B.Bank bank)) }
     ensures none { IfErr result (λ refusal. refusal ≡ Refusal.NoSet
         → Inspects (B.honest bank) id json (bank_seen B.Bank bank) []) }
     ensures unwritten { IfErr result (λ refusal. refusal ≢ Refusal.WriteFault → out.new ≡ out.old) }
@@ -64,7 +61,6 @@ fn inspections<B: Bank>(
         health.new) }
     ensures inspections { IfOk result (λ text. Inspects (B.honest bank.old) id json (bank_seen B.Bank bank.old)
         (string_bytes text)) }
-    ensures reads { B.honest bank.old → HasRead (B.history bank.old) (B.history bank.new) }
     ensures err { IfErr result IsInspectionEnd }
 {
     let mut text = String::new(alloc);
@@ -88,7 +84,6 @@ fn inspect_above<B: Bank>(
     ensures health { OnOk result (HealthAbove (B.honest bank.old) most above (bank_seen B.Bank bank.old)
         (bank_seen B.Bank bank.new) health.old health.new) }
     ensures honest { B.honest bank.old ↔ B.honest bank.new }
-    ensures reads { B.honest bank.old → HasRead (B.history bank.old) (B.history bank.new) }
     ensures puts { OnOk result (Puts (string_bytes text.old) (string_bytes text.new)
         (InspectsAbove (B.honest bank.old) json most above (bank_seen B.Bank bank.old) (bank_seen B.Bank bank.new))) }
     ensures err { IfErr result IsInspectionEnd }
@@ -115,7 +110,6 @@ fn inspect_one<B: Bank>(
     ensures health { OnOk result (HealthAt (B.honest bank.old) id.now (bank_seen B.Bank bank.old)
         (bank_seen B.Bank bank.new) health.old health.new) }
     ensures honest { B.honest bank.old ↔ B.honest bank.new }
-    ensures reads { B.honest bank.old → HasRead (B.history bank.old) (B.history bank.new) }
     ensures puts { OnOk result (Puts (string_bytes text.old) (string_bytes text.new)
         (InspectsOne (B.honest bank.old) id.now json (bank_seen B.Bank bank.old) (bank_seen B.Bank bank.new))) }
     ensures err { IfErr result IsInspectionEnd }

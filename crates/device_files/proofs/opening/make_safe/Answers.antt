@@ -1,4 +1,4 @@
-use Rattle.std.proofs.Common.{◌<◌, ◌≤◌, ◌∙◌, ℕ, IfSome, arith, subst}
+use Rattle.std.proofs.Common.{◌<◌, ◌≤◌, ◌∙◌, IfSome, arith, subst}
 use Rattle.device_files.specs.DeviceFiles.{IsMadeSafe, file_in, flag_in}
 use Rattle.device_files.specs.Faults.{IsGivenUp}
 use Rattle.device_files.proofs.MadeSafe.{safe_next}

@@ -5,13 +5,12 @@ use Rattle.raidtool.proofs.replacing.replace_or_undo.Goals as goal
 pub returns-then-is_undone-clause-files : goal.returns-then-is_undone-clause-files
 returns-then-is_undone-clause-files g c = record {
   kept = λ done. absurd (done (c.is_undone.ensures.0 c.if-is_undone.true));
-  undone = λ is. record {
+  undone = λ is. rw c.undo.ensures.notes (record {
     files = c.replace_over-done.new.files.files.items;
-    notes = c.replace_over-done.new.files.before;
     left = c.replace_over-done.ensures.others;
     result = c.undo.result;
-    taken_back = c.undo.ensures;
-  };
+    taken_back = c.undo.ensures.taken_back;
+  });
 }
 
 pub returns-else-is_undone-clause-files : goal.returns-else-is_undone-clause-files

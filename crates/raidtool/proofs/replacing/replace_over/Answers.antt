@@ -1,7 +1,7 @@
-use Rattle.std.proofs.Common.{◌≡◌, ap, inl, inr, rules}
+use Rattle.std.proofs.Common.{◌≡◌, ap, inl, inr, rules, sym, ◌∙◌}
 use Rattle.std.proofs.lemmas.Result.{err_from_is_err_and}
 use Rattle.sector_model.specs.declared.refusal.Refusal.{Refusal}
-use Rattle.sector_model.specs.declared.refusal.Refusal.TheVariants.{WriteFault}
+use Rattle.sector_model.specs.declared.refusal.Refusal.TheVariants.{Memory, WriteFault}
 use Rattle.device_files.specs.declared.FolderFault.TheVariants.{Refused}
 use Rattle.set_commands.proofs.Applied.{replaced_by}
 use Rattle.device_files.specs.DeviceFiles.{file_in}
@@ -21,7 +21,25 @@ returns-in_err-apply_on-clause-replaces g c =
       fault = search rules;
       blamed = search rules;
       unwritten = rw (from.1, from.2) (λ apart. c.in_err-apply_on.ensures.unwritten (λ is. apart (ap Refused is)));
-      cut = rw (from.1, from.2) (λ cut. (replaced_by _ _ _ _ _ (c.in_err-apply_on.ensures.cut (of_write _ cut))).1);
+      cut = rw (from.1, from.2) (λ cut.
+          let done = replaced_by _ _ _ _ _ (c.in_err-apply_on.ensures.cut (of_write _ cut)) in
+          ((_, done.0), done.1));
+    }
+
+no_memory_to_write : (refusal : Refusal) → refusal ≡ Memory → Refused refusal ≡ Refused WriteFault → ⊥
+no_memory_to_write refusal memory cut = let never : Memory ≡ WriteFault = sym memory ∙ of_write refusal cut in cc
+
+pub returns-in_err-bank-clause-replaces : goal.returns-in_err-bank-clause-replaces
+returns-in_err-bank-clause-replaces g c =
+    let from = err_from_is_err_and c.from_residual-in_err-bank.result c.from_residual-in_err-bank.ensures.1 in
+    record {
+      synced = search rules;
+      replaced = search rules;
+      written = search rules;
+      fault = search rules;
+      blamed = search rules;
+      unwritten = search rules;
+      cut = rw (from.1, from.2) (λ cut. absurd (no_memory_to_write _ c.in_err-bank.ensures.err cut));
     }
 
 pub returns-clause-replaces : goal.returns-clause-replaces

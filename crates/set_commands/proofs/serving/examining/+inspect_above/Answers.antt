@@ -1,7 +1,6 @@
 -- No id is above this one, or the set of the least of these is inspected, and then those above it.
 use Rattle.std.proofs.Common.{arith}
 use Rattle.std.proofs.lemmas.Result.{on_ok_weaker}
-use Rattle.sector_model.proofs.Reading.{read_both, read_none}
 use Rattle.set_commands.proofs.Inspected.{above_still, at_still, health_above_still, health_at_still, health_none_above, health_none_left, health_one_more}
 use Rattle.set_commands.proofs.Inspected.{none_above, one_more, put_none, put_then}
 use Rattle.set_commands.proofs.serving.examining.+inspect_above.Goals as goal
@@ -39,16 +38,3 @@ returns-clause-health g t c =
     (health_at_still honest _ c.in_ok-id.ensures.honest.0 c.in-Some.id _ _ _ _ c.in_ok-inspect_one.ensures.health)
     (health_above_still honest _ (λ fair. c.in_ok-inspect_one.ensures.honest.0 (c.in_ok-id.ensures.honest.0 fair)) _ _ _ _ _ _ rest))
     c.inspect_above.ensures.health
-
-pub returns-then-most-eq0-clause-reads : goal.returns-then-most-eq0-clause-reads
-returns-then-most-eq0-clause-reads g t c = λ fair. read_none _
-
-pub returns-in_err-inspect_one-clause-reads : goal.returns-in_err-inspect_one-clause-reads
-returns-in_err-inspect_one-clause-reads g t c = λ fair.
-    read_both (c.in_ok-id.ensures.finds.reads fair) (c.in_err-inspect_one.ensures.reads (c.in_ok-id.ensures.honest.0 fair))
-
-pub returns-clause-reads : goal.returns-clause-reads
-returns-clause-reads g t c = λ fair.
-    let after_id = c.in_ok-id.ensures.honest.0 fair in
-    read_both (c.in_ok-id.ensures.finds.reads fair)
-    (read_both (c.in_ok-inspect_one.ensures.reads after_id) (c.inspect_above.ensures.reads (c.in_ok-inspect_one.ensures.honest.0 after_id)))

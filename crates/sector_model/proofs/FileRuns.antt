@@ -399,15 +399,15 @@ no_sectors (Some disk) is = absurd (cc)
 holds_safe : (c : Contents) (disk : List Bytes) → ((p : ℕ) → c.safe p ≡ c.byte p) → HoldsDisk c.byte disk → HoldsDisk c.safe disk
 holds_safe c disk synced holds = record { each = λ a k there small. synced (512 * a + k) ∙ holds.each a k there small }
 
-module _ {F : Type 0} (told : F → Contents) (files : List (Option F)) (slots : List (Slot F)) (h : History) (len : length slots ≡ 10)
+module _ {F G : Type 0} (told : F → Contents) (there : G → Contents) (files : List (Option F)) (slots : List (Slot G)) (h : History) (len : length slots ≡ 10)
     (opened : (d : ℕ) → IsOpened (slot_at slots d))
-    (made : (d : ℕ) → d < 10 → IsMade told (file_at files d) (slot_at slots d)) (begun : BeginsWith told files h) where
+    (made : (d : ℕ) → d < 10 → IsMade told there (file_at files d) (slot_at slots d)) (begun : BeginsWith told files h) where
   past : (d : ℕ) → 10 ≤ d → slot_at slots d ≡ record { file = None; sectors = 0; is_synced = true }
   past d ge = get_or_past slots d _ (omega (arith, len, ge))
 
   down_begun : (d : ℕ) → is_closed (slot_at slots d) ≡ is_none (start_of h d)
   down_begun d = ⊎_elim
-      (λ (lt : d < 10). ap is_none (made d lt).opened ∙ (begun.each d lt).slot)
+      (λ (lt : d < 10). (made d lt).opened ∙ (begun.each d lt).slot)
       (λ (ge : 10 ≤ d). ap is_closed (past d ge) ∙ sym (ap is_none (begun.beyond d ge)))
       (cases_lt d 10)
 
@@ -416,7 +416,7 @@ module _ {F : Type 0} (told : F → Contents) (files : List (Option F)) (slots :
     where
       by_lt : is_closed (slot_at slots d) ≡ false → (d < 10) ⊎ (10 ≤ d) → (slot_at slots d).sectors ≡ min (length (disk_of (start_of h d))) (2 ^ 32 - 1)
       by_lt is (inl lt) =
-          let up : is_none (file_at files d) ≡ false = sym (ap is_none (made d lt).opened) ∙ is in
+          let up : is_none (file_at files d) ≡ false = sym (made d lt).opened ∙ is in
           (made d lt).sectors up ∙ sym (ap (λ (n : ℕ). min n (2 ^ 32 - 1)) ((begun.each d lt).sectors up))
       by_lt is (inr ge) = absurd (differ (ap is_closed (past d ge)) is)
 
@@ -437,20 +437,23 @@ module _ {F : Type 0} (told : F → Contents) (files : List (Option F)) (slots :
   }
 
   kept_begun : (d : ℕ) → is_closed (slot_at slots d) ≡ false → (d < 10) ⊎ (10 ≤ d)
-      → IsKept (told_in told (slot_at slots d).file) (slot_at slots d).is_synced h d
+      → IsKept (told_in there (slot_at slots d).file) (slot_at slots d).is_synced h d
   kept_begun d up (inr ge) = absurd (differ (ap is_closed (past d ge)) up)
   kept_begun d up (inl lt) =
       let b = begun.each d lt in
-      let is = (made d lt).opened in
-      let open_there : is_none (file_at files d) ≡ false = sym (ap is_none is) ∙ up in
-      subst (λ (f : Option F). IsKept (told_in told f) (slot_at slots d).is_synced h d) (sym is) record {
-        room = omega (arith, b.sectors open_there);
-        holds = subst (HoldsDisk (told_in told (file_at files d)).byte) (sym (ap (λ (k : History). seen k d) begun.began)) b.holds;
-        safe = subst (HoldsDisk (told_in told (file_at files d)).safe) (sym (ap (λ (k : History). safe_in k d) begun.began))
-            (holds_safe (told_in told (file_at files d)) (disk_of (start_of h d)) b.synced b.holds);
-        marked = λ flag. b.synced;
+      let shown = (made d lt).shown in
+      let holds : HoldsDisk (told_in there (slot_at slots d).file).byte (disk_of (start_of h d)) =
+          record { each = λ a k there small. shown.byte (512 * a + k) ∙ b.holds.each a k there small } in
+      let synced : (p : ℕ) → (told_in there (slot_at slots d).file).safe p ≡ (told_in there (slot_at slots d).file).byte p =
+          λ p. shown.safe p ∙ b.synced p ∙ sym (shown.byte p) in
+      record {
+        room = omega (arith, b.sectors (sym (made d lt).opened ∙ up), shown.size);
+        holds = subst (HoldsDisk (told_in there (slot_at slots d).file).byte) (sym (ap (λ (k : History). seen k d) begun.began)) holds;
+        safe = subst (HoldsDisk (told_in there (slot_at slots d).file).safe) (sym (ap (λ (k : History). safe_in k d) begun.began))
+            (holds_safe (told_in there (slot_at slots d).file) (disk_of (start_of h d)) synced holds);
+        marked = λ flag. synced;
       }
 
   -- slots that were made over the files that a run begins with
-  pub over_begun : IsOver told slots 0 h
+  pub over_begun : IsOver there slots 0 h
   over_begun = record { shown = shown_begun; kept = λ d up. kept_begun d up (cases_lt d 10) }

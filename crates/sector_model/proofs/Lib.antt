@@ -14,4 +14,5 @@ pub mod Replay
 pub mod Runs
 pub mod Sequences
 pub mod Slots
+pub mod Spans
 pub mod Steps

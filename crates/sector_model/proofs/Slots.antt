@@ -20,16 +20,17 @@ opened_more (first ∷ slots) slot each last zero = each 0
 opened_more (first ∷ slots) slot each last (suc d) = opened_more slots slot (λ k. each (suc k)) last d
 
 -- all slots, once the loop has taken all files
-pub made_all : {F : Type 0} {told : F → Contents} {count : ℕ} (files yielded : List (Option F)) (slots : List (Slot F)) → yielded ≡ files → count ≡ length files
-    → ((d : ℕ) → d < length yielded → IsMade told (file_at yielded d) (slot_at slots d)) → (d : ℕ) → d < count → IsMade told (file_at files d) (slot_at slots d)
-made_all {told = told} files yielded slots all as_many made d within =
-    subst (λ (l : List (Option _)). IsMade told (file_at l d) (slot_at slots d)) all (made d (subst (λ (n : ℕ). d < n) (as_many ∙ sym (ap length all)) within))
+pub made_all : {F G : Type 0} {told : F → Contents} {there : G → Contents} {count : ℕ} (files yielded : List (Option F)) (slots : List (Slot G))
+    → yielded ≡ files → count ≡ length files → ((d : ℕ) → d < length yielded → IsMade told there (file_at yielded d) (slot_at slots d)) → (d : ℕ) → d < count
+    → IsMade told there (file_at files d) (slot_at slots d)
+made_all {told = told} {there = there} files yielded slots all as_many made d within =
+    subst (λ (l : List (Option _)). IsMade told there (file_at l d) (slot_at slots d)) all (made d (subst (λ (n : ℕ). d < n) (as_many ∙ sym (ap length all)) within))
 
 -- one more slot, as it is made over its file
-pub made_more : {F : Type 0} {told : F → Contents} (files : List (Option F)) (slots : List (Slot F)) (file : Option F) (slot : Slot F)
+pub made_more : {F G : Type 0} {told : F → Contents} {there : G → Contents} (files : List (Option F)) (slots : List (Slot G)) (file : Option F) (slot : Slot G)
     → length slots ≡ length files
-    → ((d : ℕ) → d < length files → IsMade told (file_at files d) (slot_at slots d)) → IsMade told file slot → (d : ℕ) → d < length (files ++ file ∷ [])
-    → IsMade told (file_at (files ++ file ∷ []) d) (slot_at (slots ++ slot ∷ []) d)
+    → ((d : ℕ) → d < length files → IsMade told there (file_at files d) (slot_at slots d)) → IsMade told there file slot → (d : ℕ)
+    → d < length (files ++ file ∷ []) → IsMade told there (file_at (files ++ file ∷ []) d) (slot_at (slots ++ slot ∷ []) d)
 made_more [] [] file slot len each last zero within = last
 made_more [] [] file slot len each last (suc d) within = absurd (omega arith)
 made_more [] (first ∷ slots) file slot len each last d within = absurd (omega arith)

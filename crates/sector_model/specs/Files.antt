@@ -6,6 +6,7 @@ use Rattle.sector_model.specs.DeviceFiles.{Contents}
 use Rattle.sector_model.specs.History.{History, Began, Bytes, IsSector, disk_of, sector_of, seen, start_of}
 use Rattle.sector_model.specs.Memory.{Disk, AreSectors}
 use Rattle.sector_model.specs.Safe.{safe_in}
+use Rattle.sector_model.specs.Spans.{IsShownAs}
 
 -- no file is open: the device of the slot is down, or there is none
 abbrev pub is_down : {F : Type 0} → Slot F → Bool
@@ -46,9 +47,10 @@ pub record IsOver {F : Type 0} (told : F → Contents) (slots : List (Slot F)) (
   pub shown : IsTrueTo (panel_of slots calls) h
   pub kept : (d : ℕ) → is_down (slot_at slots d) ≡ false → IsKept (told_in told (slot_at slots d).file) (slot_at slots d).is_synced h d
 
--- a slot that was made over a file, or without one
-pub record IsMade {F : Type 0} (told : F → Contents) (file : Option F) (slot : Slot F) : Type 0 where
-  pub opened : slot.file ≡ file
+-- a slot that was made over a file, which it shows, or without one
+pub record IsMade {F G : Type 0} (told : F → Contents) (told_there : G → Contents) (file : Option F) (slot : Slot G) : Type 0 where
+  pub opened : is_down slot ≡ is_none file
+  pub shown : IsShownAs (told_in told file) (told_in told_there slot.file)
   pub sectors : is_none file ≡ false → slot.sectors ≡ min ((told_in told file).size / 512) (2 ^ 32 - 1)
 
 -- what is given of the file in a slot, where a run begins

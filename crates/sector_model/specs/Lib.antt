@@ -13,3 +13,4 @@ pub mod Readable
 pub mod Reads
 pub mod Refusals
 pub mod Safe
+pub mod Spans

@@ -29,23 +29,27 @@ pub trait DeviceFile {
 
     /// Reads from a byte place on, at most as many bytes as `to` has, and says how many. No file changes.
     fn read_part(&mut self, place: u64, to: &mut [u8]) -> io::Result<usize>
-        requires { IsTrue tells → place + length to.old ≤ (told self.old).size }
+        requires place { place + length to.old < 2 ^ 64 }
+        requires within { IsTrue tells → place + length to.old ≤ (told self.old).size }
         ensures bound { IfOk result (λ n. n ≤ length to.new) }
         ensures read { IsTrue tells → IfOk result (λ n. AreAt (told self.old).byte place n to.new) }
         ensures same { IsTrue tells → told self.new ≡ told self.old };
 
     /// Writes bytes from a byte place on, the first of them or all, and says how many. An interrupted call
-    /// wrote none; after another fault nothing is known of the file.
+    /// wrote none; after another fault of the file's bytes nothing is known. No call changes its length.
     fn write_part(&mut self, place: u64, from: &[u8]) -> io::Result<usize>
-        requires { IsTrue tells → place + length from.now ≤ (told self.old).size }
+        requires place { place + length from.now < 2 ^ 64 }
+        requires within { IsTrue tells → place + length from.now ≤ (told self.old).size }
         ensures bound { IfOk result (λ n. n ≤ length from.now) }
         ensures written { IsTrue tells → IfOk result (λ n. IsWritten place n from.now (told self.old) (told self.new)) }
         ensures interrupted { IsTrue tells
-            → IfErr result (λ e. error_kind e ≡ ErrorKind.Interrupted → told self.new ≡ told self.old) };
+            → IfErr result (λ e. error_kind e ≡ ErrorKind.Interrupted → told self.new ≡ told self.old) }
+        ensures length { IsTrue tells → (told self.new).size ≡ (told self.old).size };
 
     /// Makes safe all that was written.
     fn sync(&mut self) -> io::Result<()>
-        ensures { IsTrue tells → OnOk result (IsSynced (told self.old) (told self.new)) };
+        ensures synced { IsTrue tells → OnOk result (IsSynced (told self.old) (told self.new)) }
+        ensures length { IsTrue tells → (told self.new).size ≡ (told self.old).size };
 }
 
 /// What has an open file of the system: the file itself, or a reference to it.
@@ -163,27 +167,29 @@ pub(crate) fn read_whole<F: DeviceFile>(file: &mut F, place: u64, to: &mut Secto
     Err(ErrorKind::TimedOut.into())
 }
 
-// The bytes of a sector from one on.
-fn rest_of(from: &Sector, done: usize) -> &[u8]
-    requires { done ≤ 512 }
-    ensures len { done + length result.now ≡ 512 }
+// The bytes of a slice from one on.
+fn rest_of(from: &[u8], done: usize) -> &[u8]
+    requires { done ≤ length from.now }
+    ensures len { done + length result.now ≡ length from.now }
     ensures each { (k : ℕ) → k < length result.now
         → slice_index_or result.now k 0 ≡ slice_index_or from.now (done + k) 0 }
 {
     &from[done..]
 }
 
-/// Writes a sector at a byte place, whole, or it is a fault. A write that is interrupted is made again, and
+/// Writes bytes at a byte place, all of them, or it is a fault. A write that is interrupted is made again, and
 /// one that takes no byte is a fault.
-pub(crate) fn write_whole<F: DeviceFile>(file: &mut F, place: u64, from: &Sector) -> io::Result<()>
-    requires place { place + 512 < 2 ^ 64 }
-    requires within { IsTrue F.tells → place + 512 ≤ (F.told file.old).size }
-    ensures written { IsTrue F.tells → OnOk result (IsWritten place 512 from.now (F.told file.old) (F.told file.new)) }
+pub(crate) fn write_whole<F: DeviceFile>(file: &mut F, place: u64, from: &[u8]) -> io::Result<()>
+    requires place { place + length from.now < 2 ^ 64 }
+    requires within { IsTrue F.tells → place + length from.now ≤ (F.told file.old).size }
+    ensures written { IsTrue F.tells → OnOk result (IsWritten place (length from.now) from.now (F.told file.old)
+        (F.told file.new)) }
+    ensures length { IsTrue F.tells → (F.told file.new).size ≡ (F.told file.old).size }
     ensures retried { IfErr result (λ e. error_kind e ≢ ErrorKind.Interrupted) }
 {
     let mut done = 0;
     for _ in 0..u64::MAX {
-        if done >= SECTOR_BYTES {
+        if done >= from.len() {
             return Ok(());
         }
         match file.write_part(place + done as u64, rest_of(from, done)) {

@@ -6,10 +6,13 @@ ghost use Rattle.sector_model.specs.Bank.{CanCall, AfterCall, after_read, after_
 ghost use Rattle.sector_model.specs.DeviceFiles.{AreAt, IsWritten, IsSynced};
 ghost use Rattle.sector_model.specs.Files.{is_down, slot_at, panel_of, told_in, IsOpened, IsOver, IsMade, BeginsWith};
 ghost use Rattle.sector_model.specs.Files.{file_at};
+ghost use Rattle.sector_model.specs.Spans.{with_span};
 
 mod in_memory;
 
+use crate::buffered_file::BufferedFile;
 use crate::device_file::{read_whole, write_whole};
+use crate::read_ahead::ReadAhead;
 use crate::{Bank, DeviceFile, Down, NoRecord, OwnedFile, Refusal, RunRecord, Sector, SystemFile};
 use std::alloc::{AllocError, Global};
 use std::fs::{Files, OpenFile, OpenOptions};
@@ -38,12 +41,13 @@ struct Slot<F> {
 /// files nothing is known.
 #[derive(Drop)]
 pub struct FileBank<F: DeviceFile, R: RunRecord = NoRecord> {
-    slots: Vec<Slot<F>>,
+    slots: Vec<Slot<BufferedFile<F>>>,
     notes: R,
     calls: u64,
     ghost ten: { vec_len slots ≡ 10 },
     ghost paired: { R.tells ≡ F.tells },
-    ghost over: { IsTrue F.tells → IsOver F.told slots.items calls (R.run notes) },
+    ghost over: { IsTrue F.tells → IsOver (λ buffered. with_span (F.told buffered.file.file)
+        buffered.waiting.start buffered.waiting.len buffered.waiting.bytes.items) slots.items calls (R.run notes) },
 }
 
 // How many whole sectors a file of this many bytes has, at most 2^32 - 1.
@@ -66,30 +70,12 @@ impl<F: DeviceFile + Drop> Slot<F> {
     fn empty() -> Slot<F>
         ensures down { is_down result ≡ true }
         ensures opened { IsOpened result }
-        ensures made { IsTrue F.tells → IsMade F.told None result }
+        ensures none { result.file ≡ None }
     {
         Slot {
             file: None,
             sectors: 0,
             is_synced: true,
-        }
-    }
-
-    // A slot over a file, without a device where there is none or its length can't be told.
-    fn over(file: Option<F>) -> Slot<F>
-        ensures opened { IsOpened result }
-        ensures made { IsTrue F.tells → IsMade F.told file result }
-    {
-        let Some(file) = file else {
-            return Slot::empty();
-        };
-        match file.size() {
-            Ok(bytes) => Slot {
-                file: Some(file),
-                sectors: whole_sectors(bytes),
-                is_synced: true,
-            },
-            Err(_) => Slot::empty(),
         }
     }
 
@@ -225,19 +211,44 @@ impl<F: OpenFile + FileExt + Drop> FileBank<SystemFile<OwnedFile<F>>> {
     }
 }
 
+// A slot over a file, without a device where there is none or its length can't be told.
+fn slot_over<F: DeviceFile + Drop>(
+    alloc: Global,
+    file: Option<F>,
+) -> Result<Slot<BufferedFile<F>>, AllocError>
+    ensures opened { IfOk result IsOpened }
+    ensures made { IsTrue F.tells
+        → IfOk result (IsMade F.told ⟦<BufferedFile<F> as DeviceFile>⟧.told file) }
+{
+    let Some(file) = file else {
+        return Ok(Slot::empty());
+    };
+    let Ok(bytes) = file.size() else {
+        return Ok(Slot::empty());
+    };
+    let sectors = whole_sectors(bytes);
+    let file = ReadAhead::over(alloc, file, offset_of(sectors))?;
+    Ok(Slot {
+        file: Some(BufferedFile::over(alloc, file)?),
+        sectors,
+        is_synced: true,
+    })
+}
+
 // The slots over files.
 fn slots_over<F: DeviceFile + Drop>(
     alloc: Global,
     files: Vec<Option<F>>,
-) -> Result<Vec<Slot<F>>, AllocError>
+) -> Result<Vec<Slot<BufferedFile<F>>>, AllocError>
     ensures len { IfOk result (λ slots. vec_len slots ≡ vec_len files) }
     ensures opened { IfOk result (λ slots. (d : ℕ) → IsOpened (slot_at slots.items d)) }
-    ensures made { IsTrue F.tells → IfOk result
-        (λ slots. (d : ℕ) → d < vec_len files → IsMade F.told (file_at files.items d) (slot_at slots.items d)) }
+    ensures made { IsTrue F.tells → IfOk result (λ slots. (d : ℕ) → d < vec_len files
+        → IsMade F.told ⟦<BufferedFile<F> as DeviceFile>⟧.told (file_at files.items d)
+        (slot_at slots.items d)) }
 {
     let mut slots = Vec::with_capacity(alloc, files.len())?;
     for file in files {
-        slots.push(Slot::over(file))?;
+        slots.push(slot_over(alloc, file)?)?;
     }
     Ok(slots)
 }

@@ -4,15 +4,18 @@
 mod bank;
 mod calls;
 mod choice;
+mod buffered_file;
 mod device_file;
 mod event;
 mod files;
 mod mem_file;
 mod memory;
 mod plan;
+mod read_ahead;
 mod refusal;
 mod run_record;
 mod sector;
+mod span;
 #[cfg(test)]
 mod testing;
 

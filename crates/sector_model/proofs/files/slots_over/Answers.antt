@@ -9,10 +9,10 @@ use Rattle.sector_model.proofs.files.slots_over.Goals as goal
 pub loop-file-preserved : goal.loop-file-preserved
 loop-file-preserved g c = record {
   so_far = omega (arith, c.in_ok-push.ensures.len, c.loop-file.invariant.so_far, length-append c.loop-file.yielded (c.in-Some.file ∷ []));
-  opened = rw (c.in_ok-push.ensures.items) (opened_more c.loop-file.slots.items c.over.result c.loop-file.invariant.opened c.over.ensures.opened);
+  opened = rw (c.in_ok-push.ensures.items) (opened_more c.loop-file.slots.items c.in_ok-slot_over.field-0 c.loop-file.invariant.opened c.in_ok-slot_over.ensures.opened);
   made = λ tells. rw (c.in_ok-push.ensures.items)
-      (made_more c.loop-file.yielded c.loop-file.slots.items c.in-Some.file c.over.result (sym c.loop-file.slots.ok.0 ∙ c.loop-file.invariant.so_far)
-      (c.loop-file.invariant.made tells) (c.over.ensures.made tells));
+      (made_more c.loop-file.yielded c.loop-file.slots.items c.in-Some.file c.in_ok-slot_over.field-0 (sym c.loop-file.slots.ok.0 ∙ c.loop-file.invariant.so_far)
+      (c.loop-file.invariant.made tells) (c.in_ok-slot_over.ensures.made tells));
 }
 
 pub returns-in_err-slots-clause-len : goal.returns-in_err-slots-clause-len
@@ -57,3 +57,13 @@ returns-clause-made g c = λ tells d within.
     c.loop-file.yielded_by c.next.result c.next.new.self c.in-None.is c.next.ensures.steps in
     made_all c.args.files.items c.loop-file.yielded c.loop-file.slots.items (sym (map-id c.loop-file.yielded) ∙ all.0) c.args.files.ok.0
     (c.loop-file.invariant.made tells) d within
+
+pub returns-in_err-slot_over-clause-len : goal.returns-in_err-slot_over-clause-len
+returns-in_err-slot_over-clause-len g c = rw (err_from_is_err_and c.from_residual-in_err-slot_over.result c.from_residual-in_err-slot_over.ensures.1).1 tt
+
+pub returns-in_err-slot_over-clause-opened : goal.returns-in_err-slot_over-clause-opened
+returns-in_err-slot_over-clause-opened g c = rw (err_from_is_err_and c.from_residual-in_err-slot_over.result c.from_residual-in_err-slot_over.ensures.1).1 tt
+
+pub returns-in_err-slot_over-clause-made : goal.returns-in_err-slot_over-clause-made
+returns-in_err-slot_over-clause-made g c = λ tells.
+    rw (err_from_is_err_and c.from_residual-in_err-slot_over.result c.from_residual-in_err-slot_over.ensures.1).1 tt

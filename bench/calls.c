@@ -4,8 +4,8 @@
    nothing else; with `replies` it is that and a write of 7 bytes to standard output. With `lines` it is what no program of lines can leave out: COUNT lines
    `read a K 1` are found on standard input, each is read, and its block comes as `5a*512` or as 1,024 digits into a buffer of 64 KiB, which is written when it
    is full. A write is the commit of one block: it reads the row's old data and old parity, or with 3 members its other data, which is fewer sectors. The
-   entry holds two sectors, the block and the parity, in the order of their members: on each journal they are written as the body, with a sync, then on each
-   the seal, with a sync, as docs/FORMATS.md places them, and then on each of the two members its sector, with a sync. */
+   entry holds two sectors, the block and the parity, in the order of their members: on each journal they are written as the body, by one call, with a sync,
+   then on each the seal, with a sync, as docs/FORMATS.md places them, and then on each of the two members its sector, with a sync. */
 #define _GNU_SOURCE
 #include <fcntl.h>
 #include <stdio.h>
@@ -16,7 +16,7 @@
 enum { SECTOR = 512, MOST_MEMBERS = 8, CHUNK = 8, JOURNALS = 2, BLOCKS = 448, FIRST_LOGICAL = 64, FIRST_ROW = 8, ENTRY_SECTORS = 256 };
 
 static int members, files[MOST_MEMBERS + JOURNALS];
-static char sector[SECTOR];
+static char sector[SECTOR], body[2 * SECTOR];
 
 static void must(int ok, const char *call) {
     if (!ok) {
@@ -28,6 +28,8 @@ static void must(int ok, const char *call) {
 static void read_sector(int slot, off_t at) { must(pread(files[slot], sector, SECTOR, at * SECTOR) == SECTOR, "pread"); }
 
 static void write_sector(int slot, off_t at) { must(pwrite(files[slot], sector, SECTOR, at * SECTOR) == SECTOR, "pwrite"); }
+
+static void write_body(int slot, off_t at) { must(pwrite(files[slot], body, sizeof body, at * SECTOR) == sizeof body, "pwrite"); }
 
 static void sync_file(int slot) { must(fdatasync(files[slot]) == 0, "fdatasync"); }
 
@@ -116,9 +118,9 @@ static void write_block(long k) {
     int held[] = {member < parity ? member : parity, member < parity ? parity : member};
     read_row(row, held[0], held[1], members - 2 < 2);
     memset(sector, (int)(k % 256), SECTOR);
+    memset(body, (int)(k % 256), sizeof body);
     for (int journal = members; journal < members + JOURNALS; journal++) {
-        for (int at = 0; at < 2; at++)
-            write_sector(journal, FIRST_ROW + ENTRY_SECTORS * side + at);
+        write_body(journal, FIRST_ROW + ENTRY_SECTORS * side);
         sync_file(journal);
     }
     for (int journal = members; journal < members + JOURNALS; journal++) {

@@ -39,6 +39,13 @@ struct Slot<F> {
 /// its last good sync. A device whose file answers a fault goes down for the rest of the run, and its file is
 /// closed. The bank is honest where its files tell what they hold and its record tells the run; of the system's
 /// files nothing is known.
+///
+/// Sectors that lie together are one call of the file. Writes to a device that follow one another wait, 64 KiB at
+/// most, and are written at its next flush, at a write that does not follow, or where there is no more room; a read
+/// gives them all the same. A fault of that is one of the call at which it comes. What waits when the bank is dropped
+/// is lost, as a crash may leave it. Reads that follow one another go on, to the next multiple of 4,096 bytes, then of
+/// 8,192 and so on up to 65,536, never after the device's last sector; where that fails, the sector that was asked for
+/// is read by itself. A device has two buffers of 64 KiB, which are taken when the bank is made.
 #[derive(Drop)]
 pub struct FileBank<F: DeviceFile, R: RunRecord = NoRecord> {
     slots: Vec<Slot<BufferedFile<F>>>,

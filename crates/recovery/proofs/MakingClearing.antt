@@ -4,13 +4,15 @@ use Rattle.std.proofs.Common.{◌==◌}
 use Rattle.std.specs.Prelude.{slice_set, Result, Ok, Err, OnOk}
 use Rattle.std.proofs.lemmas.Bool.{cases_eq, cases_lt}
 use Rattle.std.proofs.lemmas.List.{get_or-set_same, get_or-set_other, set_past}
-use Rattle.sector_model.specs.declared.event.Event.TheVariants.{Wrote, Flushed}
+use Rattle.sector_model.specs.declared.event.Event.TheVariants.{Quiet, Wrote, Flushed}
 use Rattle.sector_model.specs.declared.sector.Stop.{Stop}
 use Rattle.sector_model.specs.declared.sector.Stop.TheVariants.{Down, Worn}
-use Rattle.sector_model.specs.Bank.{IsCauseOf, IsTrueTo, Panel, after_flush, after_try, after_write}
+use Rattle.sector_model.specs.Bank.{IsCauseOf, IsTrueTo, Panel, after_flush, after_read, after_try, after_write}
 use Rattle.sector_model.specs.History.{After, Bytes, History, MayHold, sector_of, seen}
 use Rattle.sector_model.specs.MemoryLaw.{length-seen}
 use Rattle.sector_model.proofs.Sequences.{seen_written}
+use Rattle.parity.specs.Xor.{zero_sector}
+use Rattle.parity.proofs.Laws.{zero_sector-replicate}
 use Rattle.layout_map.specs.declared.sizes.TheConstants.{FIRST_ROW, FIRST_SEAL, HALVES, SUPERBLOCK_PLACES}
 use Rattle.layout_map.specs.declared.geometry.Geometry.{Geometry}
 use Rattle.layout_map.specs.Placement.{rows_of}
@@ -33,6 +35,23 @@ cleared_both slots old mid new first second = record {
   beyond = λ device at value beyond may. first.beyond device at value beyond (second.beyond device at value beyond may);
   zeros = λ device at zero. second.zeros device at (first.zeros device at zero);
 }
+
+-- a read that is answered writes nothing, and shows where a sector is zero
+read_clears : (slots : ℕ) (h : History) → HasCleared slots h (After Quiet h)
+read_clears slots h = record {
+  start = λ device. refl;
+  down = λ device. refl;
+  beyond = λ device at value beyond may. may;
+  zeros = λ device at zero. zero;
+}
+
+pub cleared_read : (slots dev : ℕ) (old new : History) → new ≡ after_try (after_read dev) (Ok tt) old → HasCleared slots old new
+cleared_read slots dev old new is = subst (HasCleared slots old) (sym is) (read_clears slots old)
+
+pub zero_read : (dev at : ℕ) (held : Bytes) (old new : History) → new ≡ after_try (after_read dev) (Ok tt) old → held ≡ sector_of (seen old dev) at
+    → held ≡ zero_sector → IsZeroAt new dev at
+zero_read dev at held old new is shown zero =
+    subst (λ (h : History). IsZeroAt h dev at) (sym is) (sym shown ∙ zero ∙ sym (zero_sector-replicate 512 refl))
 
 -- a zero put anywhere leaves each zero
 set_keeps : (l : List Bytes) (at a : ℕ) (v : Bytes) → sector_of l a ≡ v → sector_of (slice_set l at v) a ≡ v
@@ -123,11 +142,11 @@ slot_stays slots geometry old new slot cleared is = record {
   rows = λ below. zeros_stay slots slot FIRST_ROW _ old new cleared (is.rows below);
 }
 
--- a member's places, and then its rows
-pub member_both : (slots : ℕ) (result : Result (Unit {0}) Stop) (old mid new : History)
+-- one row of calls that is answered, and then another
+pub cleared_then : (slots : ℕ) (result : Result (Unit {0}) Stop) (old mid new : History)
     → HasCleared slots old mid → OnOk result (HasCleared slots mid new) → OnOk result (HasCleared slots old new)
-member_both slots (Ok done) old mid new first second = cleared_both slots old mid new first second
-member_both slots (Err stop) old mid new first second = tt
+cleared_then slots (Ok done) old mid new first second = cleared_both slots old mid new first second
+cleared_then slots (Err stop) old mid new first second = tt
 
 pub member_cleared : (slots : ℕ) (geometry : Geometry) (slot end : ℕ) (result : Result (Unit {0}) Stop) (mid new : History) → slot < geometry.members
     → end ≡ FIRST_ROW + rows_of geometry.chunk geometry.stripes → AreZero mid slot 0 SUPERBLOCK_PLACES → OnOk result (HasCleared slots mid new)

@@ -22,7 +22,8 @@ use superblock::{State, Table, least_of, publish};
 
 /// Makes a set of this id and geometry on the bank's first `members + 2` slots, whatever they held: clears both
 /// superblock places of each, both seals of each journal and all rows of each member, flushes, and publishes
-/// generation 1 with all slots in sync and incarnation 1. The new set's logical sectors are all zero.
+/// generation 1 with all slots in sync and incarnation 1. The new set's logical sectors are all zero. Each sector that
+/// is cleared is read once, and is written only where it is not zero.
 ///
 /// `BadGeometry` where the bank has fewer slots; `NotUsable` where one of the set's devices is down, goes down in the
 /// call, or is too short; `Worn` where the count of device calls stands at 2^62. After a refusal, as after a crash

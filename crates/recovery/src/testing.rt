@@ -12,7 +12,7 @@ use superblock::{State, Table, decode};
 
 mod calls;
 
-pub(crate) use calls::{AssemblySize, CommitSize, calls_of_make};
+pub(crate) use calls::{AssemblySize, CommitSize, calls_of_make, calls_of_make_on_used};
 
 /// The id of each set.
 pub(crate) const ID: [u8; 16] = [0, 1, 2, 3, 4, 5, 6, 7, 8, 9, 10, 11, 12, 13, 14, 15];

@@ -476,8 +476,8 @@ fn a_set_in_memory(rt: HostRuntime) {
 
 // A commit makes 3 writes of each sector that it holds, on two journals and on its member, and 2 of seals; it flushes
 // each journal twice, and each member that it writes. With 32 blocks that fill 16 rows these are 153, and with one
-// block 14. The set is made by 797, its volume by 326: two commits of 16 rows with zeros, and one of 2 rows with the
-// table, of 20. 123 writes of 16 rows and four of a block leave 2 of the 20,000, which is too few for a fifth.
+// block 14. The set is made by 15, its volume by 326: two commits of 16 rows with zeros, and one of 2 rows with the
+// table, of 20. 128 writes of 16 rows and five of a block leave 5 of the 20,000, which are too few for a sixth.
 #[test]
 fn memory_ends_after_20_000_writes_and_flushes(rt: HostRuntime) {
     let block_line = joined(&rt, &[(b"write a 0", 1), (b" 5a*512", 32), (b"\n", 1)]);
@@ -485,12 +485,13 @@ fn memory_ends_after_20_000_writes_and_flushes(rt: HostRuntime) {
         &rt,
         &[
             (b"create a 64\n", 1),
-            (&block_line, 123),
-            (b"write a 0 66*512\nwrite a 63 77*512\n", 2),
+            (&block_line, 128),
+            (b"write a 0 66*512\n", 4),
+            (b"write a 63 77*512\n", 1),
             (b"read a 0 1\nread a 1 1\nread a 63 1\n", 1),
         ],
     );
-    let text = joined(&rt, &[(b"ok\n", 128), (b"66*512\n5a*512\n77*512\n", 1)]);
+    let text = joined(&rt, &[(b"ok\n", 134), (b"66*512\n5a*512\n77*512\n", 1)]);
     let whole = (WHOLE, WHOLE, WHOLE);
     line(&rt, &[], &script, whole, (0, 0, &text, b""));
     let script = joined(&rt, &[(&script, 1), (b"write a 1 88*512\nlist\n", 1)]);

@@ -5,10 +5,11 @@ ghost use Rattle.superblock.specs.Counted.{least_sectors};
 ghost use Rattle.recovery.specs.Clearing.{AreZero, HasCleared, HasRoom, IsClearedSlot, IsFlushed, IsStopIn, IsZeroAt};
 
 use layout_map::{FIRST_ROW, FIRST_SEAL, Geometry, HALVES, SUPERBLOCK_PLACES};
-use sector_model::{Bank, Stop, flush_device, write_sector};
+use parity::is_zero;
+use sector_model::{Bank, Sector, Stop, flush_device, read_sector, write_sector};
 
-// Writes zeros to a sector. It flushes nothing.
-fn clear_sector<B: Bank>(bank: &mut B, dev: u8, at: u32) -> Result<(), Stop>
+// Reads a sector, and writes zeros to it where it is not zero. It flushes nothing.
+fn clear_sector<B: Bank>(bank: &mut B, dev: u8, at: u32, held: &mut Sector) -> Result<(), Stop>
     requires device { dev < (B.panel bank.old).devices }
     requires within { at < (B.panel bank.old).sectors dev }
     ensures panel { IsLater (B.panel bank.old) (B.panel bank.new) }
@@ -19,8 +20,11 @@ fn clear_sector<B: Bank>(bank: &mut B, dev: u8, at: u32) -> Result<(), Stop>
     ensures err { IfErr result (λ stop. IsCauseOf (B.panel bank.new) stop
         × ((stop ≡ Stop.Worn) ⊎ (stop ≡ Stop.Down dev))) }
 {
-    let zero = [0; 512];
-    write_sector(bank, dev, at, &zero)
+    read_sector(bank, dev, at, held)?;
+    if is_zero(held) {
+        return Ok(());
+    }
+    write_sector(bank, dev, at, &[0; 512])
 }
 
 // The same for the sectors of a device from one up to another.
@@ -35,13 +39,14 @@ fn clear_sectors<B: Bank>(bank: &mut B, dev: u8, from: u32, end: u32) -> Result<
     ensures err { IfErr result (λ stop. IsCauseOf (B.panel bank.new) stop
         × ((stop ≡ Stop.Worn) ⊎ (stop ≡ Stop.Down dev))) }
 {
+    let mut held = [0; 512];
     for at in from..end {
-        clear_sector(bank, dev, at)?;
+        clear_sector(bank, dev, at, &mut held)?;
     }
     Ok(())
 }
 
-// Writes zeros to both superblock places of a slot, to both seals of a journal, and to all rows of a member.
+// Clears both superblock places of a slot, both seals of a journal, and all rows of a member.
 fn clear_slot<B: Bank>(bank: &mut B, slot: u8, geometry: &Geometry) -> Result<(), Stop>
     requires room { HasRoom geometry.now (B.panel bank.old) }
     requires of_set { slot < geometry.now.members + 2 }

@@ -67,14 +67,28 @@ fn members_below(masks: &[u8], member: u8, out: Option<u8>) -> u64
     members.min(255)
 }
 
-/// The calls of making a set: the places of each slot, the seals of each journal, and so many rows of each member are
-/// cleared; each slot is flushed; and each gets its superblock and is flushed again.
+// How many sectors making a set clears: the places of each slot, the seals of each journal, and so many rows of each
+// member.
+fn sectors_of_make(members: u8, rows: u16) -> u64
+    ensures { result ≤ 4_294_968_000 }
+{
+    let rows = u32::from(rows).saturating_mul(u32::from(members));
+    2 * (u64::from(members) + 2) + 2 * 2 + u64::from(rows)
+}
+
+/// The calls of making a set where these sectors are zero: each is read; each slot is flushed, gets its superblock and
+/// is flushed again. Each of them that is not zero takes one call more.
 pub(crate) fn calls_of_make(members: u8, rows: u16) -> u64
     ensures { result ≤ 4_294_970_000 }
 {
-    let slots = u64::from(members) + 2;
-    let cleared = u32::from(rows).saturating_mul(u32::from(members));
-    2 * slots + 2 * 2 + u64::from(cleared) + slots + 2 * slots
+    sectors_of_make(members, rows) + 3 * (u64::from(members) + 2)
+}
+
+/// The same where none of them is zero.
+pub(crate) fn calls_of_make_on_used(members: u8, rows: u16) -> u64
+    ensures { result ≤ 8_589_938_000 }
+{
+    calls_of_make(members, rows) + sectors_of_make(members, rows)
 }
 
 /// The size of a commit to a set that is all there, or of which a slot goes down in it: how many members the set has,

@@ -1,5 +1,5 @@
 use Rattle.std.proofs.Common.{◌+◌, arith}
-use Rattle.recovery.proofs.MakingClearing.{journal_cleared, stop_in, member_both, member_cleared}
+use Rattle.recovery.proofs.MakingClearing.{cleared_then, journal_cleared, member_cleared, stop_in}
 use Rattle.superblock.proofs.LeastSectors.{four_least, member_least}
 use Rattle.std.proofs.lemmas.Result.{IfErr-weaker, err_from_is_err_and}
 use Rattle.sector_model.proofs.Panels.{later_both}
@@ -11,7 +11,7 @@ pub returns-in_ok-clear_sectors-clause-cleared : goal.returns-in_ok-clear_sector
 returns-in_ok-clear_sectors-clause-cleared g c = λ honest.
     let slots = c.args.geometry.now.members + 2 in
     let second = c.clear_sectors-then-slot-geometry in
-    member_both slots second.result _ _ _ (c.in_ok-clear_sectors.ensures.cleared honest slots c.requires.of_set)
+    cleared_then slots second.result _ _ _ (c.in_ok-clear_sectors.ensures.cleared honest slots c.requires.of_set)
     (second.ensures.cleared (c.clear_sectors.ensures.honest.0 honest) slots c.requires.of_set)
 
 pub returns-in_ok-clear_sectors-clause-slot : goal.returns-in_ok-clear_sectors-clause-slot

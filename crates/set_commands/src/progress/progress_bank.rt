@@ -1,5 +1,5 @@
 //! A bank of devices that shows how far a command over it is.
-ghost use Rattle.std.specs.Prelude.{◌≡◌, ◌≢◌, ◌≤◌, ◌<◌, ◌+◌, ◌*◌, ◌-◌, ◌^◌, IsNone, IsSomeAnd, None, min};
+ghost use Rattle.std.specs.Prelude.{◌≡◌, ◌≢◌, ◌≤◌, ◌<◌, ◌+◌, ◌*◌, ◌-◌, ◌^◌, IsNone, IsSomeAnd, None, Some, min};
 ghost use Rattle.layout_map.specs.Placement.{rows_of};
 
 use super::{Meter, in_words, percent, time_left};
@@ -22,18 +22,21 @@ struct Sought {
     generation: u64,
 }
 
-// The calls of members' rows that a command makes.
+// The sectors of members' rows that a command calls.
 #[derive(Clone, Copy)]
 struct Work {
     members: u8,
     done: u64,
     total: u64,
+    // The device and the place of the one that was called last.
+    last: Option<(u8, u32)>,
 }
 
 /// A bank of devices that shows on a meter how far a command over it is. Each call is passed on as it is, and its
 /// answer is that bank's.
 ///
-/// The calls of rows of the set's members are counted. What was shown is taken away when the bank is dropped.
+/// The sectors of rows of the set's members that are called are counted, one that is read and then written once. What
+/// was shown is taken away when the bank is dropped.
 pub struct ProgressBank<'a, B: Bank + Drop, M: Meter> {
     /// The bank that each call is passed on to.
     pub bank: B,
@@ -52,7 +55,7 @@ impl<'a, B: Bank + Drop, M: Meter> ProgressBank<'a, B, M> {
         ensures members { result.work.members ≡ geometry.now.members }
         ensures total { result.work.total
             ≡ min (geometry.now.members * rows_of geometry.now.chunk geometry.now.stripes) (2 ^ 64 - 1) }
-        ensures undone { result.work.done ≡ 0 }
+        ensures undone { (result.work.done ≡ 0) × (result.work.last ≡ None) }
         ensures known { IsNone result.sought }
         ensures unshown { IsNone result.shown }
     {
@@ -66,6 +69,7 @@ impl<'a, B: Bank + Drop, M: Meter> ProgressBank<'a, B, M> {
                 members,
                 done: 0,
                 total,
+                last: None,
             },
             began: meter.millis(),
             shown: None,
@@ -94,22 +98,31 @@ impl<'a, B: Bank + Drop, M: Meter> ProgressBank<'a, B, M> {
                 members: 0,
                 done: 0,
                 total: 0,
+                last: None,
             },
             began: meter.millis(),
             shown: None,
         }
     }
 
-    // Counts a call of a sector, and shows how far the command is where it is time.
+    // Counts a call of a sector, but not of the one that was counted last, and shows how far the command is where it is
+    // time.
     fn count(&mut self, dev: u8, at: u32)
         ensures bank { self.new.bank ≡ self.old.bank }
         ensures counted { self.old.began ≢ None → dev < self.old.work.members → FIRST_ROW ≤ at
-            → self.new.work.done ≡ min (self.old.work.done + 1) (2 ^ 64 - 1) }
+            → self.old.work.last ≢ Some (dev, at) → self.new.work.done ≡ min (self.old.work.done + 1) (2 ^ 64 - 1) }
+        ensures once { self.old.work.last ≡ Some (dev, at) → self.new.work.done ≡ self.old.work.done }
+        ensures last { self.old.began ≢ None → dev < self.old.work.members → FIRST_ROW ≤ at
+            → self.new.work.last ≡ Some (dev, at) }
         ensures total { self.new.work.total ≡ self.old.work.total }
     {
         if self.began.is_none() || dev >= self.work.members || at < FIRST_ROW {
             return;
         }
+        if self.work.last == Some((dev, at)) {
+            return;
+        }
+        self.work.last = Some((dev, at));
         self.work.done = self.work.done.saturating_add(1);
         if self.work.done % CALLS == 0 || self.work.done == self.work.total {
             self.show_if_due();

@@ -77,47 +77,50 @@ fn geometry(rt: &impl Abort) -> Geometry {
     Geometry::new(3, 8, SET_A).expect(rt, "a geometry")
 }
 
-// The devices of set A, with nothing on them.
-fn blank(rt: &(impl Abort + AllocGlobal)) -> Image {
+// The devices of set A, each full of this byte.
+fn devices(rt: &(impl Abort + AllocGlobal), byte: u8) -> Image {
     let mut slots = Vec::new(rt.alloc());
     for sectors in [264, 264, 264, 520, 520] {
-        let disk = vec![in rt.alloc(); [0; 512]; sectors].expect(rt, "memory");
+        let disk = vec![in rt.alloc(); [byte; 512]; sectors].expect(rt, "memory");
         slots.push(Some(disk)).expect(rt, "memory");
     }
     Image { slots }
 }
 
-// Makes set A on a bank that is watched on a screen.
-fn made_on(rt: &(impl Abort + AllocGlobal), screen: &Screen) {
+// Makes set A on a bank with such devices that is watched on a screen, by so many calls.
+fn made_on(rt: &(impl Abort + AllocGlobal), screen: &Screen, byte: u8, calls: u64) {
     let geometry = geometry(rt);
-    let (bank, entry) = bank_of(rt, blank(rt));
+    let (bank, entry) = bank_of(rt, devices(rt, byte));
     let bank = ProgressBank::over(bank, screen, &geometry);
     let array = make(bank, entry, ID, geometry).ok().expect(rt, "a set");
-    same(rt, (array.bank.now(), screen.clears.get()), (797, 0));
+    same(rt, (array.bank.now(), screen.clears.get()), (calls, 0));
 }
 
+// On devices that are in use each row is read and written, and counts once.
 #[test]
 fn a_set_that_is_made(rt: HostRuntime) {
-    let screen = Screen::new(Some(100));
-    made_on(&rt, &screen);
-    screen.check(&rt, &[16, 33, 50, 66, 83, 100], 1);
-    let lefts = screen.lefts.get();
-    same(&rt, lefts[0], Some(Left::Seconds(1)));
-    same(&rt, lefts[5], Some(Left::Seconds(0)));
+    for (byte, calls) in [(0, 797), (0xee, 797 + 782)] {
+        let screen = Screen::new(Some(100));
+        made_on(&rt, &screen, byte, calls);
+        screen.check(&rt, &[16, 33, 50, 66, 83, 100], 1);
+        let lefts = screen.lefts.get();
+        same(&rt, lefts[0], Some(Left::Seconds(1)));
+        same(&rt, lefts[5], Some(Left::Seconds(0)));
+    }
 }
 
 // What takes less than the least time between two shows is shown once it is done.
 #[test]
 fn a_set_that_is_made_at_once(rt: HostRuntime) {
     let screen = Screen::new(Some(0));
-    made_on(&rt, &screen);
+    made_on(&rt, &screen, 0, 797);
     screen.check(&rt, &[100], 1);
 }
 
 #[test]
 fn nothing_is_shown_where_nobody_watches(rt: HostRuntime) {
     let screen = Screen::new(None);
-    made_on(&rt, &screen);
+    made_on(&rt, &screen, 0, 797);
     screen.check(&rt, &[], 0);
 }
 

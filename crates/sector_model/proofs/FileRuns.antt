@@ -443,9 +443,9 @@ module _ {F G : Type 0} (told : F → Contents) (there : G → Contents) (files 
       let b = begun.each d lt in
       let shown = (made d lt).shown in
       let holds : HoldsDisk (told_in there (slot_at slots d).file).byte (disk_of (start_of h d)) =
-          record { each = λ a k there small. shown.byte (512 * a + k) ∙ b.holds.each a k there small } in
+      record { each = λ a k there small. shown.byte (512 * a + k) ∙ b.holds.each a k there small } in
       let synced : (p : ℕ) → (told_in there (slot_at slots d).file).safe p ≡ (told_in there (slot_at slots d).file).byte p =
-          λ p. shown.safe p ∙ b.synced p ∙ sym (shown.byte p) in
+      λ p. shown.safe p ∙ b.synced p ∙ sym (shown.byte p) in
       record {
         room = omega (arith, b.sectors (sym (made d lt).opened ∙ up), shown.size);
         holds = subst (HoldsDisk (told_in there (slot_at slots d).file).byte) (sym (ap (λ (k : History). seen k d) begun.began)) holds;

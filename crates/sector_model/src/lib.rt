@@ -2,9 +2,9 @@
 #![tactic(auto)]
 
 mod bank;
+mod buffered_file;
 mod calls;
 mod choice;
-mod buffered_file;
 mod device_file;
 mod event;
 mod files;

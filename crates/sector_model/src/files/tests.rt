@@ -1,3 +1,6 @@
+mod recorded;
+mod runs;
+
 use super::FileBank;
 use crate::testing::Step::{
     Flushes, NoFlush, NoRead, NoWrite, Now, Reads, ReadsRising, Shows, Writes, WritesRising,

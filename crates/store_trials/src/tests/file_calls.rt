@@ -61,11 +61,7 @@ fn opened_on<'a>(
 }
 
 // The calls of each device's file are these, in this order.
-fn are_called(
-    rt: &(impl Abort + AllocGlobal),
-    record: &RefCell<Recorded>,
-    wanted: &[&[FileCall]],
-) {
+fn are_called(rt: &(impl Abort + AllocGlobal), record: &RefCell<Recorded>, wanted: &[&[FileCall]]) {
     let record = record.try_borrow().expect(rt, "a record");
     let mut count = 0usize;
     for device in 0..wanted.len() {
@@ -82,12 +78,7 @@ fn are_called(
 }
 
 // How many reads and writes of files there were, and how many syncs.
-fn are_so_many(
-    rt: &impl Abort,
-    record: &RefCell<Recorded>,
-    reads_and_writes: usize,
-    syncs: usize,
-) {
+fn are_so_many(rt: &impl Abort, record: &RefCell<Recorded>, reads_and_writes: usize, syncs: usize) {
     let record = record.try_borrow().expect(rt, "a record");
     let mut counted = 0usize;
     for (_, call) in &record.calls {

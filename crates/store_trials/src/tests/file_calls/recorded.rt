@@ -44,7 +44,8 @@ impl Recorded {
     fn write(&mut self, device: u8, place: u64, from: &[u8]) -> io::Result<usize>
         ensures { IfOk result (λ n. n ≤ length from.now) }
     {
-        self.calls.push((device, FileCall::Write(place, from.len())))?;
+        self.calls
+            .push((device, FileCall::Write(place, from.len())))?;
         let Some(file) = self.files.get_mut(device as usize) else {
             return Ok(0);
         };

@@ -26,6 +26,7 @@ mod device_calls;
 mod events;
 mod every_call;
 mod failures;
+mod file_calls;
 mod memory;
 mod mixed;
 mod rebuild_failures;

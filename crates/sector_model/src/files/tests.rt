@@ -1,3 +1,6 @@
+mod recorded;
+mod runs;
+
 use super::FileBank;
 use crate::testing::Step::{
     Flushes, NoFlush, NoRead, NoWrite, Now, Reads, ReadsRising, Shows, Writes, WritesRising,
@@ -34,7 +37,7 @@ impl Fake {
         Fake {
             fails,
             is_slow,
-            most: if is_slow { 100 } else { 512 },
+            most: if is_slow { 100 } else { usize::MAX },
             calls: Cell::new(0),
             syncs: Cell::new(0),
             bytes: Cell::new(0),
@@ -143,7 +146,8 @@ fn play_fake(rt: &(impl Abort + AllocGlobal), fake: &Fake, first: u64, rows: &[R
     }
 }
 
-/// What device 3 does once the first call of its file fails, once the second does, and once the third does.
+/// What device 3 does once a read of its file fails, once a write does that the one of the bank after it calls for, once
+/// a write that its flush calls for does, and once the sync does.
 const FAILED_READ: &[Step] = &[
     NoRead(3, 7),
     NoWrite(3, 7, 1),
@@ -154,13 +158,13 @@ const FAILED_READ: &[Step] = &[
 
 const FAILED_WRITE: &[Step] = &[
     Reads(3, 7, 0),
-    NoWrite(3, 7, 1),
-    NoFlush(3),
+    Writes(3, 7, 1),
+    NoWrite(3, 5, 1),
     NoRead(3, 7),
     NoFlush(3),
 ];
 
-const FAILED_SYNC: &[Step] = &[
+const FAILED_FLUSH: &[Step] = &[
     Reads(3, 7, 0),
     Writes(3, 7, 1),
     NoFlush(3),
@@ -184,14 +188,17 @@ const OTHERS: &[Step] = &[
 
 #[test]
 fn a_fault_takes_one_device_down_for_good(rt: HostRuntime) {
-    const ROWS: [[Row; 2]; 3] = [
-        [(FAILED_READ, 1, 0), (OTHERS, 7, 2)],
-        [(FAILED_WRITE, 2, 0), (OTHERS, 8, 2)],
-        [(FAILED_SYNC, 3, 1), (OTHERS, 9, 3)],
+    // The number of the call that fails, and the rows.
+    const CASES: [(u32, [Row; 2]); 4] = [
+        (0, [(FAILED_READ, 1, 0), (OTHERS, 7, 2)]),
+        (1, [(FAILED_WRITE, 2, 0), (OTHERS, 8, 2)]),
+        (1, [(FAILED_FLUSH, 2, 0), (OTHERS, 8, 2)]),
+        (2, [(FAILED_FLUSH, 3, 1), (OTHERS, 9, 3)]),
     ];
-    for fails in 0..3u32 {
-        let fake = Fake::new(fails, false);
-        play_fake(&rt, &fake, 2 * u64::from(fails), &ROWS[fails as usize]);
+    for case in 0..4usize {
+        let (fails, rows) = &CASES[case];
+        let fake = Fake::new(*fails, false);
+        play_fake(&rt, &fake, 2 * case as u64, rows);
     }
 }
 
@@ -199,19 +206,21 @@ fn a_fault_takes_one_device_down_for_good(rt: HostRuntime) {
 fn a_flush_syncs_what_was_written_once(rt: HostRuntime) {
     const ROWS: &[Row] = &[
         (&[Reads(6, 0, 0), Flushes(6)], 1, 0),
-        (&[Writes(6, 0, 1), Writes(6, 1, 1), Flushes(5)], 3, 0),
-        (&[Flushes(6), Flushes(6)], 4, 1),
-        (&[Writes(6, 0, 2), Flushes(6)], 6, 2),
+        (&[Writes(6, 0, 1), Writes(6, 1, 1), Flushes(5)], 1, 0),
+        (&[Flushes(6), Flushes(6)], 3, 1),
+        (&[Writes(6, 0, 2), Flushes(6)], 5, 2),
     ];
     play_fake(&rt, &Fake::new(u32::MAX, false), 0, ROWS)
 }
 
 #[test]
 fn an_interrupted_or_short_call_is_no_fault(rt: HostRuntime) {
-    // Six calls of at most 100 bytes each, and as many that are interrupted.
+    // Six calls of at most 100 bytes each, and as many that are interrupted. What waits is written by the write that
+    // does not follow.
     const ROWS: &[Row] = &[
         (&[ReadsRising(0, 7)], 12, 0),
-        (&[WritesRising(0, 7)], 24, 0),
+        (&[WritesRising(0, 7)], 12, 0),
+        (&[WritesRising(0, 5)], 24, 0),
     ];
     let fake = Fake::new(u32::MAX, true);
     play_fake(&rt, &fake, 0, ROWS);

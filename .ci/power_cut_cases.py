@@ -93,8 +93,8 @@ def cases():
         yield Case(f"replace {name}", lost(1), new, [replaced], (5, 97), files={1: content})
     new = [on_slot("replace", 3)]
     yield Case("replace 3", lost(3), [*new, *AGAIN], [new, AGAIN], (7, 19))
-    yield Case("make", [], fresh, [fresh, AGAIN], (61, 61))
-    yield Case("make over", lost(1), [make()], [fresh], (61, 61))
+    yield Case("make", [], fresh, [fresh, AGAIN], (29, 61))
+    yield Case("make over", lost(1), [make()], [fresh], (17, 61))
     yield Case("make smaller", larger(), [make(8)], [fresh], (9, 97), 2, ends=34)
 
 

@@ -40,8 +40,8 @@ use layout_map::Geometry;
 use report::replies::{Answer, write_reply, write_text};
 use sector_model::{Bank, Refusal};
 use set_commands::{
-    Health, Meter, ProgressBank, apply_on, examine_on, headline_of_the_program, law_of_invocations,
-    most_rows, rebuild_on, serve_fresh, serve_on, tell_on,
+    Health, Meter, apply_on, examine_on, headline_of_the_program, law_of_invocations,
+    rebuild_with_progress, scrub_with_progress, serve_fresh, serve_on, tell_on,
 };
 use std::alloc::Global;
 use std::fs::OpenFile;
@@ -374,13 +374,9 @@ where
             apply_on(rt.alloc(), bank, entry, id, &Event::Fail { slot }, out)
         }
         Invocation::Rebuild { id, steps, .. } => {
-            let bank = ProgressBank::of_set(bank, rt, id, most_rows(steps));
-            rebuild_on(bank, entry, id, steps, out)
+            rebuild_with_progress(bank, rt, entry, id, steps, out)
         }
-        Invocation::Scrub { id, .. } => {
-            let bank = ProgressBank::of_set(bank, rt, id, u64::MAX);
-            apply_on(rt.alloc(), bank, entry, id, &Event::Scrub, out)
-        }
+        Invocation::Scrub { id, .. } => scrub_with_progress(rt.alloc(), bank, rt, entry, id, out),
         Invocation::Upgrade { id, .. } => {
             apply_on(rt.alloc(), bank, entry, id, &Event::Upgrade, out)
         }

@@ -1,27 +1,96 @@
--- Why a line was refused that needs no file to be made.
-use Rattle.std.proofs.Common.{◌≡◌, ◌≢◌, ◌⊎◌, inl, inr, ℕ, List, Result, Ok, Err, sym, subst}
+-- Why a line was refused.
+use Rattle.std.proofs.Common.{◌≡◌, ◌≢◌, ◌⊎◌, ◌+◌, ◌<◌, ◌≤◌, inl, inr, refl, arith, ℕ, List, Result, Ok, Err, sym, subst}
 use Rattle.std.specs.Prelude.{IfErr}
 use Rattle.std.proofs.lemmas.Result.{IfErr-weaker}
 use Rattle.sector_model.specs.declared.refusal.Refusal.{Refusal}
-use Rattle.sector_model.specs.declared.refusal.Refusal.TheVariants.{BadTable, Memory, NoSet, ReadFault, WriteFault}
+use Rattle.sector_model.specs.declared.refusal.Refusal.TheVariants.{BadGeometry, BadTable, Memory, NoSet, ReadFault, Worn, WriteFault}
+use Rattle.layout_map.specs.declared.geometry.Geometry.{Geometry}
+use Rattle.layout_map.specs.Placement.{IsGeometry}
 use Rattle.array_io.specs.Believed.Views.{EndsIt}
-use Rattle.recovery.specs.Making.{BankView}
+use Rattle.recovery.specs.Making.{BankView, IsNoMake}
+use Rattle.device_files.specs.DeviceFiles.{IsNoTableIn}
+use Rattle.device_files.specs.declared.FolderFault.{FolderFault}
+use Rattle.device_files.specs.declared.FolderFault.TheVariants.{Refused}
 use Rattle.set_commands.specs.Run.{StoppedByStore, Streams}
 use Rattle.set_commands.specs.Serving.{IsEnd, IsNotOpened, LosesOn, ServesOn}
 use Rattle.command_line.specs.declared.Invocation.{Invocation}
 use Rattle.command_line.specs.declared.Invocation.TheVariants.{Examine, Fail, Make, Rebuild, Replace, Run, Scrub, Status, Upgrade}
 use Rattle.command_line.proofs.Asked.{SameInvocation}
-use Rattle.raidtool.specs.Done.{IsPlainEnd}
-use Rattle.raidtool.specs.Tool.{IsCaused}
+use Rattle.raidtool.specs.Causes.{HasCause, IsCaused, IsCausedBy, IsCauseOfMake, IsCauseOn, IsPlainEnd, id_text}
+use Rattle.raidtool.specs.Done.{HasSizes, OfFiles}
+use Rattle.raidtool.specs.OtherSets.{IsRefusedMake, IsUntoldIn}
+use Rattle.raidtool.specs.Tool.{IsServed}
 
-not_memory : (refusal : Refusal) → ¬ IsPlainEnd refusal → refusal ≢ Memory
+pub not_memory : (refusal : Refusal) → ¬ IsPlainEnd refusal → refusal ≢ Memory
 not_memory refusal other is = other (subst IsPlainEnd (sym is) tt)
 
 not_unread : (refusal : Refusal) → ¬ IsPlainEnd refusal → refusal ≢ ReadFault
 not_unread refusal other is = other (subst IsPlainEnd (sym is) tt)
 
-not_cut : (refusal : Refusal) → ¬ IsPlainEnd refusal → refusal ≢ WriteFault
+pub not_cut : (refusal : Refusal) → ¬ IsPlainEnd refusal → refusal ≢ WriteFault
 not_cut refusal other is = other (subst IsPlainEnd (sym is) tt)
+
+-- ---- what stopped a command over files
+
+-- a fault whose refusals are all for memory has none with another cause
+pub by_memory : (Is : FolderFault → Type 0) (Cause : Refusal → Type 0) (fault : FolderFault) → ((refusal : Refusal) → Is (Refused refusal) → refusal ≡ Memory)
+    → Is fault → IsCausedBy Cause fault
+by_memory Is Cause fault memory is = λ refusal same other. absurd (not_memory refusal other (memory refusal (subst Is same is)))
+
+-- a refusal that is no plain end has its cause
+pub by_refusal : (Cause : Refusal → Type 0) (why : Refusal) → (¬ IsPlainEnd why → Cause why) → IsCausedBy Cause (Refused why)
+by_refusal Cause why cause = λ refusal same other.
+    let its : why ≡ refusal = cc in
+    subst (λ (r : Refusal). ¬ IsPlainEnd r → Cause r) its cause other
+
+-- what was a cause is another one
+pub caused_as : (Cause Other : Refusal → Type 0) (fault : FolderFault) → ((refusal : Refusal) → Cause refusal → Other refusal) → IsCausedBy Cause fault
+    → IsCausedBy Other fault
+caused_as Cause Other fault so cause = λ refusal same other. so refusal (cause refusal same other)
+
+-- ---- a set was not made
+
+-- a slot after its own could not be looked at
+pub untold_make : (id : List ℕ) (geometry : Geometry) (refusal : Refusal) → IsUntoldIn id (geometry.members + 2) refusal → IsRefusedMake id geometry refusal
+untold_make id geometry refusal is = (is.0, is.1, inl (is.2, is.3))
+
+-- no bank of ten devices is too small for a set
+not_too_small : (id : List ℕ) (members chunk stripes : ℕ) (geometry : Geometry) → HasSizes members chunk stripes geometry
+    → IsRefusedMake id geometry BadGeometry → ⊥
+not_too_small id members chunk stripes geometry sizes (bank, ten, inl (after, refuses)) = let never : BadGeometry ≡ Worn = refuses.0 in cc
+not_too_small id members chunk stripes geometry sizes (bank, ten, inr (refusal, same, alone)) =
+    let its : refusal ≡ BadGeometry = cc in
+    let cause = alone.refuses.makes.cause alone.refuses.back refusal refl in
+    let few : alone.refuses.back.panel.devices < geometry.members + 2 = subst (IsNoMake geometry alone.refuses.back.panel) its cause in
+    let first : alone.inspected.panel.devices ≡ bank.panel.devices = alone.alone.later.devices in
+    let second : alone.refuses.back.panel.devices ≡ alone.inspected.panel.devices = alone.refuses.makes.later.devices in
+    let most : members ≤ 8 = sizes.within.members_most in
+    let its_members : geometry.members ≡ members = sizes.members_is in
+    omega (arith, few, first, second, ten, most, its_members)
+
+pub sizes_make : (id : List ℕ) (members chunk stripes : ℕ) (geometry : Geometry) → HasSizes members chunk stripes geometry → (refusal : Refusal)
+    → IsRefusedMake id geometry refusal → IsCauseOfMake id members chunk stripes refusal
+sizes_make id members chunk stripes geometry sizes BadGeometry is = absurd (not_too_small id members chunk stripes geometry sizes is)
+sizes_make id members chunk stripes geometry sizes refusal is = (geometry, sizes, is)
+
+-- no set has these sizes
+pub no_sizes : (id : List ℕ) (members chunk stripes : ℕ) (refusal : Refusal) → refusal ≡ BadGeometry → ¬ IsGeometry members chunk stripes
+    → IsCauseOfMake id members chunk stripes refusal
+no_sizes id members chunk stripes refusal is none = subst (IsCauseOfMake id members chunk stripes) (sym is) none
+
+-- ---- a line that needs no file to be made
+
+pub served_cause : (line : Invocation) (refusal : Refusal) → IsServed line → ((bank : BankView) × IsCauseOn line OfFiles bank refusal) ⊎ IsNoTableIn (id_text line) refusal
+    → HasCause line refusal
+served_cause (Run folder id) refusal served cause = cause
+served_cause (Make folder id members chunk stripes) refusal served cause = absurd served
+served_cause (Status folder id json check) refusal served cause = cause
+served_cause (Fail folder id slot) refusal served cause = cause
+served_cause (Replace folder id slot) refusal served cause = absurd served
+served_cause (Rebuild folder id steps) refusal served cause = cause
+served_cause (Scrub folder id) refusal served cause = cause
+served_cause (Upgrade folder id) refusal served cause = cause
+served_cause (Examine folder id json check) refusal served cause = absurd served
 
 -- a script
 module _ (honest : Type 0) (id : List ℕ) (bank : BankView) where
@@ -59,12 +128,14 @@ done_for result Cause = IfErr-weaker result _ _ (λ refusal cause other. cause (
 -- of two lines that the same words ask for, the cause is the same
 pub caused_too : (a b : Invocation) (refusal : Refusal) → SameInvocation a b → IsCaused b refusal → IsCaused a refusal
 caused_too (Run f i) (Run g j) refusal same cause = rw same.1 cause
-caused_too (Make f i members chunk stripes) (Make g j m c s) refusal same cause = λ served other. absurd served
+caused_too (Make f i members chunk stripes) (Make g j m c s) refusal same cause =
+    let sizes = same.2 in
+    rw (same.1, sizes.members_same, sizes.chunk_same, sizes.stripes_same) cause
 caused_too (Status f i json check) (Status g j as_json as_check) refusal same cause = rw same.1 cause
 caused_too (Fail f i slot) (Fail g j k) refusal same cause = rw (same.1, same.2) cause
-caused_too (Replace f i slot) (Replace g j k) refusal same cause = λ served other. absurd served
+caused_too (Replace f i slot) (Replace g j k) refusal same cause = rw (same.1, same.2) cause
 caused_too (Rebuild f i steps) (Rebuild g j t) refusal same cause = rw (same.1, same.2) cause
 caused_too (Scrub f i) (Scrub g j) refusal same cause = rw same.1 cause
 caused_too (Upgrade f i) (Upgrade g j) refusal same cause = rw same.1 cause
-caused_too (Examine f i json check) (Examine g j as_json as_check) refusal same cause = λ served other. absurd served
+caused_too (Examine f i json check) (Examine g j as_json as_check) refusal same cause = rw (same.1, same.2) cause
 caused_too a b refusal same cause = absurd same

@@ -24,8 +24,9 @@ use Rattle.raidtool.specs.FolderFiles.{WereTaken}
 use Rattle.device_files.specs.Faults.{fault_line}
 use Rattle.raidtool.specs.Stops.{IsBlamed}
 use Rattle.set_commands.specs.Run.{Streams}
-use Rattle.raidtool.specs.Tool.{IsBlamedIn, IsCaused, IsChecked, IsCutOff, IsDoneIn, IsEndOf, IsEndOfLine, IsFirst, IsMisshapen, IsNone, IsPartWritten, IsStopOf}
-use Rattle.raidtool.specs.Tool.{IsWritten, PassesNone, WasRefused, WasStopped, folder_text, id_text}
+use Rattle.raidtool.specs.Tool.{IsBlamedIn, IsChecked, IsCutOff, IsDoneIn, IsEndOf, IsEndOfLine, IsFirst, IsMisshapen, IsNone, IsPartWritten, IsStopOf}
+use Rattle.raidtool.specs.Tool.{IsWritten, PassesNone, WasRefused, WasStopped, folder_text}
+use Rattle.raidtool.specs.Causes.{IsCaused, id_text}
 use Rattle.command_line.proofs.Asked.{SameInvocation}
 use Rattle.raidtool.proofs.InspectionsTold.{inspections_written}
 use Rattle.raidtool.proofs.Repaired.{told_progress, told_scrub}

@@ -15,8 +15,10 @@ use Rattle.array_io.proofs.Rest.AtRestImages.{content_left}
 use Rattle.recovery.specs.Making.{BankView, IsQuietBeyond}
 use Rattle.recovery.proofs.AssembledReads.{IsRead, none_pending_read, read_last, readable_read}
 use Rattle.recovery.proofs.Finding.{Honest}
-use Rattle.raidtool.specs.Done.{MakesOn}
-use Rattle.raidtool.specs.OtherSets.{InspectsBeyond, IsStillBeyond, MakesAlone}
+use Rattle.sector_model.specs.declared.refusal.Refusal.{Refusal}
+use Rattle.device_files.specs.declared.FolderFault.TheVariants.{Refused}
+use Rattle.raidtool.specs.Done.{MakesOn, RefusesMake}
+use Rattle.raidtool.specs.OtherSets.{InspectsBeyond, IsStillBeyond, MakesAlone, StopsMaking}
 
 -- what was promised of an honest bank is so of one that is no more than that
 pub made_by : (honest honest_mid : Type 0) → (honest → honest_mid) → (id : List ℕ) (geometry : Geometry) (bank : BankView)
@@ -84,3 +86,26 @@ made_alone honest honest_mid on id geometry old mid is_old is_mid alone made = r
       (quiet_beyond id (geometry.members + 2) old mid (is_old fair) (is_mid fair) alone.later (alone.reads fair) stay still (alone.finds None refl fair stay))
       made.array refl;
 }
+
+-- ---- where it was not made
+
+refused_by : (honest honest_mid : Type 0) → (honest → honest_mid) → (id : List ℕ) (geometry : Geometry) (bank : BankView) (refusal : Refusal)
+    → RefusesMake honest_mid id geometry bank refusal → RefusesMake honest id geometry bank refusal
+refused_by honest honest_mid on id geometry bank refusal refused = record {
+  back = refused.back;
+  makes = record {
+    later = refused.makes.later;
+    first = refused.makes.first;
+    number = refused.makes.number;
+    its_slots = refused.makes.its_slots;
+    rests = λ fair. refused.makes.rests (on fair);
+    cause = refused.makes.cause;
+  };
+}
+
+-- the set could not be made
+pub stopped_make : (honest honest_mid : Type 0) → (honest → honest_mid) → (id : List ℕ) (geometry : Geometry) (old mid : BankView) (refusal : Refusal)
+    → InspectsBeyond honest id (geometry.members + 2) old mid (Ok None) → RefusesMake honest_mid id geometry mid refusal
+    → StopsMaking honest id geometry old (Refused refusal)
+stopped_make honest honest_mid on id geometry old mid refusal alone refused =
+    inr (refusal, refl, record { inspected = mid; alone = alone; refuses = refused_by honest honest_mid on id geometry mid refusal refused })

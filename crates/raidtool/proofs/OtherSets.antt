@@ -4,6 +4,8 @@ use Rattle.std.specs.Prelude.{Result}
 use Rattle.std.specs.Option.{is_some}
 use Rattle.std.proofs.lemmas.Bool.{cases_lt}
 use Rattle.sector_model.specs.declared.refusal.Refusal.{Refusal}
+use Rattle.sector_model.specs.declared.refusal.Refusal.TheVariants.{Worn}
+use Rattle.sector_model.specs.declared.calls.TheConstants.{GREATEST_COUNT}
 use Rattle.sector_model.specs.Bank.{IsLater}
 use Rattle.sector_model.specs.History.{Slots}
 use Rattle.sector_model.specs.Readable.{readable}
@@ -15,7 +17,7 @@ use Rattle.superblock.specs.Newest.{SlotCountsNone}
 use Rattle.array_io.specs.Believed.ReadWhole.{NoDeviceFailed}
 use Rattle.recovery.specs.Finding.{Finds, NewestFound}
 use Rattle.recovery.specs.Making.{BankView}
-use Rattle.recovery.proofs.Finding.{Honest, no_found, none_failed_first, none_failed_second, same_found, same_readable}
+use Rattle.recovery.proofs.Finding.{Honest, no_found, no_refusal, none_failed_first, none_failed_second, same_found, same_readable}
 use Rattle.raidtool.specs.OtherSets.{InspectsBeyond, IsFoundBeyond}
 
 -- the slots from one on and below another were inspected, and in none a superblock counts
@@ -87,6 +89,7 @@ module _ (honest honest_mid : Type 0) (on : honest → honest_mid) (id : List �
     reads = λ fair. read_both (inspected.reads fair) (finds.reads (on fair));
     finds = λ other is fair stay. subst (IsFoundBeyond id first old) (same_found (Some n) other is)
         (has_one id old.panel.devices n (readable old.history) found some (found_next found (Ok found) refl finds fair stay));
+    cause = λ refusal is. absurd (no_refusal (Some n) refusal is);
   }
 
   -- it could not be looked at
@@ -96,6 +99,9 @@ module _ (honest honest_mid : Type 0) (on : honest → honest_mid) (id : List �
     later = later_both old.panel mid.panel new.panel inspected.later finds.later;
     reads = λ fair. read_both (inspected.reads fair) (finds.reads (on fair));
     finds = λ found is. absurd (no_found found refusal is);
+    cause = λ why is.
+        let same : refusal ≡ why = cc in
+        subst (λ (r : Refusal). (r ≡ Worn) × (GREATEST_COUNT ≤ new.panel.calls)) same (finds.cause refusal refl);
   }
 
 -- all were inspected
@@ -106,4 +112,5 @@ all_beyond honest id first n old now all inspected = record {
   reads = inspected.reads;
   finds = λ found is fair stay. subst (IsFoundBeyond id first old) (same_found None found is)
       (λ slot from below. inspected.none fair stay slot from (omega (arith, all, below)));
+  cause = λ refusal is. absurd (no_refusal None refusal is);
 }

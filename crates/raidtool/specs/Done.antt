@@ -1,30 +1,32 @@
 -- What was done where a line ended well: with the id, the slot, the sizes and the steps that its words name.
-use Rattle.std.specs.Prelude.{◌≡◌, ◌≢◌, ◌⊎◌, ℕ, Bool, List, Option, Result, Ok, Err, IsTrue, false}
+use Rattle.std.specs.Prelude.{◌≡◌, ◌≢◌, ℕ, Bool, List, Option, Result, Ok, Err, IsTrue, false}
 use Rattle.std.specs.Io.KnownBytes.{Appends}
 use Rattle.sector_model.specs.declared.refusal.Refusal.{Refusal}
-use Rattle.sector_model.specs.declared.refusal.Refusal.TheVariants.{Memory, ReadFault, WriteFault}
+use Rattle.sector_model.specs.declared.refusal.Refusal.TheVariants.{WriteFault}
 use Rattle.layout_map.specs.declared.geometry.Geometry.{Geometry}
 use Rattle.layout_map.specs.Placement.{IsGeometry}
 use Rattle.array_io.specs.Believed.Views.{ArrayView}
-use Rattle.recovery.specs.Making.{BankView, Makes, Opened}
-use Rattle.volume_table.specs.VolumeStep.{Done, OnSet, OnVolumes}
-use Rattle.volume_table.specs.VolumeStep.{Fail as FailSlot, Scrub as ScrubSet, Upgrade as UpgradeTable}
+use Rattle.recovery.specs.Making.{BankView, Makes, Opened, Returned}
+use Rattle.volume_table.specs.VolumeStep.{Done}
 use Rattle.report.specs.Replies.{made_line, reply_text}
 use Rattle.command_line.specs.declared.Invocation.{Invocation}
 use Rattle.command_line.specs.declared.Invocation.TheVariants.{Examine, Fail, Make, Rebuild, Replace, Run, Scrub, Status, Upgrade}
-use Rattle.device_files.specs.DeviceFiles.{IsNoTableIn}
 use Rattle.device_files.specs.declared.FolderFault.{FolderFault}
 use Rattle.device_files.specs.declared.FolderFault.TheVariants.{Refused}
 use Rattle.raidtool.specs.Needs.{FindsNeed}
 use Rattle.set_commands.specs.Examining.{ExaminesOn, ExaminesPartOn}
-use Rattle.set_commands.specs.Run.{StoppedByStore, Streams}
-use Rattle.set_commands.specs.Serving.{FailsOn, IsNotOpened, RebuildsOn, RefusesOn, ReplacesOn, RunsOn, ScrubsOn, ServesOn, StopsRebuildingOn, TellsOn}
-use Rattle.set_commands.specs.Serving.{UpgradesOn}
+use Rattle.set_commands.specs.Run.{Streams}
+use Rattle.set_commands.specs.Serving.{FailsOn, RebuildsOn, ReplacesOn, RunsOn, ScrubsOn, TellsOn, UpgradesOn}
 
 -- a set of this id and geometry was made on a bank
 pub record MakesOn (honest : Type 0) (id : List ℕ) (geometry : Geometry) (bank : BankView) : Type 0 where
   pub array : ArrayView
   pub makes : Makes honest id geometry bank (Opened array)
+
+-- no set of this id and geometry was made on a bank, for this refusal
+pub record RefusesMake (honest : Type 0) (id : List ℕ) (geometry : Geometry) (bank : BankView) (refusal : Refusal) : Type 0 where
+  pub back : BankView
+  pub makes : Makes honest id geometry bank (Returned back refusal)
 
 -- a geometry of these sizes
 pub record HasSizes (members chunk stripes : ℕ) (geometry : Geometry) : Type 0 where
@@ -50,32 +52,9 @@ DoesOn (Examine folder id json check) honest bank was is = ExaminesOn honest id 
 abbrev pub OfFiles : Type 0
 OfFiles = IsTrue false
 
--- Why a line that needs no file to be made was refused on a bank: the set was not assembled or not opened, or what the line asks for was refused; of any other
--- line nothing.
-abbrev pub IsCauseOn : Invocation → (honest : Type 0) (bank : BankView) → Refusal → Type 0
-IsCauseOn (Run folder id) honest bank refusal = IsNotOpened honest id bank refusal
-    ⊎ ((was : Streams) × (is : Streams) × ServesOn honest id bank (λ first last. StoppedByStore honest refusal first last was is))
-IsCauseOn (Status folder id json check) honest bank refusal = IsNotOpened honest id bank refusal
-IsCauseOn (Fail folder id slot) honest bank refusal = IsNotOpened honest id bank refusal ⊎ RefusesOn honest id (OnSet (FailSlot slot)) bank refusal
-IsCauseOn (Rebuild folder id steps) honest bank refusal = IsNotOpened honest id bank refusal ⊎ StopsRebuildingOn honest id steps bank refusal
-IsCauseOn (Scrub folder id) honest bank refusal = IsNotOpened honest id bank refusal ⊎ RefusesOn honest id (OnSet ScrubSet) bank refusal
-IsCauseOn (Upgrade folder id) honest bank refusal = IsNotOpened honest id bank refusal ⊎ RefusesOn honest id (OnVolumes UpgradeTable) bank refusal
-IsCauseOn line honest bank refusal = Unit {0}
-
--- memory ran out, or a reader or a writer failed: that is cause enough
-abbrev pub IsPlainEnd : Refusal → Type 0
-IsPlainEnd Memory = Unit {0}
-IsPlainEnd ReadFault = Unit {0}
-IsPlainEnd WriteFault = Unit {0}
-IsPlainEnd refusal = ⊥
-
 -- it was done on some bank, of whose contents nothing is known
 abbrev pub IsDone : Invocation → (was is : Streams) → Type 0
 IsDone line was is = (bank : BankView) × DoesOn line OfFiles bank was is
-
--- a line was refused on such a bank, or in seeking the table of its set, for whether a slot is missing whose file can't be opened
-abbrev pub HasCause : Invocation → (id : List ℕ) → Refusal → Type 0
-HasCause line id refusal = ((bank : BankView) × IsCauseOn line OfFiles bank refusal) ⊎ IsNoTableIn id refusal
 
 -- the set of an id, or each set, was inspected on such a bank, and what was found was written
 abbrev pub IsExamined : (id : Option (List ℕ)) (json : Bool) (was is : Option (List ℕ)) → Type 0

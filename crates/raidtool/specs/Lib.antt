@@ -1,3 +1,4 @@
+pub mod Causes
 pub mod Done
 pub mod FolderFiles
 pub mod Needs

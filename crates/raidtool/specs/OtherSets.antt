@@ -1,7 +1,8 @@
 -- Superblocks of another set of the same id, after the slots of one that is to be made; and a set that is made where there is none.
-use Rattle.std.specs.Prelude.{◌≡◌, ◌+◌, ◌<◌, ◌≤◌, true, ℕ, List, Option, Some, None, Result, Ok, Err}
+use Rattle.std.specs.Prelude.{◌≡◌, ◌⊎◌, ◌+◌, ◌<◌, ◌≤◌, true, ℕ, List, Option, Some, None, Result, Ok, Err}
 use Rattle.sector_model.specs.declared.refusal.Refusal.{Refusal}
 use Rattle.sector_model.specs.declared.refusal.Refusal.TheVariants.{Worn}
+use Rattle.sector_model.specs.declared.calls.TheConstants.{GREATEST_COUNT}
 use Rattle.sector_model.specs.Bank.{IsLater}
 use Rattle.sector_model.specs.History.{is_down, start_of}
 use Rattle.sector_model.specs.Readable.{NothingPending, readable}
@@ -16,7 +17,7 @@ use Rattle.recovery.specs.Finding.{NewestFound}
 use Rattle.recovery.specs.Making.{BankView, IsQuietBeyond}
 use Rattle.device_files.specs.declared.FolderFault.{FolderFault}
 use Rattle.device_files.specs.declared.FolderFault.TheVariants.{OtherSet, Refused}
-use Rattle.raidtool.specs.Done.{MakesOn, OfFiles}
+use Rattle.raidtool.specs.Done.{MakesOn, OfFiles, RefusesMake}
 
 -- what is found from a slot on: the lowest one in which a superblock of this id counts, or that there is none
 abbrev pub IsFoundBeyond : (id : List ℕ) (first : ℕ) (bank : BankView) → Option ℕ → Type 0
@@ -29,6 +30,7 @@ pub record InspectsBeyond (honest : Type 0) (id : List ℕ) (first : ℕ) (old n
   pub later : IsLater old.panel new.panel
   pub reads : honest → HasRead old.history new.history
   pub finds : (found : Option ℕ) → answer ≡ Ok found → honest → NoDeviceFailed old.panel new.panel → IsFoundBeyond id first old found
+  pub cause : (refusal : Refusal) → answer ≡ Err refusal → (refusal ≡ Worn) × (GREATEST_COUNT ≤ new.panel.calls)
 
 -- a slot from this one on has another set, which was found there, or that could not be looked for
 abbrev pub RefusesOther : (honest : Type 0) (id : List ℕ) (first : ℕ) (old new : BankView) → FolderFault → Type 0
@@ -40,6 +42,10 @@ RefusesOther honest id first old new fault = ⊥
 -- on some bank of files, which tell nothing, no slot from one on was found to have a set of this id
 abbrev pub IsAloneIn : (id : List ℕ) (first : ℕ) → Type 0
 IsAloneIn id first = (old : BankView) × (new : BankView) × InspectsBeyond OfFiles id first old new (Ok None)
+
+-- on some bank of ten such files that could not be told, for this refusal
+abbrev pub IsUntoldIn : (id : List ℕ) (first : ℕ) → Refusal → Type 0
+IsUntoldIn id first refusal = (old : BankView) × (old.panel.devices ≡ 10) × (new : BankView) × RefusesOther OfFiles id first old new (Refused refusal)
 
 -- nothing is pending, and each device after so many slots that was there at first is up: so it is with files that were just opened
 pub record IsStillBeyond (slots : ℕ) (bank : BankView) : Type 0 where
@@ -59,3 +65,18 @@ pub record MakesAlone (honest : Type 0) (id : List ℕ) (geometry : Geometry) (b
 -- a set of this id and geometry was so made on some bank of files
 abbrev pub IsMadeAlone : (id : List ℕ) → Geometry → Type 0
 IsMadeAlone id geometry = (bank : BankView) × MakesAlone OfFiles id geometry bank
+
+-- No slot after those of a set was found to have another one of its id, and then the set was not made on this very bank, for this refusal.
+pub record RefusesMakeAlone (honest : Type 0) (id : List ℕ) (geometry : Geometry) (bank : BankView) (refusal : Refusal) : Type 0 where
+  pub inspected : BankView
+  pub alone : InspectsBeyond honest id (geometry.members + 2) bank inspected (Ok None)
+  pub refuses : RefusesMake honest id geometry inspected refusal
+
+-- what stopped the making of a set on a bank: a slot after its own has another one, or that could not be told, or the set could not be made
+abbrev pub StopsMaking : (honest : Type 0) (id : List ℕ) (geometry : Geometry) (bank : BankView) → FolderFault → Type 0
+StopsMaking honest id geometry bank fault = ((after : BankView) × RefusesOther honest id (geometry.members + 2) bank after fault)
+    ⊎ ((refusal : Refusal) × (fault ≡ Refused refusal) × RefusesMakeAlone honest id geometry bank refusal)
+
+-- a set of this id and geometry was so refused on some bank of ten files
+abbrev pub IsRefusedMake : (id : List ℕ) → Geometry → Refusal → Type 0
+IsRefusedMake id geometry refusal = (bank : BankView) × (bank.panel.devices ≡ 10) × StopsMaking OfFiles id geometry bank (Refused refusal)

@@ -8,6 +8,7 @@ use Rattle.report.specs.Written.{AppendsPart}
 use Rattle.device_files.specs.declared.FolderFault.{FolderFault}
 use Rattle.device_files.specs.declared.FolderFault.TheVariants.{Refused}
 use Rattle.set_commands.specs.Serving.{IsReplaceEnd}
+use Rattle.raidtool.specs.Causes.{IsCauseOfReplace, IsCausedBy}
 use Rattle.raidtool.specs.Done.{IsReplacedSlot}
 use Rattle.raidtool.specs.Stops.{IsSlotFault}
 
@@ -20,6 +21,7 @@ Replaces Synced Blamed contents id slot was is result = record {
   replaced : OnOk result (IsReplacedSlot id slot);
   written : OnOk result (Appends (contents was) (contents is) (reply_text Done));
   fault : IfErr result (IsSlotFault IsReplaceEnd slot);
+  cause : IfErr result (IsCausedBy (IsCauseOfReplace id slot));
   blamed : IfErr result Blamed;
   unwritten : IfErr result (λ fault. fault ≢ Refused WriteFault → is ≡ was);
   cut : IfErr result (λ fault. fault ≡ Refused WriteFault

@@ -18,7 +18,8 @@ use Rattle.volume_table.specs.VolumeStep.{Done}
 use Rattle.command_line.specs.Invocations.{AsksFor}
 use Rattle.device_files.specs.DeviceFiles.{IsMissingIn, slot_path}
 use Rattle.raidtool.specs.FolderFiles.{WereOpened, WereTaken}
-use Rattle.raidtool.specs.Done.{HasCause, IsDone, IsPlainEnd, OfFiles}
+use Rattle.raidtool.specs.Causes.{IsCaused, id_text}
+use Rattle.raidtool.specs.Done.{IsDone, OfFiles}
 use Rattle.set_commands.specs.Run.{Streams}
 use Rattle.set_commands.specs.Healths.{HealthOn, InspectsHealth}
 use Rattle.set_commands.specs.declared.serving.health.Health.{Health}
@@ -94,22 +95,6 @@ IsServed (Make folder id members chunk stripes) = ⊥
 IsServed (Replace folder id slot) = ⊥
 IsServed (Examine folder id json check) = ⊥
 IsServed line = Unit {0}
-
--- the id of the set of a line; of one that may look at each set, none
-abbrev pub id_text : Invocation → List ℕ
-id_text (Run folder id) = id
-id_text (Make folder id members chunk stripes) = id
-id_text (Status folder id json check) = id
-id_text (Fail folder id slot) = id
-id_text (Replace folder id slot) = id
-id_text (Rebuild folder id steps) = id
-id_text (Scrub folder id) = id
-id_text (Upgrade folder id) = id
-id_text (Examine folder id json check) = []
-
--- a refusal of a line that needs no file to be made has a cause
-abbrev pub IsCaused : Invocation → Refusal → Type 0
-IsCaused line refusal = IsServed line → ¬ IsPlainEnd refusal → HasCause line (id_text line) refusal
 
 -- what these words can be refused with by the exit status 1; a line that asks how well a set is ends otherwise where there is none that could be assembled
 abbrev pub IsEndOf : List Text → Refusal → Type 0

@@ -6,7 +6,8 @@ ghost use Rattle.report.specs.Replies.{made_line};
 ghost use Rattle.report.specs.Written.{AppendsPart};
 ghost use Rattle.device_files.specs.declared.FolderFault.{FolderFault};
 ghost use Rattle.device_files.specs.DeviceFiles.{IsLinkSynced, slot_path};
-ghost use Rattle.raidtool.specs.OtherSets.{IsAloneIn, IsMadeAlone};
+ghost use Rattle.raidtool.specs.Causes.{IsCausedBy};
+ghost use Rattle.raidtool.specs.OtherSets.{IsAloneIn, IsMadeAlone, IsRefusedMake, IsUntoldIn};
 ghost use Rattle.raidtool.specs.Stops.{IsBlamed, IsFileFault, IsMakeFault, IsOtherFault, IsUnmade};
 ghost use Rattle.raidtool.specs.FolderFiles.{LeavesFiles, MakesFiles, MakesOrUndoes, WereTaken};
 
@@ -61,6 +62,7 @@ where
     ensures made { OnOk result (IsMadeAlone id geometry) }
     ensures written { OnOk result (Appends (W.contents out.old) (W.contents out.new) made_line) }
     ensures fault { IfErr result (IsMakeFault geometry.members) }
+    ensures cause { IfErr result (IsCausedBy (IsRefusedMake id geometry)) }
     ensures named { IfErr result (IsBlamed (D.opens disk.now) (D.creates disk.now)
         ⟦<Locked<S::File> as Growing>⟧.has_failed folder.now) }
     ensures unmade { IfErr result (λ fault. fault ≢ FolderFault.Refused Refusal.WriteFault → out.new ≡ out.old) }
@@ -90,6 +92,7 @@ where
     ensures synced { OnOk result (D.is_safe disk.now folder.now ⊎ D.is_never disk.now folder.now) }
     ensures made { OnOk result (IsMadeAlone id geometry) }
     ensures fault { IfErr result (IsUnmade geometry.members) }
+    ensures cause { IfErr result (IsCausedBy (IsRefusedMake id geometry)) }
     ensures named { IfErr result (IsBlamed (D.opens disk.now) (D.creates disk.now)
         ⟦<Locked<S::File> as Growing>⟧.has_failed folder.now) }
 {
@@ -121,6 +124,7 @@ where
     ensures synced { OnOk result (D.is_safe disk.now folder.now ⊎ D.is_never disk.now folder.now) }
     ensures made { OnOk result (IsMadeAlone id geometry) }
     ensures fault { IfErr result (IsUnmade geometry.members) }
+    ensures cause { IfErr result (IsCausedBy (IsRefusedMake id geometry)) }
     ensures named { IfErr result (IsBlamed (D.opens disk.now) (D.creates disk.now)
         ⟦<Locked<S::File> as Growing>⟧.has_failed folder.now) }
 {
@@ -149,6 +153,7 @@ where
     ensures synced { OnOk result (D.is_safe disk.now folder.now ⊎ D.is_never disk.now folder.now) }
     ensures made { OnOk result (IsMadeAlone id geometry) }
     ensures fault { IfErr result (IsUnmade geometry.members) }
+    ensures cause { IfErr result (IsCausedBy (IsRefusedMake id geometry)) }
     ensures named { IfErr result (IsBlamed (D.opens disk.now) (D.creates disk.now)
         ⟦<Locked<S::File> as Growing>⟧.has_failed folder.now) }
 {
@@ -171,6 +176,7 @@ where
     F: OpenFile + FileExt + Lock + Drop,
     ensures none { OnOk result (IsAloneIn id.now first) }
     ensures fault { IfErr result (IsOtherFault first) }
+    ensures cause { IfErr result (IsCausedBy (IsUntoldIn id.now first)) }
 {
     let mut bank = bank_over(alloc, files)?;
     refuse_other(&mut bank, id, first)

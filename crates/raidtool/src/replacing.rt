@@ -3,9 +3,11 @@ ghost use Rattle.std.specs.Prelude.{◌≡◌, ◌≢◌, ◌⊎◌, ◌↔◌, 
 ghost use Rattle.std.specs.Prelude.{false, string_bytes, true};
 ghost use Rattle.superblock.specs.NextTables.{slots_of};
 ghost use Rattle.recovery.specs.SeenBank.{bank_seen};
-ghost use Rattle.device_files.specs.DeviceFiles.{AreOthersKept, IsLinkSynced, IsMissingIn, file_in, slot_path};
+ghost use Rattle.device_files.specs.DeviceFiles.{AreOthersKept, IsLinkSynced, IsMissingIn, IsNoTableIn, file_in};
+ghost use Rattle.device_files.specs.DeviceFiles.{slot_path};
 ghost use Rattle.raidtool.specs.FolderFiles.{ReplacesOrUndoes, WereTaken};
 ghost use Rattle.raidtool.specs.Needs.{AreOthersWhole, FindsNeed, IsNeed, IsWhole};
+ghost use Rattle.raidtool.specs.Causes.{IsCausedBy};
 ghost use Rattle.raidtool.specs.Done.{IsNeedIn, IsUndone};
 ghost use Rattle.raidtool.specs.Replacing.{Replaces};
 ghost use Rattle.raidtool.specs.Stops.{HasPassed, IsBlamed, IsPreparingRefusal, IsSlotFault};
@@ -159,6 +161,7 @@ where
         (λ folder. D.is_safe disk.now folder ⊎ D.is_never disk.now folder) (slot_path folder.now slot)) }
     ensures others { AreOthersKept files.old.files.items files.new.files.items slot }
     ensures fault { IfErr result (IsSlotFault IsPreparingRefusal slot) }
+    ensures cause { IfErr result (IsCausedBy (IsNoTableIn id)) }
     ensures named { IfErr result (IsBlamed (D.opens disk.now) (D.creates disk.now)
         ⟦<Locked<F> as Growing>⟧.has_failed folder.now) }
 {

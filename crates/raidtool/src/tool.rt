@@ -10,7 +10,8 @@ ghost use Rattle.device_files.specs.declared.FolderFault.{FolderFault};
 ghost use Rattle.command_line.specs.Invocations.{AsksFor, IsFaultOf};
 ghost use Rattle.device_files.specs.DeviceFiles.{IsMissingIn, slot_path};
 ghost use Rattle.raidtool.specs.FolderFiles.{WereOpened, WereTaken};
-ghost use Rattle.raidtool.specs.Done.{DoesOn, IsCauseOn, IsDone, IsExamined, IsPartExamined, IsPlainEnd};
+ghost use Rattle.raidtool.specs.Causes.{HasCause, IsCauseOfExamine, IsCauseOn, IsCausedBy, IsPlainEnd, id_text};
+ghost use Rattle.raidtool.specs.Done.{DoesOn, IsDone, IsExamined, IsPartExamined};
 ghost use Rattle.set_commands.specs.Examining.{IsExamineEnd};
 ghost use Rattle.device_files.specs.Faults.{IsToldLine};
 ghost use Rattle.raidtool.specs.Stops.{HasPassed, IsBlamed, IsInspectionBlamed, IsServeFault, IsTold, IsToldAfter};
@@ -18,10 +19,10 @@ ghost use Rattle.set_commands.specs.DoneLaw.{CommandsMakeInvocations};
 ghost use Rattle.set_commands.specs.Fresh.{RunsFresh};
 ghost use Rattle.set_commands.specs.Invocations.{HeadlineOfTheProgram};
 ghost use Rattle.set_commands.specs.Run.{streams};
-ghost use Rattle.raidtool.specs.Tool.{ComesFirst, IsAsked, IsBlamedIn, IsCaused, IsCutOff, IsDoneIn, IsEndOf, IsEndOfLine};
+ghost use Rattle.raidtool.specs.Tool.{ComesFirst, IsAsked, IsBlamedIn, IsCutOff, IsDoneIn, IsEndOf, IsEndOfLine};
 ghost use Rattle.raidtool.specs.Tool.{IsFirst, IsMemoryFault, IsMisshapen, IsPartWritten, IsRun, PassesNone, IsServed};
 ghost use Rattle.raidtool.specs.Tool.{IsServing, IsStopOf, IsWritten, WasRefused, WasStopped, bad_id_line};
-ghost use Rattle.raidtool.specs.Tool.{checked_status, folder_text, id_text};
+ghost use Rattle.raidtool.specs.Tool.{checked_status, folder_text};
 ghost use Rattle.raidtool.specs.Tool.{HasHealth, HealthOf, IsChecked, WasIncomplete, WasUnassembled};
 ghost use Rattle.set_commands.specs.Healths.{InspectsHealth};
 ghost use Rattle.raidtool.specs.Done.{OfFiles};
@@ -39,8 +40,8 @@ use layout_map::Geometry;
 use report::replies::{Answer, write_reply, write_text};
 use sector_model::{Bank, Refusal};
 use set_commands::{
-    Health, Meter, ProgressBank, apply_on, examine_on, headline_of_the_program, law_of_invocations,
-    most_rows, rebuild_on, serve_fresh, serve_on, tell_on,
+    Health, Meter, apply_on, examine_on, headline_of_the_program, law_of_invocations,
+    rebuild_with_progress, scrub_with_progress, serve_fresh, serve_on, tell_on,
 };
 use std::alloc::Global;
 use std::fs::OpenFile;
@@ -102,7 +103,7 @@ where
         ⟦<Locked<S::File> as Growing>⟧.is_safe (D.inspects disk.now)
         (λ folder. D.is_safe disk.now folder ⊎ D.is_never disk.now folder) line }
 
-    // 1: it was asked for, or memory ran out, and the refusal was told, or the fault of a device file.
+    // 1: it was asked for, or memory ran out, and a refusal that has its cause was told, or the fault of a device file.
     ensures refused { result ≡ 1 → WasRefused (IsEndOf (texts words.now))
         (λ text. IsToldAfter E.contents text err.old err.new) ((reader.new ≡ reader.old) × (out.new ≡ out.old))
         ⊎ WasStopped (texts words.now) (IsBlamedIn (D.opens disk.now) (D.creates disk.now)
@@ -185,8 +186,7 @@ where
         (streams (R.remaining reader.new) (W.contents out.new))) }
     ensures read { IsRun line.entry → R.remaining reader.old ≢ None → OnOk result (R.remaining reader.new ≡ Some []) }
     ensures stopped { IfErr result (IsStopOf line.entry) }
-    ensures cause { IfErr result (λ fault. (refusal : Refusal) → fault ≡ FolderFault.Refused refusal
-        → IsCaused line.entry refusal) }
+    ensures cause { IfErr result (IsCausedBy (HasCause line.entry)) }
     ensures named { IfErr result (IsBlamedIn (D.opens disk.now) (D.creates disk.now)
         ⟦<Locked<S::File> as Growing>⟧.has_failed (D.inspects disk.now) line.entry) }
     ensures alone { IfErr result (λ fault. IsFirst fault → (reader.new ≡ reader.old) × (out.new ≡ out.old)) }
@@ -273,6 +273,7 @@ fn examine_folder<D: InspectFiles, W: Write>(
     ensures inspected { OnOk result (WereOpened (D.inspects disk.now) folder.now) }
     ensures examined { OnOk result (IsExamined id json (W.contents out.old) (W.contents out.new)) }
     ensures stopped { IfErr result (IsServeFault IsExamineEnd) }
+    ensures cause { IfErr result (IsCausedBy (IsCauseOfExamine id json)) }
     ensures named { IfErr result (IsInspectionBlamed (D.inspects disk.now) folder.now) }
     ensures unwritten { IfErr result (λ fault. fault ≢ FolderFault.Refused Refusal.WriteFault → out.new ≡ out.old) }
     ensures cut { IfErr result (λ fault. fault ≡ FolderFault.Refused Refusal.WriteFault
@@ -310,8 +311,7 @@ where
         (streams (R.remaining reader.new) (W.contents out.new))) }
     ensures read { IsRun line.entry → R.remaining reader.old ≢ None → OnOk result (R.remaining reader.new ≡ Some []) }
     ensures stopped { IfErr result (IsStopOf line.entry) }
-    ensures cause { IfErr result (λ fault. (refusal : Refusal) → fault ≡ FolderFault.Refused refusal
-        → IsCaused line.entry refusal) }
+    ensures cause { IfErr result (IsCausedBy (HasCause line.entry)) }
     ensures named { IfErr result (IsBlamed (D.opens disk.now) (D.creates disk.now)
         ⟦<Locked<F> as Growing>⟧.has_failed (folder_text line.entry)) }
     ensures alone { IfErr result (λ fault. IsFirst fault → (reader.new ≡ reader.old) × (out.new ≡ out.old)) }
@@ -374,13 +374,9 @@ where
             apply_on(rt.alloc(), bank, entry, id, &Event::Fail { slot }, out)
         }
         Invocation::Rebuild { id, steps, .. } => {
-            let bank = ProgressBank::of_set(bank, rt, id, most_rows(steps));
-            rebuild_on(bank, entry, id, steps, out)
+            rebuild_with_progress(bank, rt, entry, id, steps, out)
         }
-        Invocation::Scrub { id, .. } => {
-            let bank = ProgressBank::of_set(bank, rt, id, u64::MAX);
-            apply_on(rt.alloc(), bank, entry, id, &Event::Scrub, out)
-        }
+        Invocation::Scrub { id, .. } => scrub_with_progress(rt.alloc(), bank, rt, entry, id, out),
         Invocation::Upgrade { id, .. } => {
             apply_on(rt.alloc(), bank, entry, id, &Event::Upgrade, out)
         }

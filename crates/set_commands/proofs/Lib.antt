@@ -9,3 +9,4 @@ pub mod ScriptLaws
 pub mod Scripts
 pub mod Served
 pub mod ServedSet
+pub mod Shown

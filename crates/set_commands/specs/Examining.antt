@@ -1,8 +1,10 @@
 -- What inspecting sets on a bank of devices comes to.
-use Rattle.std.specs.Prelude.{◌≡◌, ◌≢◌, ◌⊎◌, ℕ, zero, suc, Bool, if◌then◌else◌, List, [], ◌∷◌, ◌++◌, Option, Some, None, Ok}
+use Rattle.std.specs.Prelude.{◌≡◌, ◌≢◌, ◌⊎◌, ◌≤◌, ℕ, zero, suc, Bool, if◌then◌else◌, List, [], ◌∷◌, ◌++◌, Option, Some, None, Ok}
 use Rattle.std.specs.Io.KnownBytes.{Appends}
 use Rattle.sector_model.specs.declared.refusal.Refusal.{Refusal}
 use Rattle.sector_model.specs.declared.refusal.Refusal.TheVariants.{Memory, NoSet, Worn, WriteFault}
+use Rattle.sector_model.specs.declared.calls.TheConstants.{GREATEST_COUNT}
+use Rattle.sector_model.specs.Bank.{IsLater, Panel}
 use Rattle.serde_json.specs.Written.{compact_text}
 use Rattle.recovery.specs.declared.examination.Examined.{Examined}
 use Rattle.recovery.specs.Making.{BankView}
@@ -75,6 +77,18 @@ pub record ExaminesPartOn (honest : Type 0) (id : Option (List ℕ)) (json : Boo
   pub inspections : Inspects honest id json bank text
   pub some : text ≢ []
   pub part : AppendsPart was is text
+
+-- the count of device calls came to 2^62 on a bank
+pub record IsWornOn (bank : BankView) : Type 0 where
+  pub after : Panel
+  pub later : IsLater bank.panel after
+  pub worn : GREATEST_COUNT ≤ after.calls
+
+-- why inspecting on a bank was refused, where memory did not run out: nothing was found that could be told, or no further call could be counted
+abbrev pub RefusesInspecting : (honest : Type 0) (id : Option (List ℕ)) (json : Bool) (bank : BankView) → Refusal → Type 0
+RefusesInspecting honest id json bank NoSet = Inspects honest id json bank []
+RefusesInspecting honest id json bank Worn = IsWornOn bank
+RefusesInspecting honest id json bank refusal = ⊥
 
 -- what an inspection can be refused with
 abbrev pub IsInspectionEnd : Refusal → Type 0

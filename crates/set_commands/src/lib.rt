@@ -12,7 +12,8 @@ pub use progress::{Left, Meter, ProgressBank, in_words, percent, time_left};
 pub use script::run_script;
 pub use serving::fresh::serve_fresh;
 pub use serving::{
-    Health, apply_on, examine_on, most_rows, open_on, rebuild_on, serve_on, tell_on,
+    Health, apply_on, examine_on, open_on, rebuild_on, rebuild_with_progress, scrub_with_progress,
+    serve_on, tell_on,
 };
 
 #[cfg(test)]

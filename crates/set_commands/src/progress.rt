@@ -1,6 +1,6 @@
 //! How far a long command is, for whoever watches.
-ghost use Rattle.std.specs.Prelude.{◌≡◌, ◌↔◌, ◌≤◌, IfSome, IsNone};
-ghost use Rattle.set_commands.specs.Progress.{left_of, percent_of, time_left_of};
+ghost use Rattle.std.specs.Prelude.{◌≡◌, ◌↔◌, ◌≤◌, ℕ, IfSome, IsNone, Option};
+ghost use Rattle.set_commands.specs.Progress.{IsShown, left_of, percent_of, time_left_of};
 
 mod progress_bank;
 mod terminal;
@@ -26,13 +26,18 @@ pub enum Left {
 
 /// A runtime that can show how far a command is.
 pub trait Meter {
+    /// What looking at the clock gave.
+    ghost reads: { Self → Option ℕ → Type 0 };
+
     /// The milliseconds since an arbitrary start, which stays the same. `None` where nobody watches, or no clock tells
     /// the time: nothing is shown then.
-    fn millis(&self) -> Option<u64>;
+    fn millis(&self) -> Option<u64>
+        ensures { reads self.now result };
 
     /// Shows that so many percent are done, 0 to 100, and about how much time is left, where that can be told, in place
-    /// of what was shown before.
-    fn show(&self, percent: u8, left: Option<Left>);
+    /// of what was shown before. The time is that of two looks at this very clock.
+    fn show(&self, percent: u8, left: Option<Left>)
+        requires { ∥ IsShown (reads self.now) percent left ∥₁ };
 
     /// Takes away what was shown.
     fn clear(&self);

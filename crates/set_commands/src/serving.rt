@@ -19,11 +19,11 @@ mod health;
 mod rebuilding;
 
 use crate::script::run_script;
-pub use applying::apply_on;
+pub use applying::{apply_on, scrub_with_progress};
 pub use examining::examine_on;
 pub use health::Health;
 use health::assembled;
-pub use rebuilding::{most_rows, rebuild_on};
+pub use rebuilding::{most_rows, rebuild_on, rebuild_with_progress};
 use recovery::assemble;
 use report::replies::write_text;
 use report::{table_text, to_json};

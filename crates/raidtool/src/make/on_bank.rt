@@ -2,8 +2,8 @@
 ghost use Rattle.std.specs.Prelude.{IfErr, IfOk, OnOk};
 ghost use Rattle.recovery.specs.Making.{Makes};
 ghost use Rattle.recovery.specs.SeenBank.{bank_seen, opened_as};
-ghost use Rattle.raidtool.specs.Done.{MakesOn};
-ghost use Rattle.raidtool.specs.OtherSets.{MakesAlone};
+ghost use Rattle.raidtool.specs.Done.{MakesOn, RefusesMake};
+ghost use Rattle.raidtool.specs.OtherSets.{MakesAlone, StopsMaking};
 ghost use Rattle.raidtool.specs.Stops.{IsMakingFault, IsMakingRefusal};
 
 use super::other_set::refuse_other;
@@ -27,6 +27,7 @@ pub fn make_on<B: Bank + Drop>(
 ) -> Result<Array<B>, Refusal>
     ensures made { IfOk result (λ array. Makes (B.honest bank) id geometry (bank_seen B.Bank bank) (opened_as array)) }
     ensures err { IfErr result IsMakingRefusal }
+    ensures cause { IfErr result (RefusesMake (B.honest bank) id geometry (bank_seen B.Bank bank)) }
 {
     match make(bank, entry, id, geometry) {
         Ok(array) => Ok(array),
@@ -44,6 +45,7 @@ pub fn make_with_progress<B: Bank + Drop, M: Meter>(
 ) -> Result<(), Refusal>
     ensures made { OnOk result (MakesOn (B.honest bank) id geometry (bank_seen B.Bank bank)) }
     ensures err { IfErr result IsMakingRefusal }
+    ensures cause { IfErr result (RefusesMake (B.honest bank) id geometry (bank_seen B.Bank bank)) }
 {
     make_on(
         ProgressBank::over(bank, meter, &geometry),
@@ -66,6 +68,7 @@ pub(super) fn make_alone<B: Bank + Drop, M: Meter>(
 ) -> Result<(), FolderFault>
     ensures made { OnOk result (MakesAlone (B.honest bank) id geometry (bank_seen B.Bank bank)) }
     ensures fault { IfErr result (IsMakingFault geometry.members (B.panel bank).devices) }
+    ensures cause { IfErr result (StopsMaking (B.honest bank) id geometry (bank_seen B.Bank bank)) }
 {
     let mut bank = bank;
     refuse_other(&mut bank, &id, geometry.members + 2)?;

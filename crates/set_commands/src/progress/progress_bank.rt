@@ -1,8 +1,11 @@
 //! A bank of devices that shows how far a command over it is.
 ghost use Rattle.std.specs.Prelude.{◌≡◌, ◌≢◌, ◌≤◌, ◌<◌, ◌+◌, ◌*◌, ◌-◌, ◌^◌, IsNone, IsSomeAnd, None, Some, min};
+ghost use Rattle.std.specs.Option.{option_map};
 ghost use Rattle.layout_map.specs.Placement.{rows_of};
+ghost use Rattle.set_commands.specs.Progress.{left_of, most_rows_of};
 
-use super::{Meter, in_words, percent, time_left};
+use super::{Left, Meter, in_words, percent, time_left};
+use crate::serving::most_rows;
 use layout_map::{FIRST_ROW, Geometry, SUPERBLOCK_PLACES};
 use sector_model::{Bank, Down, Sector};
 use superblock::{Table, decode};
@@ -46,6 +49,7 @@ pub struct ProgressBank<'a, B: Bank + Drop, M: Meter> {
     // When it began, where somebody watches, and when it was shown last.
     began: Option<u64>,
     shown: Option<u64>,
+    ghost began_is: { ∥ M.reads meter.now began ∥₁ },
 }
 
 impl<'a, B: Bank + Drop, M: Meter> ProgressBank<'a, B, M> {
@@ -76,10 +80,38 @@ impl<'a, B: Bank + Drop, M: Meter> ProgressBank<'a, B, M> {
         }
     }
 
-    /// Watches a command that assembles the set of this id and goes over its members' rows once, from the position that
-    /// the set is rebuilt to and so many at most. The shape of the set is told by its superblocks, as the command reads
-    /// them.
-    pub fn of_set(bank: B, meter: &'a M, id: [u8; 16], most_rows: u64) -> ProgressBank<'a, B, M>
+    /// Watches a command that assembles the set of this id and looks at all rows of its members once.
+    pub(crate) fn of_scrub(bank: B, meter: &'a M, id: [u8; 16]) -> ProgressBank<'a, B, M>
+        ensures bank { result.bank ≡ bank }
+        ensures sought { IsSomeAnd result.sought
+            (λ sought. (sought.id ≡ id) × (sought.most_rows ≡ 2 ^ 64 - 1) × (sought.generation ≡ 0)) }
+        ensures uncounted { (result.work.members ≡ 0) × (result.work.done ≡ 0) × (result.work.total ≡ 0) }
+        ensures unshown { IsNone result.shown }
+    {
+        ProgressBank::of_set(bank, meter, id, u64::MAX)
+    }
+
+    /// Watches a command that assembles the set of this id and makes so many steps of its rebuild, or as many as it
+    /// takes.
+    pub(crate) fn of_rebuild(
+        bank: B,
+        meter: &'a M,
+        id: [u8; 16],
+        steps: Option<u64>,
+    ) -> ProgressBank<'a, B, M>
+        ensures bank { result.bank ≡ bank }
+        ensures sought { IsSomeAnd result.sought
+            (λ sought. (sought.id ≡ id) × (sought.most_rows ≡ most_rows_of steps) × (sought.generation ≡ 0)) }
+        ensures uncounted { (result.work.members ≡ 0) × (result.work.done ≡ 0) × (result.work.total ≡ 0) }
+        ensures unshown { IsNone result.shown }
+    {
+        ProgressBank::of_set(bank, meter, id, most_rows(steps))
+    }
+
+    // Watches a command that assembles the set of this id and goes over its members' rows once, from the position that
+    // the set is rebuilt to and so many at most. The shape of the set is told by its superblocks, as the command reads
+    // them.
+    fn of_set(bank: B, meter: &'a M, id: [u8; 16], most_rows: u64) -> ProgressBank<'a, B, M>
         ensures bank { result.bank ≡ bank }
         ensures sought { IsSomeAnd result.sought
             (λ sought. (sought.id ≡ id) × (sought.most_rows ≡ most_rows) × (sought.generation ≡ 0)) }
@@ -144,7 +176,7 @@ impl<'a, B: Bank + Drop, M: Meter> ProgressBank<'a, B, M> {
         }
         self.shown = Some(now);
         let left = time_left(now.saturating_sub(began), done, total);
-        self.meter.show(percent(done, total), left.map(in_words));
+        self.meter.show(percent(done, total), told(left));
     }
 
     // Learns the shape of the set from the newest superblock of it that was read.
@@ -167,6 +199,16 @@ impl<'a, B: Bank + Drop, M: Meter> ProgressBank<'a, B, M> {
         });
         self.work.members = table.geometry.members;
         self.work.total = calls_of(table.geometry.members, rows_left(table, sought.most_rows));
+    }
+}
+
+// A time that is left, in the unit that suits it, where there is one.
+fn told(left: Option<u64>) -> Option<Left>
+    ensures { result ≡ option_map left_of left }
+{
+    match left {
+        Some(millis) => Some(in_words(millis)),
+        None => None,
     }
 }
 

@@ -7,6 +7,10 @@ use std::rt::Clock;
 /// It is shown on the line of standard error where that is a terminal, and nowhere else. A fault of standard error has
 /// no place to be told.
 impl Meter for HostRuntime {
+    ghost use Rattle.std.specs.Prelude.{⊤};
+
+    ghost reads = { λ _ _. ⊤ };
+
     fn millis(&self) -> Option<u64> {
         if !self.stderr().is_terminal() {
             return None;

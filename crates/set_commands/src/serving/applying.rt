@@ -4,11 +4,12 @@ ghost use Rattle.std.specs.Io.KnownBytes.{Appends};
 ghost use Rattle.sector_model.specs.declared.refusal.Refusal.{Refusal};
 ghost use Rattle.recovery.specs.SeenBank.{bank_seen};
 ghost use Rattle.volume_table.specs.Events.{event_of, reply_of};
-ghost use Rattle.volume_table.specs.VolumeStep.{Refused};
+ghost use Rattle.volume_table.specs.VolumeStep.{OnSet, Refused, Scrub};
 ghost use Rattle.report.specs.Written.{AppendsPart};
 ghost use Rattle.set_commands.specs.Serving.{AppliesOn, IsEventEnd, IsNotOpened, RefusesOn, event_text};
 
 use super::open_on;
+use crate::{Meter, ProgressBank};
 use report::replies::{Answer, write_progress, write_reply, write_scrubbed};
 use sector_model::{Bank, Refusal};
 use std::alloc::Global;
@@ -45,6 +46,31 @@ pub fn apply_on<W: Write, B: Bank + Drop>(
     let mut store = open_on(bank, entry, id)?;
     let reply = done(store.apply(alloc, event))?;
     write_event(out, &reply, store.array.table.geometry.rows())
+}
+
+/// Looks at the rows of the members of the set of this id, as `apply_on` does, and shows on a meter how far that is: of
+/// all of them, since it is this call that has the bank watched.
+pub fn scrub_with_progress<W: Write, B: Bank + Drop, M: Meter>(
+    alloc: Global,
+    bank: B,
+    meter: &M,
+    entry: Entry,
+    id: [u8; 16],
+    out: &mut W,
+) -> Result<(), Refusal>
+    ensures applied { OnOk result (AppliesOn (B.honest bank) id (OnSet Scrub) (bank_seen B.Bank bank)
+        (Appends (W.contents out.old) (W.contents out.new))) }
+    ensures end { IfErr result (IsEventEnd (OnSet Scrub)) }
+    ensures unwritten { IfErr result (λ refusal. refusal ≢ Refusal.WriteFault → out.new ≡ out.old) }
+    ensures refused { IfErr result (λ refusal. refusal ≢ Refusal.WriteFault
+        → IsNotOpened (B.honest bank) id (bank_seen B.Bank bank) refusal
+        ⊎ RefusesOn (B.honest bank) id (OnSet Scrub) (bank_seen B.Bank bank) refusal) }
+    ensures cut { IfErr result (λ refusal. refusal ≡ Refusal.WriteFault
+        → AppliesOn (B.honest bank) id (OnSet Scrub) (bank_seen B.Bank bank)
+        (AppendsPart (W.contents out.old) (W.contents out.new))) }
+{
+    let watched = ProgressBank::of_scrub(bank, meter, id);
+    apply_on(alloc, watched, entry, id, &Event::Scrub, out)
 }
 
 // A reply that is no refusal.

@@ -1,10 +1,11 @@
 //! Sets are inspected.
-ghost use Rattle.std.specs.Prelude.{◌≡◌, ◌≢◌, ◌≤◌, ◌↔◌, IfErr, IfOk, OnOk, [], string_bytes};
+ghost use Rattle.std.specs.Prelude.{◌≡◌, ◌≢◌, ◌≤◌, ◌↔◌, IfErr, IfOk, OnOk, string_bytes};
 ghost use Rattle.sector_model.specs.declared.refusal.Refusal.{Refusal};
 ghost use Rattle.recovery.specs.SeenBank.{bank_seen};
 ghost use Rattle.set_commands.specs.Healths.{HealthAbove, HealthAt, InspectsHealth};
 ghost use Rattle.set_commands.specs.Examining.{ExaminesOn, ExaminesPartOn, IsExamineEnd, IsInspectionEnd};
-ghost use Rattle.set_commands.specs.Examining.{IsInspectionText, Inspects, InspectsAbove, InspectsOne, Puts};
+ghost use Rattle.set_commands.specs.Examining.{IsInspectionText, IsWornOn, Inspects, InspectsAbove, InspectsOne, Puts};
+ghost use Rattle.set_commands.specs.Examining.{RefusesInspecting};
 
 use super::health::{Health, foreseen, worse};
 use recovery::{Examined, examine, id_above};
@@ -35,8 +36,8 @@ pub fn examine_on<W: Write, B: Bank + Drop>(
     ensures examined { OnOk result (ExaminesOn (B.honest bank) id json (bank_seen B.Bank bank) (W.contents out.old)
         (W.contents out.new)) }
     ensures end { IfErr result IsExamineEnd }
-    ensures none { IfErr result (λ refusal. refusal ≡ Refusal.NoSet
-        → Inspects (B.honest bank) id json (bank_seen B.Bank bank) []) }
+    ensures refused { IfErr result (λ refusal. refusal ≢ Refusal.Memory → refusal ≢ Refusal.WriteFault
+        → RefusesInspecting (B.honest bank) id json (bank_seen B.Bank bank) refusal) }
     ensures unwritten { IfErr result (λ refusal. refusal ≢ Refusal.WriteFault → out.new ≡ out.old) }
     ensures cut { IfErr result (λ refusal. refusal ≡ Refusal.WriteFault
         → ExaminesPartOn (B.honest bank) id json (bank_seen B.Bank bank) (W.contents out.old) (W.contents out.new)) }
@@ -62,6 +63,7 @@ fn inspections<B: Bank>(
     ensures inspections { IfOk result (λ text. Inspects (B.honest bank.old) id json (bank_seen B.Bank bank.old)
         (string_bytes text)) }
     ensures err { IfErr result IsInspectionEnd }
+    ensures cause { IfErr result (λ refusal. refusal ≢ Refusal.Memory → IsWornOn (bank_seen B.Bank bank.old)) }
 {
     let mut text = String::new(alloc);
     match id {
@@ -87,6 +89,7 @@ fn inspect_above<B: Bank>(
     ensures puts { OnOk result (Puts (string_bytes text.old) (string_bytes text.new)
         (InspectsAbove (B.honest bank.old) json most above (bank_seen B.Bank bank.old) (bank_seen B.Bank bank.new))) }
     ensures err { IfErr result IsInspectionEnd }
+    ensures cause { IfErr result (λ refusal. refusal ≢ Refusal.Memory → IsWornOn (bank_seen B.Bank bank.old)) }
 {
     if most == 0 {
         return Ok(());
@@ -113,6 +116,7 @@ fn inspect_one<B: Bank>(
     ensures puts { OnOk result (Puts (string_bytes text.old) (string_bytes text.new)
         (InspectsOne (B.honest bank.old) id.now json (bank_seen B.Bank bank.old) (bank_seen B.Bank bank.new))) }
     ensures err { IfErr result IsInspectionEnd }
+    ensures cause { IfErr result (λ refusal. refusal ≢ Refusal.Memory → IsWornOn (bank_seen B.Bank bank.old)) }
 {
     match examine(bank, id)? {
         Some(examined) => {

@@ -12,6 +12,7 @@ ghost use Rattle.set_commands.specs.Serving.{IsNotOpened, IsRebuildEnd, Rebuilds
 ghost use Rattle.set_commands.specs.Steps.{Rebuilds};
 
 use super::open_on;
+use crate::{Meter, ProgressBank};
 use rebuild::Progress;
 use report::replies::write_progress;
 use sector_model::{Bank, Refusal};
@@ -47,6 +48,30 @@ pub fn rebuild_on<W: Write, B: Bank + Drop>(
     let mut store = open_on(bank, entry, id)?;
     let progress = rebuild_rows(&mut store, steps)?;
     write_progress(out, &progress, store.array.table.geometry.rows())
+}
+
+/// Makes steps of the rebuild of the set of this id, as `rebuild_on` does, and shows on a meter how far that is: of the
+/// rows of these very steps, since it is this call that has the bank watched.
+pub fn rebuild_with_progress<W: Write, B: Bank + Drop, M: Meter>(
+    bank: B,
+    meter: &M,
+    entry: Entry,
+    id: [u8; 16],
+    steps: Option<u64>,
+    out: &mut W,
+) -> Result<(), Refusal>
+    ensures rebuilt { OnOk result (RebuildsOn (B.honest bank) id steps (bank_seen B.Bank bank)
+        (Appends (W.contents out.old) (W.contents out.new))) }
+    ensures end { IfErr result IsRebuildEnd }
+    ensures unwritten { IfErr result (λ refusal. refusal ≢ Refusal.WriteFault → out.new ≡ out.old) }
+    ensures refused { IfErr result (λ refusal. refusal ≢ Refusal.WriteFault
+        → IsNotOpened (B.honest bank) id (bank_seen B.Bank bank) refusal
+        ⊎ StopsRebuildingOn (B.honest bank) id steps (bank_seen B.Bank bank) refusal) }
+    ensures cut { IfErr result (λ refusal. refusal ≡ Refusal.WriteFault → RebuildsOn (B.honest bank) id steps
+        (bank_seen B.Bank bank) (AppendsPart (W.contents out.old) (W.contents out.new))) }
+{
+    let watched = ProgressBank::of_rebuild(bank, meter, id, steps);
+    rebuild_on(watched, entry, id, steps, out)
 }
 
 // Makes so many steps, but one at least, and none once the rebuild is complete.

@@ -48,6 +48,10 @@ impl Screen {
 }
 
 impl Meter for Screen {
+    ghost use Rattle.std.specs.Prelude.{⊤};
+
+    ghost reads = { λ _ _. ⊤ };
+
     fn millis(&self) -> Option<u64> {
         let tick = self.tick?;
         self.millis.set(self.millis.get().saturating_add(tick));
@@ -129,7 +133,7 @@ fn a_scrub(rt: HostRuntime) {
     let screen = Screen::new(Some(100));
     let store = fresh_store(&rt, SET_A);
     let (bank, entry) = bank_of(&rt, image_now(&rt, &store));
-    let bank = ProgressBank::of_set(bank, &screen, ID, u64::MAX);
+    let bank = ProgressBank::of_scrub(bank, &screen, ID);
     {
         let mut store = open_on(bank, entry, ID).expect(&rt, "a store");
         let report = store.scrub().expect(&rt, "a complete set");
@@ -147,7 +151,7 @@ fn steps_of_a_rebuild(rt: HostRuntime) {
     store.replace(2).expect(&rt, "a slot replaced");
     store.rebuild_step(64).expect(&rt, "a step");
     let (bank, entry) = bank_of(&rt, image_now(&rt, &store));
-    let bank = ProgressBank::of_set(bank, &screen, ID, 128);
+    let bank = ProgressBank::of_rebuild(bank, &screen, ID, Some(2));
     {
         let mut store = open_on(bank, entry, ID).expect(&rt, "a store");
         store.rebuild_step(64).expect(&rt, "a step");
@@ -162,7 +166,7 @@ fn a_set_of_another_id(rt: HostRuntime) {
     let screen = Screen::new(Some(100));
     let store = fresh_store(&rt, SET_A);
     let (bank, entry) = bank_of(&rt, image_now(&rt, &store));
-    let bank = ProgressBank::of_set(bank, &screen, [0; 16], u64::MAX);
+    let bank = ProgressBank::of_scrub(bank, &screen, [0; 16]);
     {
         let mut store = open_on(bank, entry, ID).expect(&rt, "a store");
         same(&rt, store.scrub().is_ok(), true);
@@ -214,7 +218,7 @@ fn is_alike(rt: &(impl Abort + AllocGlobal), fails_at: u64) {
     let (plain, plain_text) = replies(rt, store);
     let screen = Screen::new(Some(100));
     let (bank, entry) = failing_bank(rt, fails_at);
-    let bank = ProgressBank::of_set(bank, &screen, ID, u64::MAX);
+    let bank = ProgressBank::of_scrub(bank, &screen, ID);
     let store = open_on(bank, entry, ID).expect(rt, "a store");
     let (progress_bank, text) = replies(rt, store);
     same(rt, text.as_slice(), plain_text.as_slice());

@@ -1,6 +1,9 @@
 use Rattle.std.proofs.Common.{◌<◌, ◌≤◌, ◌+◌, arith}
 use Rattle.std.proofs.lemmas.Result.{err_from_is_err_and}
 use Rattle.device_files.specs.DeviceFiles.{slot_path}
+use Rattle.device_files.specs.Faults.{IsBarredIn, IsOpenFault, IsUnsyncedIn}
+use Rattle.sector_model.specs.declared.refusal.Refusal.TheVariants.{Memory}
+use Rattle.raidtool.proofs.Causes.{by_memory, by_refusal}
 use Rattle.raidtool.proofs.Taken.{at_any_rate, barred_blamed, barred_passing, barred_unmade, none_barred, unsynced_blamed, were_taken}
 use Rattle.raidtool.proofs.make.make_in.Goals as goal
 
@@ -31,3 +34,26 @@ returns-in_err-refuse_barred-clause-named g c =
     rw (from.1, from.2) (barred_blamed _ _ _ _ _ c.in_ok-files.files.files.items c.in_ok-files.files.unsynced c.in_ok-files.files.barred
     (g.D.SlotFiles.opens c.args.disk.now) (g.D.SlotFiles.creates c.args.disk.now) c.args.folder.now _ c.in_ok-files.ensures.safe
     (barred_passing c.in_ok-files.files.barred _ c.in_err-refuse_barred.ensures.fault))
+
+-- ---- why it was refused
+
+pub returns-in_err-files-clause-cause : goal.returns-in_err-files-clause-cause
+returns-in_err-files-clause-cause g c =
+    let from = err_from_is_err_and c.from_residual-in_err-files.result c.from_residual-in_err-files.ensures.1 in
+    rw (from.1, from.2) (by_memory IsOpenFault _ _ (λ refusal memory. memory) c.in_err-files.ensures.fault)
+
+pub returns-in_err-refuse_barred-clause-cause : goal.returns-in_err-refuse_barred-clause-cause
+returns-in_err-refuse_barred-clause-cause g c =
+    let from = err_from_is_err_and c.from_residual-in_err-refuse_barred.result c.from_residual-in_err-refuse_barred.ensures.1 in
+    rw (from.1, from.2) (by_memory (IsBarredIn c.in_ok-files.files.barred) _ _ (λ refusal never. absurd never) c.in_err-refuse_barred.ensures.fault)
+
+pub returns-in_err-refuse_unsynced-clause-cause : goal.returns-in_err-refuse_unsynced-clause-cause
+returns-in_err-refuse_unsynced-clause-cause g c =
+    let from = err_from_is_err_and c.from_residual-in_err-refuse_unsynced.result c.from_residual-in_err-refuse_unsynced.ensures.1 in
+    rw (from.1, from.2) (by_memory (IsUnsyncedIn c.in_ok-files.files.unsynced 0 (c.args.geometry.members + 2)) _ _ (λ refusal never. absurd never)
+    c.in_err-refuse_unsynced.ensures.fault)
+
+pub returns-in_err-paths-clause-cause : goal.returns-in_err-paths-clause-cause
+returns-in_err-paths-clause-cause g c =
+    let from = err_from_is_err_and c.from_residual.result c.from_residual.ensures.1 in
+    rw (from.1, from.2) (by_refusal _ Memory (λ other. absurd (other tt)))

@@ -1,7 +1,9 @@
 use Rattle.std.proofs.Common.{◌≤◌, ◌<◌, ap, arith, inl, inr, subst}
-use Rattle.std.proofs.lemmas.Result.{err_from_is_err_and, on_ok_weaker}
+use Rattle.std.proofs.lemmas.Result.{IfErr-weaker, err_from_is_err_and, on_ok_weaker}
 use Rattle.device_files.specs.DeviceFiles.{file_in}
+use Rattle.device_files.specs.Faults.{IsFileFaultOf, IsSyncFault}
 use Rattle.raidtool.specs.Done.{IsNeedIn}
+use Rattle.raidtool.proofs.Causes.{by_memory, by_refusal}
 use Rattle.raidtool.proofs.Renewed.{is_none_of, renewed_blamed}
 use Rattle.raidtool.proofs.Taken.{at_any_rate}
 use Rattle.raidtool.proofs.replacing.prepare_file.Goals.{in-Some+in_ok-renew_slot, in_default}
@@ -36,3 +38,19 @@ returns-clause-others g c = elim c.match-need.branch [
   | in-Some+in_ok-renew_slot w ↦ rw w.files-is w.in_ok-renew_slot.ensures.made.others
   | in_default w ↦ λ other apart. ap (λ files. file_in files.files.items other) w.files-is
 ]
+
+-- ---- why it was refused
+
+pub returns-in_err-need-clause-cause : goal.returns-in_err-need-clause-cause
+returns-in_err-need-clause-cause g c =
+    let from = err_from_is_err_and c.from_residual-in_err-need.result c.from_residual-in_err-need.ensures.1 in
+    rw (from.1, from.2) (by_refusal _ _ (λ other. (_, _, c.in_err-need.ensures)))
+
+pub returns-in_err-renew_slot-clause-cause : goal.returns-in_err-renew_slot-clause-cause
+returns-in_err-renew_slot-clause-cause g c =
+    let from = err_from_is_err_and c.from_residual-in_err-renew_slot.result c.from_residual-in_err-renew_slot.ensures.1 in
+    rw (from.1, from.2) (by_memory (IsFileFaultOf c.args.slot) _ _ (λ refusal memory. memory) c.in_err-renew_slot.ensures.fault)
+
+pub returns-clause-cause : goal.returns-clause-cause
+returns-clause-cause g c = IfErr-weaker c.sync_folders.result _ _ (λ fault is. by_memory IsSyncFault _ fault (λ refusal memory. memory) is)
+    c.sync_folders.ensures.fault

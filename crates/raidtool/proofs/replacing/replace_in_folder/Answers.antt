@@ -1,13 +1,14 @@
-use Rattle.std.proofs.Common.{◌≡◌, ◌≢◌, ◌<◌, ◌≤◌, ◌+◌, List, Option, arith, inl, inr, refl, subst}
+use Rattle.std.proofs.Common.{◌≡◌, ◌≢◌, ◌<◌, ◌≤◌, ◌+◌, List, Option, arith, inl, inr, refl, rules, subst}
 use Rattle.std.proofs.lemmas.Bool.{false≢true}
 use Rattle.std.proofs.lemmas.Result.{err_from_is_err_and}
-use Rattle.sector_model.specs.declared.refusal.Refusal.TheVariants.{WriteFault}
+use Rattle.sector_model.specs.declared.refusal.Refusal.TheVariants.{Memory, WriteFault}
 use Rattle.device_files.specs.declared.FolderFault.{FolderFault}
 use Rattle.device_files.specs.declared.FolderFault.TheVariants.{Refused}
 use Rattle.device_files.specs.declared.Reason.{Reason}
 use Rattle.device_files.specs.DeviceFiles.{IsMissingIn, slot_path}
-use Rattle.device_files.specs.Faults.{IsBarredIn, IsPassingFault, IsUnsyncedIn}
+use Rattle.device_files.specs.Faults.{IsBarredIn, IsOpenFault, IsPassingFault, IsUnsyncedIn}
 use Rattle.set_commands.specs.Serving.{IsReplaceEnd}
+use Rattle.raidtool.proofs.Causes.{by_memory, by_refusal, not_memory}
 use Rattle.raidtool.proofs.Taken.{at_any_rate, barred_blamed, barred_passing, passing_slot, unsynced_blamed, unsynced_slot, were_taken}
 use Rattle.raidtool.proofs.replacing.replace_in_folder.Goals as goal
 
@@ -29,6 +30,8 @@ returns-in_err-refuse_unsynced-clause-replaces g c =
           c.in_ok-files.files.files.items c.in_ok-files.files.unsynced c.in_ok-files.files.barred (g.D.SlotFiles.opens c.args.disk.now)
           (g.D.SlotFiles.creates c.args.disk.now) c.args.folder.now
           c.args.slot c.saturating_add-2.result _ c.in_ok-files.ensures.safe c.in_err-refuse_unsynced.ensures.fault;
+      cause = by_memory (IsUnsyncedIn c.in_ok-files.files.unsynced c.args.slot c.saturating_add-2.result) _ _ (λ refusal never. absurd never)
+          c.in_err-refuse_unsynced.ensures.fault;
       unwritten = λ _. refl;
       cut = λ cut. absurd (subst (λ (fault : FolderFault). IsUnsyncedIn c.in_ok-files.files.unsynced c.args.slot c.saturating_add-2.result fault) cut
           c.in_err-refuse_unsynced.ensures.fault);
@@ -61,6 +64,7 @@ returns-in_err-refuse_barred-clause-replaces g c =
       fault = passing_slot c.in_ok-files.files.barred c.args.slot _ barred;
       blamed = barred_blamed _ _ _ _ _ c.in_ok-files.files.files.items c.in_ok-files.files.unsynced c.in_ok-files.files.barred
           (g.D.SlotFiles.opens c.args.disk.now) (g.D.SlotFiles.creates c.args.disk.now) c.args.folder.now _ c.in_ok-files.ensures.safe barred;
+      cause = by_memory (IsBarredIn c.in_ok-files.files.barred) _ _ (λ refusal never. absurd never) c.in_err-refuse_barred.ensures.fault;
       unwritten = λ _. refl;
       cut = λ cut. absurd (subst (λ (fault : FolderFault). IsBarredIn c.in_ok-files.files.barred fault) cut c.in_err-refuse_barred.ensures.fault);
     })
@@ -76,6 +80,7 @@ returns-in_err-pass_over-clause-replaces g c =
       blamed = barred_blamed _ _ _ _ _ c.in_ok-files.files.files.items c.in_ok-files.files.unsynced c.in_ok-files.files.barred
           (g.D.SlotFiles.opens c.args.disk.now) (g.D.SlotFiles.creates c.args.disk.now) c.args.folder.now _ c.in_ok-files.ensures.safe
           c.in_err-pass_over.ensures.fault;
+      cause = λ refusal same other. inr (c.in_err-pass_over.ensures.cause refusal same (not_memory refusal other));
       unwritten = λ _. refl;
       cut = λ cut. absurd (never_written c.in_ok-files.files.barred (subst (λ (fault : FolderFault). IsPassingFault c.in_ok-files.files.barred fault) cut
           c.in_err-pass_over.ensures.fault));
@@ -83,3 +88,31 @@ returns-in_err-pass_over-clause-replaces g c =
 
 pub returns-clause-passed : goal.returns-clause-passed
 returns-clause-passed g c = (c.in_ok-files.files.barred, c.in_ok-pass_over.ensures.told)
+
+pub returns-in_err-files-clause-replaces : goal.returns-in_err-files-clause-replaces
+returns-in_err-files-clause-replaces g c =
+    let from = err_from_is_err_and c.from_residual-in_err-files.result c.from_residual-in_err-files.ensures.1 in
+    record {
+      synced = search rules;
+      replaced = search rules;
+      written = search rules;
+      fault = search rules;
+      blamed = search rules;
+      cause = rw (from.1, from.2) (by_memory IsOpenFault _ _ (λ refusal memory. memory) c.in_err-files.ensures.fault);
+      unwritten = search rules;
+      cut = search rules;
+    }
+
+pub returns-in_err-paths-clause-replaces : goal.returns-in_err-paths-clause-replaces
+returns-in_err-paths-clause-replaces g c =
+    let from = err_from_is_err_and c.from_residual.result c.from_residual.ensures.1 in
+    record {
+      synced = search rules;
+      replaced = search rules;
+      written = search rules;
+      fault = search rules;
+      blamed = search rules;
+      cause = rw (from.1, from.2) (by_refusal _ Memory (λ other. absurd (other tt)));
+      unwritten = search rules;
+      cut = search rules;
+    }

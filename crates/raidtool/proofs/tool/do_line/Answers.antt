@@ -1,7 +1,9 @@
 use Rattle.std.proofs.Common.{◌⊎◌, refl}
-use Rattle.std.proofs.lemmas.Result.{IfErr-weaker}
+use Rattle.std.proofs.lemmas.Bool.{false≢true}
+use Rattle.std.proofs.lemmas.Result.{IfErr-weaker, err_from_is_err_and}
 use Rattle.raidtool.specs.Done.{OfFiles}
 use Rattle.set_commands.specs.Run.{streams}
+use Rattle.raidtool.proofs.Causes.{by_refusal, caused_as, no_sizes, sizes_make}
 use Rattle.raidtool.proofs.InspectionsTold.{inspections_cut}
 use Rattle.raidtool.proofs.DoneLines.{both_done, made_done, no_make, passes_some, replaced_done, served_blamed, served_in}
 use Rattle.raidtool.proofs.tool.do_line.Goals as goal
@@ -64,3 +66,28 @@ returns-in-Examine-clause-cut g c = λ _. IfErr-weaker c.examine_folder.result _
 
 pub returns-in-Examine-clause-does : goal.returns-in-Examine-clause-does
 returns-in-Examine-clause-does g c = rw c.in-Examine.is c.examine_folder.ensures.examined
+
+-- ---- why it was refused
+
+pub returns-in_err-geometry-in-Make-clause-cause : goal.returns-in_err-geometry-in-Make-clause-cause
+returns-in_err-geometry-in-Make-clause-cause g c =
+    let from = err_from_is_err_and c.from_residual.result c.from_residual.ensures.1 in
+    rw (c.in-Make.is, from.1, from.2) (by_refusal _ _ (λ _. no_sizes c.in-Make.id c.in-Make.members c.in-Make.chunk c.in-Make.stripes _
+    c.in_err-geometry-in-Make.ensures.refusal (λ its. false≢true (c.in_err-geometry-in-Make.ensures.within.1 its))))
+
+pub returns-in_ok-geometry-in-Make-clause-cause : goal.returns-in_ok-geometry-in-Make-clause-cause
+returns-in_ok-geometry-in-Make-clause-cause g c =
+    let geometry = c.in_ok-geometry-in-Make in
+    rw c.in-Make.is (IfErr-weaker c.make_set.result _ _ (λ fault cause. caused_as _ _ fault
+    (sizes_make c.in-Make.id c.in-Make.members c.in-Make.chunk c.in-Make.stripes geometry.geometry (record {
+      members_is = geometry.ensures.members;
+      chunk_is = geometry.ensures.chunk;
+      stripes_is = geometry.ensures.stripes;
+      within = geometry.ensures.within.0 refl;
+    })) cause) c.make_set.ensures.cause)
+
+pub returns-in-Replace-clause-cause : goal.returns-in-Replace-clause-cause
+returns-in-Replace-clause-cause g c = rw c.in-Replace.is c.replace_in_folder.ensures.replaces.cause
+
+pub returns-in-Examine-clause-cause : goal.returns-in-Examine-clause-cause
+returns-in-Examine-clause-cause g c = rw c.in-Examine.is c.examine_folder.ensures.cause

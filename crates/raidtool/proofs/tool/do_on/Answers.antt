@@ -1,4 +1,3 @@
-use Rattle.std.proofs.Common.{sym}
 use Rattle.std.proofs.lemmas.Result.{IfErr-weaker}
 use Rattle.set_commands.proofs.Applied.{failed_by, scrubbed_by, upgrade_end, upgraded_by}
 use Rattle.set_commands.proofs.ServedSet.{ok_then}
@@ -19,16 +18,15 @@ returns-in-Fail-clause-cut g c = λ _. IfErr-weaker c.apply_on.result _ _ (λ re
     c.apply_on.ensures.cut
 
 pub returns-in-Rebuild-clause-cut : goal.returns-in-Rebuild-clause-cut
-returns-in-Rebuild-clause-cut g c = λ _. IfErr-weaker c.rebuild_on.result _ _ (λ refusal part cut. rw c.in-Rebuild.is (told_progress _ _ _ _ _ (part cut)))
-    c.rebuild_on.ensures.cut
+returns-in-Rebuild-clause-cut g c = λ _. IfErr-weaker c.rebuild_with_progress.result _ _
+    (λ refusal part cut. rw c.in-Rebuild.is (told_progress _ _ _ _ _ (part cut))) c.rebuild_with_progress.ensures.cut
 
 pub returns-in-Scrub-clause-does : goal.returns-in-Scrub-clause-does
-returns-in-Scrub-clause-does g c = rw (c.in-Scrub.is, sym c.of_set-bank-in-Scrub.ensures.bank)
-    (ok_then _ _ _ (scrubbed_by _ _ _ _) c.apply_on-in-Scrub.ensures.applied)
+returns-in-Scrub-clause-does g c = rw c.in-Scrub.is (ok_then _ _ _ (scrubbed_by _ _ _ _) c.scrub_with_progress.ensures.applied)
 
 pub returns-in-Scrub-clause-cut : goal.returns-in-Scrub-clause-cut
-returns-in-Scrub-clause-cut g c = λ _. IfErr-weaker c.apply_on-in-Scrub.result _ _
-    (λ refusal part cut. rw c.in-Scrub.is (told_scrub _ _ _ _ (scrubbed_by _ _ _ _ (part cut)))) c.apply_on-in-Scrub.ensures.cut
+returns-in-Scrub-clause-cut g c = λ _. IfErr-weaker c.scrub_with_progress.result _ _
+    (λ refusal part cut. rw c.in-Scrub.is (told_scrub _ _ _ _ (scrubbed_by _ _ _ _ (part cut)))) c.scrub_with_progress.ensures.cut
 
 pub returns-in-Upgrade-clause-does : goal.returns-in-Upgrade-clause-does
 returns-in-Upgrade-clause-does g c = rw c.in-Upgrade.is (ok_then _ _ _ (upgraded_by _ _ _ _) c.apply_on-in-Upgrade.ensures.applied)
@@ -54,11 +52,10 @@ pub returns-in-Fail-clause-cause : goal.returns-in-Fail-clause-cause
 returns-in-Fail-clause-cause g c = rw c.in-Fail.is (done_for c.apply_on.result _ c.apply_on.ensures.refused)
 
 pub returns-in-Rebuild-clause-cause : goal.returns-in-Rebuild-clause-cause
-returns-in-Rebuild-clause-cause g c = rw (c.in-Rebuild.is, sym c.of_set-bank.ensures.bank) (done_for c.rebuild_on.result _ c.rebuild_on.ensures.refused)
+returns-in-Rebuild-clause-cause g c = rw c.in-Rebuild.is (done_for c.rebuild_with_progress.result _ c.rebuild_with_progress.ensures.refused)
 
 pub returns-in-Scrub-clause-cause : goal.returns-in-Scrub-clause-cause
-returns-in-Scrub-clause-cause g c = rw (c.in-Scrub.is, sym c.of_set-bank-in-Scrub.ensures.bank)
-    (done_for c.apply_on-in-Scrub.result _ c.apply_on-in-Scrub.ensures.refused)
+returns-in-Scrub-clause-cause g c = rw c.in-Scrub.is (done_for c.scrub_with_progress.result _ c.scrub_with_progress.ensures.refused)
 
 pub returns-in-Upgrade-clause-cause : goal.returns-in-Upgrade-clause-cause
 returns-in-Upgrade-clause-cause g c = rw c.in-Upgrade.is (done_for c.apply_on-in-Upgrade.result _ c.apply_on-in-Upgrade.ensures.refused)

@@ -1,0 +1,85 @@
+-- Why a line was refused: on some bank of files, of whose contents nothing is known.
+use Rattle.std.specs.Prelude.{◌≡◌, ◌⊎◌, ℕ, Bool, List, [], Option}
+use Rattle.sector_model.specs.declared.refusal.Refusal.{Refusal}
+use Rattle.sector_model.specs.declared.refusal.Refusal.TheVariants.{BadGeometry, Memory, ReadFault, WriteFault}
+use Rattle.layout_map.specs.declared.geometry.Geometry.{Geometry}
+use Rattle.layout_map.specs.Placement.{IsGeometry}
+use Rattle.recovery.specs.Making.{BankView}
+use Rattle.volume_table.specs.VolumeStep.{OnSet, OnVolumes}
+use Rattle.volume_table.specs.VolumeStep.{Fail as FailSlot, Replace as ReplaceDevice, Scrub as ScrubSet, Upgrade as UpgradeTable}
+use Rattle.command_line.specs.declared.Invocation.{Invocation}
+use Rattle.command_line.specs.declared.Invocation.TheVariants.{Examine, Fail, Make, Rebuild, Replace, Run, Scrub, Status, Upgrade}
+use Rattle.device_files.specs.DeviceFiles.{IsNoTableIn}
+use Rattle.device_files.specs.declared.FolderFault.{FolderFault}
+use Rattle.device_files.specs.declared.FolderFault.TheVariants.{Refused}
+use Rattle.raidtool.specs.Done.{HasSizes, OfFiles}
+use Rattle.raidtool.specs.OtherSets.{IsRefusedMake, StopsMaking}
+use Rattle.set_commands.specs.Examining.{RefusesInspecting}
+use Rattle.set_commands.specs.Run.{StoppedByStore, Streams}
+use Rattle.set_commands.specs.Serving.{IsNotOpened, RefusesOn, ServesOn, StopsRebuildingOn}
+
+-- memory ran out, or a reader or a writer failed: that is cause enough
+abbrev pub IsPlainEnd : Refusal → Type 0
+IsPlainEnd Memory = Unit {0}
+IsPlainEnd ReadFault = Unit {0}
+IsPlainEnd WriteFault = Unit {0}
+IsPlainEnd refusal = ⊥
+
+-- what stops a command, where it is a refusal and no such end, has this cause
+abbrev pub IsCausedBy : (Cause : Refusal → Type 0) → FolderFault → Type 0
+IsCausedBy Cause fault = (refusal : Refusal) → fault ≡ Refused refusal → ¬ IsPlainEnd refusal → Cause refusal
+
+-- why a slot was not given a device on a bank: the set was not assembled or not opened, or that was refused
+abbrev pub RefusesReplace : (honest : Type 0) (id : List ℕ) (slot : ℕ) (bank : BankView) → Refusal → Type 0
+RefusesReplace honest id slot bank refusal = IsNotOpened honest id bank refusal ⊎ RefusesOn honest id (OnSet (ReplaceDevice slot)) bank refusal
+
+-- why what a line asks for was refused on a bank: the set was not assembled or not opened, not made, or not found; or the command on it was refused
+abbrev pub IsCauseOn : Invocation → (honest : Type 0) (bank : BankView) → Refusal → Type 0
+IsCauseOn (Run folder id) honest bank refusal = IsNotOpened honest id bank refusal
+    ⊎ ((was : Streams) × (is : Streams) × ServesOn honest id bank (λ first last. StoppedByStore honest refusal first last was is))
+IsCauseOn (Make folder id members chunk stripes) honest bank refusal =
+    (geometry : Geometry) × HasSizes members chunk stripes geometry × StopsMaking honest id geometry bank (Refused refusal)
+IsCauseOn (Status folder id json check) honest bank refusal = IsNotOpened honest id bank refusal
+IsCauseOn (Fail folder id slot) honest bank refusal = IsNotOpened honest id bank refusal ⊎ RefusesOn honest id (OnSet (FailSlot slot)) bank refusal
+IsCauseOn (Replace folder id slot) honest bank refusal = RefusesReplace honest id slot bank refusal
+IsCauseOn (Rebuild folder id steps) honest bank refusal = IsNotOpened honest id bank refusal ⊎ StopsRebuildingOn honest id steps bank refusal
+IsCauseOn (Scrub folder id) honest bank refusal = IsNotOpened honest id bank refusal ⊎ RefusesOn honest id (OnSet ScrubSet) bank refusal
+IsCauseOn (Upgrade folder id) honest bank refusal = IsNotOpened honest id bank refusal ⊎ RefusesOn honest id (OnVolumes UpgradeTable) bank refusal
+IsCauseOn (Examine folder id json check) honest bank refusal = RefusesInspecting honest id json bank refusal
+
+-- why no set of these sizes was made over the files of a folder: no set has them; or one that has could not be made on some bank of ten such files
+abbrev pub IsCauseOfMake : (id : List ℕ) (members chunk stripes : ℕ) → Refusal → Type 0
+IsCauseOfMake id members chunk stripes BadGeometry = ¬ IsGeometry members chunk stripes
+IsCauseOfMake id members chunk stripes refusal = (geometry : Geometry) × HasSizes members chunk stripes geometry × IsRefusedMake id geometry refusal
+
+-- why a slot was not given a device over such files: on some bank of them, or in seeking the table of its set, for whether its file is made anew, or whether
+-- a slot is missing whose file can't be opened
+abbrev pub IsCauseOfReplace : (id : List ℕ) (slot : ℕ) → Refusal → Type 0
+IsCauseOfReplace id slot refusal = ((bank : BankView) × RefusesReplace OfFiles id slot bank refusal) ⊎ IsNoTableIn id refusal
+
+-- why no set was told of
+abbrev pub IsCauseOfExamine : (id : Option (List ℕ)) (json : Bool) → Refusal → Type 0
+IsCauseOfExamine id json refusal = (bank : BankView) × RefusesInspecting OfFiles id json bank refusal
+
+-- the id of the set of a line; of one that may look at each set, none
+abbrev pub id_text : Invocation → List ℕ
+id_text (Run folder id) = id
+id_text (Make folder id members chunk stripes) = id
+id_text (Status folder id json check) = id
+id_text (Fail folder id slot) = id
+id_text (Replace folder id slot) = id
+id_text (Rebuild folder id steps) = id
+id_text (Scrub folder id) = id
+id_text (Upgrade folder id) = id
+id_text (Examine folder id json check) = []
+
+-- why a line was refused: on some bank, or in seeking the table of its set, for whether a slot is missing whose file can't be opened
+abbrev pub HasCause : Invocation → Refusal → Type 0
+HasCause (Make folder id members chunk stripes) refusal = IsCauseOfMake id members chunk stripes refusal
+HasCause (Replace folder id slot) refusal = IsCauseOfReplace id slot refusal
+HasCause (Examine folder id json check) refusal = IsCauseOfExamine id json refusal
+HasCause line refusal = ((bank : BankView) × IsCauseOn line OfFiles bank refusal) ⊎ IsNoTableIn (id_text line) refusal
+
+-- a refusal has its cause, unless memory, a reader or a writer is cause enough
+abbrev pub IsCaused : Invocation → Refusal → Type 0
+IsCaused line refusal = ¬ IsPlainEnd refusal → HasCause line refusal

@@ -1,0 +1,9 @@
+-- The bank that is watched shows what the one below does.
+use Rattle.std.proofs.Common.{sym}
+use Rattle.set_commands.proofs.serving.applying.scrub_with_progress.Goals as goal
+
+pub returns-clause-refused : goal.returns-clause-refused
+returns-clause-refused g c = rw (sym c.of_scrub-watched.ensures.bank) c.apply_on.ensures.refused
+
+pub returns-clause-cut : goal.returns-clause-cut
+returns-clause-cut g c = rw (sym c.of_scrub-watched.ensures.bank) c.apply_on.ensures.cut

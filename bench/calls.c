@@ -1,7 +1,7 @@
-/* calls reads|replies|lines|writes FOLDER COUNT MEMBERS: the device calls of COUNT commands of one block on a set of so many members, chunk 8 and 32 stripes.
+/* calls reads|scattered|replies|lines|writes FOLDER COUNT MEMBERS: the device calls of COUNT commands of one block on a set of so many members, chunk 8 and 32 stripes.
 
    Command number k, from 0, is of block k mod 448 of a volume over the first seven extents in order: logical sector 64 + k mod 448. A read is one pread, and
-   nothing else; with `replies` it is that and a write of 7 bytes to standard output. With `lines` it is what no program of lines can leave out: COUNT lines
+   nothing else, `scattered` one of block 97 * k mod 448; with `replies` it is that and a write of 7 bytes to standard output. With `lines` it is what no program of lines can leave out: COUNT lines
    `read a K 1` are found on standard input, each is read, and its block comes as `5a*512` or as 1,024 digits into a buffer of 64 KiB, which is written when it
    is full. A write is the commit of one block: it reads the row's old data and old parity, or with 3 members its other data, which is fewer sectors. The
    entry holds two sectors, the block and the parity, in the order of their members: on each journal they are written as the body, by one call, with a sync,
@@ -136,7 +136,7 @@ static void write_block(long k) {
 int main(int count, char **words) {
     members = count == 5 ? atoi(words[4]) : 0;
     if (members < 3 || members > MOST_MEMBERS) {
-        fprintf(stderr, "usage: calls reads|replies|lines|writes FOLDER COUNT MEMBERS\n");
+        fprintf(stderr, "usage: calls reads|scattered|replies|lines|writes FOLDER COUNT MEMBERS\n");
         return 2;
     }
     for (int slot = 0; slot < members + JOURNALS; slot++) {
@@ -145,6 +145,7 @@ int main(int count, char **words) {
         files[slot] = open(path, O_RDWR);
         must(files[slot] >= 0, path);
     }
+    long apart = strcmp(words[1], "scattered") == 0 ? 97 : 1;
     int writes = strcmp(words[1], "writes") == 0, replies = strcmp(words[1], "replies") == 0, lines = strcmp(words[1], "lines") == 0;
     for (long k = 0, all = atol(words[3]); k < all; k++) {
         if (writes)
@@ -152,7 +153,7 @@ int main(int count, char **words) {
         else if (lines)
             serve_line();
         else
-            read_block(k);
+            read_block(apart * k);
         if (replies)
             write_reply();
     }

@@ -80,7 +80,8 @@ no_sizes id members chunk stripes refusal is none = subst (IsCauseOfMake id memb
 
 -- ---- a line that needs no file to be made
 
-pub served_cause : (line : Invocation) (refusal : Refusal) → IsServed line → ((bank : BankView) × IsCauseOn line OfFiles bank refusal) ⊎ IsNoTableIn (id_text line) refusal
+pub served_cause : (line : Invocation) (refusal : Refusal) → IsServed line
+    → ((bank : BankView) × IsCauseOn line OfFiles bank refusal) ⊎ IsNoTableIn (id_text line) refusal
     → HasCause line refusal
 served_cause (Run folder id) refusal served cause = cause
 served_cause (Make folder id members chunk stripes) refusal served cause = absurd served

@@ -173,7 +173,12 @@ pub was_stopped : (words : List Text) (Blamed : Invocation → FolderFault → T
     → ((refusal : Refusal) → fault ≡ Refused refusal → IsCaused line refusal)
     → WasRefused (IsEndOf words) Told Same ⊎ WasStopped words Blamed Told Same
 was_stopped words Blamed line folder Told Same (Refused refusal) asked is stops blamed told alone apart cause =
-    inl (record { refusal = refusal; ends = inr (inr (line, asked, end_of_line line refusal stops, apart refusal refl, cause refusal refl)); told = told; alone = alone })
+    inl (record {
+      refusal = refusal;
+      ends = inr (inr (line, asked, end_of_line line refusal stops, apart refusal refl, cause refusal refl));
+      told = told;
+      alone = alone;
+    })
 was_stopped words Blamed line folder Told Same (NoFile slot) asked is stops blamed told alone apart cause =
     inr (record {
       line = line;

@@ -24,7 +24,8 @@ pub made_all : {F G : Type 0} {told : F → Contents} {there : G → Contents} {
     → yielded ≡ files → count ≡ length files → ((d : ℕ) → d < length yielded → IsMade told there (file_at yielded d) (slot_at slots d)) → (d : ℕ) → d < count
     → IsMade told there (file_at files d) (slot_at slots d)
 made_all {told = told} {there = there} files yielded slots all as_many made d within =
-    subst (λ (l : List (Option _)). IsMade told there (file_at l d) (slot_at slots d)) all (made d (subst (λ (n : ℕ). d < n) (as_many ∙ sym (ap length all)) within))
+    subst (λ (l : List (Option _)). IsMade told there (file_at l d) (slot_at slots d)) all
+    (made d (subst (λ (n : ℕ). d < n) (as_many ∙ sym (ap length all)) within))
 
 -- one more slot, as it is made over its file
 pub made_more : {F G : Type 0} {told : F → Contents} {there : G → Contents} (files : List (Option F)) (slots : List (Slot G)) (file : Option F) (slot : Slot G)

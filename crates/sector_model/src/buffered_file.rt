@@ -11,10 +11,10 @@ use crate::span::Span;
 use std::alloc::{AllocError, Global};
 use std::io::{self, ErrorKind};
 
-/// A device file of which bytes that were written wait, 64 KiB at most, as long as each write begins where the one
-/// before ended. They are written by one call before the file is synced, and at a write that begins elsewhere or has no
-/// room. A read gives what was written, waiting or not. What waits when this value is dropped is lost, as it may be by a
-/// crash; so is what a call that answered a fault was to write.
+/// A device file of which bytes that were written wait, 64 KiB at most, as long as each write begins where the
+/// one before ended. They are written by one call before the file is synced, and at a write that begins
+/// elsewhere or has no room. A read gives what was written, waiting or not. What waits when this value is
+/// dropped is lost, as it may be by a crash; so is what a call that answered a fault was to write.
 #[derive(Drop)]
 pub struct BufferedFile<F: DeviceFile> {
     file: ReadAhead<F>,
@@ -39,8 +39,8 @@ impl<F: DeviceFile> BufferedFile<F> {
     // Writes what waits; then nothing does, also after a fault.
     fn write_out(&mut self) -> io::Result<()>
         ensures shown { IsTrue F.tells → OnOk result (IsShownAs
-            (with_span (F.told self.old.file.file) self.old.waiting.start self.old.waiting.len self.old.waiting.bytes.items)
-            (F.told self.new.file.file)) }
+            (with_span (F.told self.old.file.file)
+            self.old.waiting.start self.old.waiting.len self.old.waiting.bytes.items) (F.told self.new.file.file)) }
         ensures length { IsTrue F.tells → (F.told self.new.file.file).size ≡ (F.told self.old.file.file).size }
         ensures start { self.new.waiting.start ≡ 0 }
         ensures none { self.new.waiting.len ≡ 0 }

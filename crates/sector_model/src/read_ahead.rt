@@ -9,10 +9,10 @@ use std::io;
 
 const LEAST_AHEAD: usize = 4_096;
 
-/// A device file of which a read that begins where the one before ended goes on to the next multiple of 4,096 bytes, the
-/// one that follows that to the next of 8,192, and so on up to 65,536, and not after the file's end. What is asked for
-/// next is answered from there. A fault of such a read is none of the bytes that were asked for, which are then read by
-/// themselves.
+/// A device file of which a read that begins where the one before ended goes on to the next multiple of 4,096
+/// bytes, the one that follows that to the next of 8,192, and so on up to 65,536, and not after the file's end.
+/// What is asked for next is answered from there. A fault of such a read is none of the bytes that were asked
+/// for, which are then read by themselves.
 #[derive(Drop)]
 pub struct ReadAhead<F: DeviceFile> {
     file: F,

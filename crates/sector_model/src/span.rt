@@ -1,5 +1,6 @@
 //! Bytes that lie together in a file, in a buffer of fixed size.
-ghost use Rattle.std.specs.Prelude.{IsTrue, ◌↔◌, ◌≡◌, ◌⊎◌, ◌≤◌, ◌<◌, ◌+◌, ◌-◌, ◌^◌, ℕ, IfOk, false, length, slice_index_or, true, vec_len};
+ghost use Rattle.std.specs.Prelude.{IsTrue, ◌↔◌, ◌≡◌, ◌⊎◌, ◌≤◌, ◌<◌, ◌+◌, ◌-◌, ◌^◌, ℕ, IfOk, false, length};
+ghost use Rattle.std.specs.Prelude.{slice_index_or, true, vec_len};
 ghost use Rattle.sector_model.specs.DeviceFiles.{AreAt};
 
 use crate::DeviceFile;
@@ -59,7 +60,8 @@ impl Span {
     pub(crate) fn room_before(&self, place: u64, most: usize) -> usize
         requires { (place < self.now.start) ⊎ (self.now.start + self.now.len ≤ place) }
         ensures most { result ≤ most }
-        ensures beside { (k : ℕ) → k < result → (place + k < self.now.start) ⊎ (self.now.start + self.now.len ≤ place + k) }
+        ensures beside { (k : ℕ) → k < result
+            → (place + k < self.now.start) ⊎ (self.now.start + self.now.len ≤ place + k) }
     {
         if place < self.start && self.start - place < most as u64 {
             (self.start - place) as usize
@@ -122,7 +124,8 @@ impl Span {
         requires { place + length from.now < 2 ^ 64 }
         ensures start { self.new.start ≡ self.old.start }
         ensures len { self.new.len ≡ self.old.len }
-        ensures put { (k : ℕ) → k < self.old.len → place ≤ self.old.start + k → self.old.start + k < place + length from.now
+        ensures put { (k : ℕ) → k < self.old.len → place ≤ self.old.start + k
+            → self.old.start + k < place + length from.now
             → slice_index_or self.new.bytes.items k 0 ≡ slice_index_or from.now (self.old.start + k - place) 0 }
         ensures below { (k : ℕ) → k < self.old.len → self.old.start + k < place
             → slice_index_or self.new.bytes.items k 0 ≡ slice_index_or self.old.bytes.items k 0 }
@@ -146,8 +149,8 @@ impl Span {
             slice_index_or from.now k 0 }
         ensures below { (k : ℕ) → k < at → slice_index_or self.new.bytes.items k 0 ≡
             slice_index_or self.old.bytes.items k 0 }
-        ensures above { (k : ℕ) → at + length from.now ≤ k → k < self.old.len → slice_index_or self.new.bytes.items k 0 ≡
-            slice_index_or self.old.bytes.items k 0 }
+        ensures above { (k : ℕ) → at + length from.now ≤ k → k < self.old.len
+            → slice_index_or self.new.bytes.items k 0 ≡ slice_index_or self.old.bytes.items k 0 }
     {
         self.bytes[at..at + from.len()].copy_from_slice(from);
     }

@@ -53,7 +53,8 @@ right_more extents volumes event reply done (in_one replies last other store ans
     (right.0.0, (right.0.1, right.1))
 
 rest_of : (slots : ℕ) {replies : List Reply} {old new : StoreView} (asks : Served replies old new) (fate : Fate) (left : World)
-    (ends : EndsServing slots asks fate left) → Rest slots (record { store = old; fate = fate }) left (answered slots asks fate left ends) (crashed_in slots asks fate left ends)
+    (ends : EndsServing slots asks fate left)
+    → Rest slots (record { store = old; fate = fate }) left (answered slots asks fate left ends) (crashed_in slots asks fate left ends)
 rest_of slots (none_asked {store = store}) fate left ends = between [] (record { store = store; fate = fate }) none_done ends
 rest_of slots (then_answered {old = old} mid event reply applies goes rest) fate left (here is) =
     in_one [] (record { store = old; fate = fate }) event mid reply none_done applies is.true_to is.crashes
@@ -64,7 +65,8 @@ rest_of slots (then_ended {old = old} {new = new} event reply applies last) fate
     in_one [] (record { store = old; fate = fate }) event new reply none_done applies ends.true_to ends.crashes
 
 rightly : (slots extents : ℕ) (volumes : VolumeMap) {replies : List Reply} {old new : StoreView} (asks : Served replies old new) (fate : Fate) (left : World)
-    (ends : EndsServing slots asks fate left) → right_in extents volumes (rest_of slots asks fate left ends) → AnswersRightly slots extents volumes asks fate left ends
+    (ends : EndsServing slots asks fate left)
+    → right_in extents volumes (rest_of slots asks fate left ends) → AnswersRightly slots extents volumes asks fate left ends
 unfolding one_more rest_of
 rightly slots extents volumes none_asked fate left ends right = tt
 rightly slots extents volumes (then_answered mid event reply applies goes rest) fate left (here is) right = tt

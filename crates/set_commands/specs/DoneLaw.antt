@@ -1,4 +1,5 @@
--- What the contracts of the program's commands say, as the headline of the program speaks of it: of a bank that is honest, and of the very stores that they name.
+-- What the contracts of the program's commands say, as the headline of the program speaks of it:
+-- of a bank that is honest, and of the very stores that they name.
 use Rattle.std.specs.Prelude.{◌≡◌, ℕ, ◌+◌, Bool, List, [], ◌∷◌, ◌++◌, replicate, Option, None, Result}
 use Rattle.sector_model.specs.declared.refusal.Refusal.{Refusal}
 use Rattle.sector_model.specs.Reads.{HasRead}

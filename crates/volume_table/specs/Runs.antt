@@ -98,7 +98,8 @@ pub record IsAssembled (id : List ℕ) (slots : ℕ) (panel : Panel) (world : Wo
 
 -- A run: devices are read alone, and no set is assembled; the crash comes in assembling; or the set is assembled, and then a session.
 pub data Run (id : List ℕ) (slots : ℕ) (panel : Panel) (world left : World) : Type 0 where
-  only_read : (h : History) → HasRead (Began world.image) h → Crashes slots world.fate.lost world.fate (Began world.image) h left → Run id slots panel world left
+  only_read : (h : History) → HasRead (Began world.image) h
+      → Crashes slots world.fate.lost world.fate (Began world.image) h left → Run id slots panel world left
   in_assembling : (outcome : recovery.Outcome) → Assembles (Unit {0}) id (begun_with panel world.image) outcome
       → Crashes slots world.fate.lost world.fate (Began world.image) (recovery.bank_after outcome).history left → Run id slots panel world left
   assembled : (array : ArrayView) (fate : Fate) → IsAssembled id slots panel world array fate → Session slots array fate left → Run id slots panel world left

@@ -146,8 +146,8 @@ fn play_fake(rt: &(impl Abort + AllocGlobal), fake: &Fake, first: u64, rows: &[R
     }
 }
 
-/// What device 3 does once a read of its file fails, once a write does that the one of the bank after it calls for, once
-/// a write that its flush calls for does, and once the sync does.
+/// What device 3 does once a read of its file fails, once a write does that the one of the bank after it calls
+/// for, once a write that its flush calls for does, and once the sync does.
 const FAILED_READ: &[Step] = &[
     NoRead(3, 7),
     NoWrite(3, 7, 1),

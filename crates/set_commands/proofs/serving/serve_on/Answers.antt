@@ -1,7 +1,8 @@
 use Rattle.std.proofs.lemmas.Result.{err_from_is_err_and, IfErr-weaker, on_ok_weaker}
 use Rattle.std.proofs.Common.{inl, refl}
 use Rattle.set_commands.proofs.FreshLemmas.{read_whole, unchanged_if_early}
-use Rattle.set_commands.proofs.Served.{opening_is_end, opening_not_memory, opening_not_reading, opening_not_writing, script_is_end, served_opened, served_ran, served_until_loss}
+use Rattle.set_commands.proofs.Served.{opening_is_end, opening_not_memory, opening_not_reading, opening_not_writing, script_is_end}
+use Rattle.set_commands.proofs.Served.{served_opened, served_ran, served_until_loss}
 use Rattle.set_commands.proofs.Served.{served_until_read, served_until_write}
 use Rattle.set_commands.proofs.serving.serve_on.Goals as goal
 

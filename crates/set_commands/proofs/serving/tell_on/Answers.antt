@@ -2,7 +2,8 @@ use Rattle.std.proofs.Common.{refl}
 use Rattle.std.proofs.lemmas.Result.{IfErr-weaker, err_from_is_err_and}
 use Rattle.std.specs.Prelude.{Result, Ok, Err, OnOk}
 use Rattle.set_commands.specs.Serving.{StatusOn}
-use Rattle.set_commands.proofs.Served.{opening_is_tell_end, opening_not_memory, opening_not_writing, status_told, tells_on, tells_part_on, untold_end, untold_for, untold_same}
+use Rattle.set_commands.proofs.Served.{opening_is_tell_end, opening_not_memory, opening_not_writing, status_told, tells_on}
+use Rattle.set_commands.proofs.Served.{tells_part_on, untold_end, untold_for, untold_same}
 use Rattle.set_commands.proofs.serving.tell_on.Goals as goal
 
 pub returns-clause-told : goal.returns-clause-told

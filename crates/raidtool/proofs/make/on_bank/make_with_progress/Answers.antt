@@ -13,5 +13,6 @@ returns-clause-made g c =
 pub returns-in_err-make_on-clause-cause : goal.returns-in_err-make_on-clause-cause
 returns-in_err-make_on-clause-cause g c =
     let from = err_from_is_err_and c.from_residual.result c.from_residual.ensures.1 in
-    rw (from.1, from.2) (subst (λ (bank : g.row.B.Denot). RefusesMake (g.B.Bank.honest bank) c.args.id c.args.geometry (bank_seen g.B.Bank bank) c.in_err-make_on.field-0.0)
+    rw (from.1, from.2)
+    (subst (λ (bank : g.row.B.Denot). RefusesMake (g.B.Bank.honest bank) c.args.id c.args.geometry (bank_seen g.B.Bank bank) c.in_err-make_on.field-0.0)
     c.over.ensures.bank c.in_err-make_on.ensures.cause)

@@ -282,8 +282,8 @@ where
 }
 
 // The calls of a write up to that of its first seal: the start puts the last entry on two members again and syncs
-// these, then a body of two sectors is written on each journal and synced, and the seal is written.
-const TO_THE_SEAL: u64 = 2 * 2 + 2 * 3 + 1;
+// these, then a body of two sectors is written on each journal by one call and synced, and the seal is written.
+const TO_THE_SEAL: u64 = 2 * 2 + 2 * 2 + 1;
 
 // More calls than a start makes.
 const MANY: u64 = 200;

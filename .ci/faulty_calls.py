@@ -232,7 +232,7 @@ def unsynced_folders(trials, calls):
     trials.count(2)
 
 
-def file_syncs(trials, calls, name, start, look):
+def file_syncs(trials, calls, name, start, inspect):
     """Each sync of a file has a fault in turn."""
     for number in itertools.count(1):
         with trials.over(start) as folder:
@@ -241,7 +241,7 @@ def file_syncs(trials, calls, name, start, look):
             if not is_seen:
                 check(f"{name}, {number - 1} syncs of files, enough", number > 1, True)
                 return
-            look(f"{name} with a fault of sync {number} of a file", folder, said)
+            inspect(f"{name} with a fault of sync {number} of a file", folder, said)
             trials.count()
 
 

@@ -9,7 +9,7 @@ from trials import asked, check, check_files, file, held
 
 SYNCS, ALL = ("fsync", "fdatasync"), range(10)
 # A slot after the set, of the start that has files in all ten.
-BEHIND = 7
+BEYOND = 7
 NO_ROOM = {errno.ENOSPC: "no space left on device", errno.EDQUOT: "disk quota exceeded"}
 # A sync that fails for another reason, also that of a file that has none.
 BROKEN = (errno.EIO, errno.EINVAL)
@@ -62,7 +62,7 @@ def order_of_calls(trials, calls):
             trials.count()
 
 
-def looks_only(trials, calls):
+def inspects_only(trials, calls):
     """An inspection opens each file, and calls for nothing but reads."""
     for start in ("ten", "whole", "absent", "short", "joined", "empty"):
         with trials.over(start) as folder:
@@ -98,8 +98,8 @@ def folder_of_replace(trials, calls):
 def lost_by_sync(trials, calls):
     """A file whose first sync fails is a lost device, as one that is not there. Its slot is missing
     in each table that is written then."""
-    for name, slot, fault in itertools.product(READS, (*range(SLOTS), BEHIND), BROKEN):
-        start = "ten" if slot == BEHIND else begun_over(name)
+    for name, slot, fault in itertools.product(READS, (*range(SLOTS), BEYOND), BROKEN):
+        start = "ten" if slot == BEYOND else begun_over(name)
         what = f"{name} from {start}, where sync of {file(slot)} fails with {fault}"
         with trials.over(start) as folder:
             (folder / file(slot)).unlink()
@@ -119,8 +119,8 @@ def lost_by_sync(trials, calls):
 
 def no_room(trials, calls):
     """A first sync that finds no room is told, and nothing is changed."""
-    for name, fault, slot in itertools.product(COMMANDS, NO_ROOM, (*range(SLOTS), BEHIND)):
-        start = "ten" if slot == BEHIND or name == "make" else begun_over(name)
+    for name, fault, slot in itertools.product(COMMANDS, NO_ROOM, (*range(SLOTS), BEYOND)):
+        start = "ten" if slot == BEYOND or name == "make" else begun_over(name)
         with trials.over(start) as folder:
             what = f"from {start}, where sync of {file(slot)} finds no room"
             told = f"cannot sync {file(slot)}: {NO_ROOM[fault]}\n"
@@ -175,5 +175,5 @@ def unmade_by_sync(trials, calls):
             calls.refused(what, "replace", told, folder, **of_sync(slot + 1, errno.EIO))
 
 
-GROUPS = (order_of_calls, looks_only, folder_of_replace, lost_by_sync, no_room, interrupted)
+GROUPS = (order_of_calls, inspects_only, folder_of_replace, lost_by_sync, no_room, interrupted)
 GROUPS += (unmade_by_sync,)

@@ -89,7 +89,7 @@ def trees(sets):
     second = Served(sets, folder, name="second", is_mounted=True, waits=False)
     second.check_refused("in use dev0.img")
     served.end()
-    check_file_system(sets, folder, "behind a copied tree")
+    check_file_system(sets, folder, "after a copied tree")
     sets.count("a tree is copied")
     for slot in (1, 4):
         (folder / f"dev{slot}.img").rename(sets.top / "away.img")
@@ -101,7 +101,7 @@ def trees(sets):
         answered([sets.program, "replace", folder, "--id", ID, "--slot", str(slot)])
         answered([sets.program, "rebuild", folder, "--id", ID])
         sets.count(f"without dev{slot}.img")
-    check_file_system(sets, folder, "behind lost devices")
+    check_file_system(sets, folder, "after lost devices")
 
 
 @mounting
@@ -120,14 +120,14 @@ def crashes(sets):
         served.ran.send_signal(signal.SIGTERM)
         until(lambda: served.says("is in use, and is unmounted as soon as"), "the word that it is in use")
     served.end(None)
-    check_file_system(sets, folder, "behind a killed raidmount")
+    check_file_system(sets, folder, "after a killed raidmount")
     sets.count("a killed raidmount")
     served = Served(sets, folder, is_mounted=True)
     os.kill(served.process("nbdfuse"), signal.SIGKILL)
     served.end(None, 1)
     sets.count("a killed nbdfuse")
     Served(sets, folder, is_mounted=True).unmount()
-    check_file_system(sets, folder, "behind a killed nbdfuse")
+    check_file_system(sets, folder, "after a killed nbdfuse")
 
 
 class Transactions:
@@ -177,15 +177,15 @@ def kill_in_the_middle(sets, folder, victims):
 
 
 def check_transactions(sets, folder, number):
-    """Behind a restart the journal is replayed, what was answered is there, and the file system is clean."""
-    is_behind = has_to_recover(sets, folder)
+    """After a restart the journal is replayed, what was answered is there, and the file system is clean."""
+    needs_recovery = has_to_recover(sets, folder)
     served = Served(sets, folder, is_mounted=True)
     fault, _ = nbd_transactions.fault_of(sets.mountpoint / "base.sqlite", number)
     if fault:
         raise Failed(fault)
     served.unmount()
-    check_file_system(sets, folder, "behind a kill")
-    return is_behind
+    check_file_system(sets, folder, "after a kill")
+    return needs_recovery
 
 
 def kills(sets, victims):
@@ -255,7 +255,7 @@ def a_failing_file(sets):
             if sums(sets.mountpoint) != wanted:
                 raise Failed(f"files are not as they were written while slot {slot} failed")
             served.unmount()
-            check_file_system(sets, folder, "behind a device file that failed")
+            check_file_system(sets, folder, "after a device file that failed")
         sets.count(f"slot {slot} fails")
 
 

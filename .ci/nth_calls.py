@@ -9,7 +9,7 @@ import errno, itertools, re
 
 from shared import TOP, Failed
 from faulty_calls import failing
-from looks import told_in
+from inspections import told_in
 from trials import LOST, MADE, NO_SET
 from trials import check, check_files, check_text, differing, differs, file, held
 
@@ -213,7 +213,7 @@ class Faulty:
         elif self.name == "make":
             self.check_no_set()
         elif self.name == "examine":
-            self.check_look()
+            self.check_inspection()
         else:
             self.check_still_there()
 
@@ -233,7 +233,7 @@ class Faulty:
         is_in_part = said == TWO_LOST and (self.start != "empty" or bool(self.left()))
         check(f"{self.what}, then the status", said, TWO_LOST if is_in_part else NO_SET)
 
-    def check_look(self):
+    def check_inspection(self):
         """An inspection changes nothing, whatever it tells."""
         self.check_untouched()
         if self.said[2].startswith("in use"):

@@ -10,7 +10,7 @@ WHY = "operation not permitted\n"
 # The commands that make no file, nor need that of a slot.
 GO_ON = ("status", "run", "scrub", "fail", "rebuild", "upgrade")
 # A slot that is in sync, and one after the set, of the start that has files in all ten.
-IN_SYNC, BEHIND = 1, 7
+IN_SYNC, BEYOND = 1, 7
 
 
 def flag(path, is_immutable):
@@ -60,7 +60,7 @@ def passed_over(trials):
     for name in GO_ON:
         goes_on(trials, name)
     refused = (("given up", (LOST,), LOST, ("make", "replace")), ("given up", (IN_SYNC,), IN_SYNC, COMMANDS))
-    refused += (("given up", (LOST, IN_SYNC), IN_SYNC, GO_ON), ("ten", (BEHIND,), BEHIND, COMMANDS))
+    refused += (("given up", (LOST, IN_SYNC), IN_SYNC, GO_ON), ("ten", (BEYOND,), BEYOND, COMMANDS))
     for start, slots, named, commands in refused:
         with trials.over(start) as folder, closed(folder, *slots):
             what, said = "where a file that is needed can't be opened", inspected()

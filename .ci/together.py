@@ -3,7 +3,7 @@ the files, and one after another that was killed."""
 import contextlib, fcntl, itertools, os, pathlib, re, signal, subprocess
 from concurrent.futures import ThreadPoolExecutor
 
-from looks import told_in
+from inspections import told_in
 from shared import SLOTS, shape, words
 from trials import COMMANDS, LONGEST, LOST, MADE, NO_SET, SCRIPTS
 from trials import asked, check, check_files, differing, differs, file, held, without
@@ -105,7 +105,7 @@ def pair(trials, start, names, rounds, is_creating=False):
     return refusals
 
 
-def look_beside(trials, name):
+def inspect_beside(trials, name):
     """An inspection that starts together with a command ends with 0, or finds no set where there was none.
     The command ends as ever. Returns how often they started."""
     start = "empty" if name == "make" else start_of([name])
@@ -114,13 +114,13 @@ def look_beside(trials, name):
     for number in range(ROUNDS):
         with trials.over(start) as folder:
             what = f"examine and {name} at once, round {number + 1}"
-            looked, said = at_once(trials, folder, ("examine", name), number % 2)
+            inspected, said = at_once(trials, folder, ("examine", name), number % 2)
             found = held(folder)
             check(f"{what}, the command", said, whole)
             check_files(what, found, after)
-            if start != "empty" or looked != NO_SET:
-                check(f"{what}, the inspection", (looked[0], looked[2]), (0, ""))
-                check(f"{what}, the sets that are told", len([*told_in(what, looked[1])]), 1)
+            if start != "empty" or inspected != NO_SET:
+                check(f"{what}, the inspection", (inspected[0], inspected[2]), (0, ""))
+                check(f"{what}, the sets that are told", len([*told_in(what, inspected[1])]), 1)
             trials.count()
     return ROUNDS
 
@@ -140,9 +140,9 @@ def pairs(trials):
         wanted.append(("empty", ("make", name), ROUNDS, True))
         wanted.append(("absent", ("replace", name), ROUNDS, True))
     with ThreadPoolExecutor(WORKERS) as workers:
-        looks = [workers.submit(look_beside, trials, name) for name in COMMANDS]
+        inspections = [workers.submit(inspect_beside, trials, name) for name in COMMANDS]
         refusals = sum(workers.map(lambda it: pair(trials, *it), wanted))
-        times = sum(it[2] for it in wanted) + sum(it.result() for it in looks)
+        times = sum(it[2] for it in wanted) + sum(it.result() for it in inspections)
     print(f"two at once: {times} times, with one refused in {refusals}")
 
 
@@ -300,7 +300,7 @@ def start_to_stop(name):
     return {"make": "empty", "replace": "absent", "rebuild": "joined"}.get(name, "whole")
 
 
-def stopped_behind_locks(trials, calls):
+def stopped_at_locks(trials, calls):
     """Each command is stopped after its first lock and after its last one while each command
     starts, and then goes on as ever."""
     for name, lock in itertools.product(COMMANDS, (1, SLOTS)):
@@ -311,7 +311,7 @@ def stopped_behind_locks(trials, calls):
             with ended(stopped_at(calls, name, folder, lock)) as ran:
                 what = f"while a {name} is stopped after {lock} locks"
                 trials.each_refused(what, ANY_IN_USE, folder)
-                trials.look(folder)
+                trials.inspect(folder)
                 ran.send_signal(signal.SIGCONT)
                 output, told = ran.communicate(timeout=LONGEST)
             check(f"the end, {what}", (ran.returncode, output.decode(), told.decode()), whole)
@@ -319,7 +319,7 @@ def stopped_behind_locks(trials, calls):
             trials.count()
 
 
-def killed_behind_locks(trials, calls):
+def killed_at_locks(trials, calls):
     """Each command is killed while it has all files. It leaves no lock, and is done as ever then."""
     for name in COMMANDS:
         start = start_to_stop(name)
@@ -331,7 +331,7 @@ def killed_behind_locks(trials, calls):
                 check(f"the slots that can be locked {what}", lockable(folder), [])
                 ran.kill()
                 ran.communicate()
-            what = f"behind a {name} that was killed"
+            what = f"after a {name} that was killed"
             check(f"the slots that can be locked {what}", lockable(folder), [*range(SLOTS)])
             if name not in ("make", "replace"):
                 check_files(what, held(folder), trials.starts[start])
@@ -340,4 +340,4 @@ def killed_behind_locks(trials, calls):
 
 
 GROUPS = (stopped, in_use_by_another, held_by_a_script, killed)
-STOPPED = (stopped_behind_locks, killed_behind_locks)
+STOPPED = (stopped_at_locks, killed_at_locks)

@@ -2,7 +2,7 @@
 one, and how what all files hold is compared."""
 import collections, contextlib, itertools, os, re, shutil, subprocess, tempfile, threading
 
-from looks import COMPLETE, LONGEST, NO_SET, TWO_LOST, held, look
+from inspections import COMPLETE, LONGEST, NO_SET, TWO_LOST, held, inspect
 from shared import CHUNK, ID, MEMBERS, ROWS, SLOTS, STRIPES, Failed, shape, words
 
 COMMANDS = ("make", "run", "status", "fail", "replace", "rebuild", "scrub", "upgrade")
@@ -117,8 +117,8 @@ class Trials:
         starts["absent"] = dict(starts["given up"])
         del starts["absent"][file(LOST)]
         starts["short"] = {**starts["absent"], file(LOST): b"short" * 200}
-        behind = {file(slot): b"behind" * 99 for slot in range(SLOTS, 10)}
-        starts["ten"] = {**starts["whole"], **behind}
+        beyond = {file(slot): b"beyond" * 99 for slot in range(SLOTS, 10)}
+        starts["ten"] = {**starts["whole"], **beyond}
         sizes = {0: BYTES[0], 1: 1000, 4: BYTES[4] + 5000, 7: 6}
         starts["some"] = {file(slot): b"\1" * size for slot, size in sizes.items()}
         starts["mixed"] = {file(0): b"\1" * 1000, file(2): b"", file(4): b"\2" * 5000}
@@ -147,11 +147,11 @@ class Trials:
         """Such a folder, for a while. An inspection of what is left there changes nothing."""
         folder = self.put(start)
         yield folder
-        self.look(folder)
+        self.inspect(folder)
         shutil.rmtree(folder)
 
-    def look(self, folder):
-        look(self.program, folder, self.top / self.new_name())
+    def inspect(self, folder):
+        inspect(self.program, folder, self.top / self.new_name())
 
     def run(self, line, script="", before=(), **how):
         """Runs the program with these words, after those that are before it."""

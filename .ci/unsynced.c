@@ -72,7 +72,7 @@ static void before(void) {
     if (++made == -stop) end();
 }
 /* Right after it, with what is noted of it where it was done. */
-static void behind(int done, int kind, int slot, uint64_t at, uint64_t bytes, const void *data) {
+static void note_after(int done, int kind, int slot, uint64_t at, uint64_t bytes, const void *data) {
     if (done) note(kind, slot, at, bytes, data);
     if (made == stop) end();
 }
@@ -106,7 +106,7 @@ static int has_fault(int slot) {
     int fd = call; \
     if (fd >= 0 && fd < FILES) slots[fd] = (uint8_t)(slot + 1); \
     if (fd >= 0 && !is_new) note('O', slot, 0, 0, NULL); \
-    if (is_new) behind(fd >= 0, 'C', slot, 0, 0, NULL); \
+    if (is_new) note_after(fd >= 0, 'C', slot, 0, 0, NULL); \
     return fd
 #define OPENS(name) \
     int name(const char *path, int flags, ...) { \
@@ -138,7 +138,7 @@ int close(int fd) {
         if (slot == NONE) return real(fd, to, n, at); \
         before(); \
         ssize_t got = has_fault(slot) ? -1 : real(fd, to, n, at); \
-        behind(1, 'R', slot, (uint64_t)at, n, NULL); \
+        note_after(1, 'R', slot, (uint64_t)at, n, NULL); \
         return got; \
     }
 READS(pread, off_t)
@@ -151,7 +151,7 @@ READS(pread64, off64_t)
         if (slot == NONE) return real(fd, from, n, at); \
         before(); \
         ssize_t put = has_fault(slot) ? -1 : real(fd, from, n, at); \
-        behind(put > 0, 'W', slot, (uint64_t)at, (uint64_t)put, from); \
+        note_after(put > 0, 'W', slot, (uint64_t)at, (uint64_t)put, from); \
         return put; \
     }
 WRITES(pwrite, off_t)
@@ -165,7 +165,7 @@ ssize_t write(int fd, const void *from, size_t n) {
     before();
     off_t at = fd == 1 ? 0 : lseek(fd, 0, fcntl(fd, F_GETFL) & O_APPEND ? SEEK_END : SEEK_CUR);
     ssize_t put = has_fault(slot) ? -1 : real(fd, from, n);
-    behind(put > 0, fd == 1 ? 'E' : 'W', slot, (uint64_t)at, (uint64_t)put, from);
+    note_after(put > 0, fd == 1 ? 'E' : 'W', slot, (uint64_t)at, (uint64_t)put, from);
     return put;
 }
 
@@ -177,7 +177,7 @@ ssize_t write(int fd, const void *from, size_t n) {
         if (out < 0 || !(is_noted)) return real arguments; \
         before(); \
         int status = has_fault(of) ? -1 : real arguments; \
-        behind(!status, kind, of, 0, size, NULL); \
+        note_after(!status, kind, of, 0, size, NULL); \
         return status; \
     }
 static int is_folder(int fd) {
@@ -200,5 +200,5 @@ void sync(void) {
     REAL(sync);
     before();
     real();
-    behind(1, 'A', NONE, 0, 0, NULL);
+    note_after(1, 'A', NONE, 0, 0, NULL);
 }

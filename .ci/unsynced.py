@@ -218,7 +218,7 @@ def begins(image, one):
     return one, tuple(sorted((slot, len(content)) for slot, content in image.items()))
 
 
-def behind(image, calls):
+def after(image, calls):
     """What files hold after these calls."""
     changing = [call for call in calls if call.kind in "CWTU"]
     slots = {call.slot for call in changing}
@@ -301,7 +301,7 @@ class Program:
         with open(self.log, "rb") as log:
             calls = calls_in(log.read())
         output, told = (os.pread(it, os.fstat(it).st_size, 0).decode() for it in self.streams[1:])
-        self.there = behind(image, calls)
+        self.there = after(image, calls)
         self.check(one, calls)
         return Outcome(status, output, told, calls)
 

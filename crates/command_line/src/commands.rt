@@ -319,7 +319,7 @@ fn examine_command<'a>(alloc: Global) -> Result<Command<'a>, AllocError>
     ensures { HasApp examine_app result }
 {
     Command::new(alloc, "examine")
-        .about("Looks at the sets on the device files of a folder, and changes nothing")
+        .about("Inspects the sets on the device files of a folder, and changes nothing")
         .arg(folder_argument(alloc))?
         .arg(some_id_option(alloc))?
         .arg(json_flag(alloc))?

@@ -287,7 +287,7 @@ Usage: raidtool upgrade --id <H> <FOLDER>",
     ),
     (
         "examine|--help",
-        "Looks at the sets on the device files of a folder, and changes nothing|\
+        "Inspects the sets on the device files of a folder, and changes nothing|\
 Usage: raidtool examine [OPTIONS] <FOLDER>|\
 The id of the set, 32 hexadecimal digits, or each set where it is left out|\
 As JSON in one line",

@@ -117,7 +117,7 @@ def copied(folder, place):
     return len(first) < sum(1 for _ in place.iterdir())
 
 
-def look(program, folder, place):
+def inspect(program, folder, place):
     """Whatever stands in a folder, inspecting it ends, and changes no byte and no time of a change. Of
     each set that it tells a copy, in this place, assembles as it says."""
     before = held(folder), times(folder)
@@ -140,7 +140,7 @@ def check_outlook(program, folder, place, told):
         raise Failed(f"examine {folder} told {told.last!r}, and assembling ends with {status}: {output}{error}")
 
 
-def look_at_all(program, top):
-    """Looks at each folder below one in which device files are."""
+def inspect_all(program, top):
+    """Inspects each folder below one in which device files are."""
     for folder in sorted({path.parent for path in top.rglob("dev?.img")}):
-        look(program, folder, top / "copy")
+        inspect(program, folder, top / "copy")

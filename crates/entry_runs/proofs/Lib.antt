@@ -1,0 +1,9 @@
+pub mod Bits
+pub mod Builds
+pub mod ByRun
+pub mod Bytes
+pub mod Joins
+pub mod Lookups
+pub mod Ranks
+pub mod Rows
+pub mod Same

@@ -1,0 +1,7 @@
+pub mod Body
+pub mod Built
+pub mod Joined
+pub mod Law
+pub mod Runs
+pub mod Spelling
+pub mod WrittenOut

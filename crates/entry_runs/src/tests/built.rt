@@ -1,0 +1,141 @@
+//! Runs from rows that come one after another.
+use super::*;
+
+// Adds a row.
+fn add(rt: &impl Abort, builder: &mut RunsBuilder, row: u32, mask: u8) -> bool {
+    assert!(rt; builder.end() <= u64::from(row));
+    assert!(rt; mask.count_ones() >= 2);
+    builder.push(row, mask)
+}
+
+// Adds rows of zeros.
+fn add_zeros(rt: &impl Abort, builder: &mut RunsBuilder, first: u32, count: u16) -> bool {
+    assert!(rt; builder.end() <= u64::from(first));
+    assert!(rt; count >= 1);
+    builder.push_zeros(first, count)
+}
+
+// Adds the rows of a run with a mask, one by one, all of which fit.
+fn add_each(rt: &impl Abort, builder: &mut RunsBuilder, first: u32, count: u32, mask: u8) {
+    for row in 0..count {
+        assert!(rt; row <= u32::MAX - first);
+        assert!(rt; add(rt, builder, first + row, mask));
+    }
+}
+
+// The runs of a builder that has rows.
+fn finished(rt: &impl Abort, builder: RunsBuilder) -> Runs {
+    builder.finish().expect(rt, "the builder has rows")
+}
+
+// A builder of these runs, of which one with the mask 0 is of zeros.
+fn built(rt: &impl Abort, runs: &[Run]) -> RunsBuilder {
+    let mut builder = RunsBuilder::new();
+    for run in runs {
+        if run.mask == 0 {
+            assert!(rt; add_zeros(rt, &mut builder, run.first, run.length));
+        } else {
+            add_each(rt, &mut builder, run.first, u32::from(run.length), run.mask);
+        }
+    }
+    builder
+}
+
+#[test]
+fn no_rows(rt: HostRuntime) {
+    let builder = RunsBuilder::new();
+    same(&rt, builder.end(), 0);
+    assert!(rt; builder.finish().is_none());
+}
+
+#[test]
+fn blocks_in_order_not_aligned(rt: HostRuntime) {
+    let runs = [
+        run(128, 60, 0x0e),
+        run(188, 68, 0x0f),
+        run(256, 384, 0x1f),
+        run(640, 60, 0x13),
+        run(700, 68, 0x11),
+    ];
+    let builder = built(&rt, &runs);
+    same(&rt, builder.end(), 768);
+    same(&rt, finished(&rt, builder).list.as_slice(), &runs);
+}
+
+#[test]
+fn rows_over_a_gap_are_two_runs(rt: HostRuntime) {
+    let runs = [run(32, 1, 6), run(34, 1, 6)];
+    let builder = built(&rt, &runs);
+    same(&rt, finished(&rt, builder).list.as_slice(), &runs);
+}
+
+#[test]
+fn zeros_beside_a_mask(rt: HostRuntime) {
+    let runs = [run(32, 8, 0), run(40, 8, 7), run(48, 16, 0)];
+    let builder = built(&rt, &runs);
+    same(&rt, finished(&rt, builder).list.as_slice(), &runs);
+}
+
+#[test]
+fn zeros_that_follow_are_one_run(rt: HostRuntime) {
+    let builder = built(&rt, &[run(56, 8, 0), run(64, 16, 0), run(104, 8, 0)]);
+    same(
+        &rt,
+        finished(&rt, builder).list.as_slice(),
+        &[run(56, 24, 0), run(104, 8, 0)],
+    );
+}
+
+#[test]
+fn runs_59(rt: HostRuntime) {
+    let mut builder = RunsBuilder::new();
+    for number in 0..58 {
+        assert!(rt; add(&rt, &mut builder, 2 * number, 3));
+    }
+    assert!(rt; !add(&rt, &mut builder, 116, 3));
+    assert!(rt; add(&rt, &mut builder, 115, 3));
+    assert!(rt; add(&rt, &mut builder, 116, 3));
+    let runs = finished(&rt, builder);
+    same(&rt, runs.list.len(), 58);
+    same(&rt, runs.run_of(115), Some(run(114, 3, 3)));
+}
+
+#[test]
+fn rows_2049_with_a_mask(rt: HostRuntime) {
+    let mut builder = built(&rt, &[run(0, 2048, 3)]);
+    assert!(rt; !add(&rt, &mut builder, 2048, 3));
+    assert!(rt; !add(&rt, &mut builder, 2049, 3));
+    assert!(rt; add_zeros(&rt, &mut builder, 2048, 1));
+    same(
+        &rt,
+        finished(&rt, builder).list.as_slice(),
+        &[run(0, 2048, 3), run(2048, 1, 0)],
+    );
+}
+
+#[test]
+fn held_sectors_4097(rt: HostRuntime) {
+    let mut builder = built(&rt, &[run(0, 1365, 7)]);
+    assert!(rt; !add(&rt, &mut builder, 1365, 3));
+    same(&rt, finished(&rt, builder).held(), 4095);
+}
+
+#[test]
+fn zeros_65536(rt: HostRuntime) {
+    let mut builder = built(&rt, &[run(0, 65_535, 0)]);
+    assert!(rt; !add_zeros(&rt, &mut builder, 65_535, 1));
+    assert!(rt; add_zeros(&rt, &mut builder, 65_536, 65_535));
+    same(
+        &rt,
+        finished(&rt, builder).list.as_slice(),
+        &[run(0, 65_535, 0), run(65_536, 65_535, 0)],
+    );
+}
+
+#[test]
+fn a_row_at_2_32(rt: HostRuntime) {
+    let mut builder = RunsBuilder::new();
+    assert!(rt; !add_zeros(&rt, &mut builder, 4_294_967_295, 2));
+    assert!(rt; add_zeros(&rt, &mut builder, 4_294_967_295, 1));
+    same(&rt, builder.end(), 4_294_967_296);
+}

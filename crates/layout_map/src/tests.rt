@@ -1,4 +1,6 @@
 //! Places that are worked out by hand, and the limits of a geometry.
+mod large;
+
 use super::*;
 use crate::testing::same;
 use sector_model::Refusal;

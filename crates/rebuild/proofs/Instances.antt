@@ -1,9 +1,10 @@
 -- Small cases that meet what replacing a device and a step of a rebuild promise.
-use Rattle.std.proofs.Common.{◌≡◌, inl, ℕ, ◌-◌, ◌<◌, true, false, Ok, Err, refl, sym, ◌∙◌, arith}
-use Rattle.std.proofs.Math.Nat.{zero-min}
+use Rattle.std.proofs.Common.{◌≡◌, inl, ℕ, ◌+◌, ◌-◌, ◌<◌, min, true, false, Ok, Err, refl, sym, ◌∙◌, arith}
+use Rattle.std.proofs.Math.Nat.{min-le_left}
 use Rattle.std.proofs.lemmas.Result.{IfErr-at_err, IfOk-at_ok}
 use Rattle.sector_model.specs.declared.refusal.Refusal.{Refusal}
 use Rattle.sector_model.specs.declared.refusal.Refusal.TheVariants.{NotMissing, NothingToRebuild}
+use Rattle.layout_map.specs.Formats.{rebuild_rows}
 use Rattle.array_io.specs.Believed.Holds.{row_count}
 use Rattle.superblock.specs.declared.state.State.TheVariants.{Missing}
 use Rattle.superblock.specs.NextTables.{slots_of}
@@ -58,8 +59,11 @@ no_step_is_refused honest rows array nothing = record {
   cause = λ refusal refused. IfErr-at_err (λ (r : Refusal). IsNoStep array array r) refused (nothing, λ member is. absurd (nothing member is));
 }
 
-no_rows : (all_rows position : ℕ) → position ≡ stepped all_rows 0 position
-no_rows all_rows position = omega (arith, zero-min (all_rows - position))
+no_rows : (most all_rows position : ℕ) → position ≡ stepped most all_rows 0 position
+no_rows most all_rows position = by_none (min 0 most) (omega (arith, min-le_left 0 most))
+  where
+    by_none : (step : ℕ) → step ≡ 0 → position ≡ position + min step (all_rows - position)
+    by_none step none = omega (arith, none, min-le_left step (all_rows - position))
 
 -- a step of no rows tells the position
 pub no_rows_tell_the_position : (honest : Type 0) (array : ArrayView) (member : ℕ) → IsRebuilding array.table member
@@ -68,8 +72,11 @@ no_rows_tell_the_position honest array member is = record {
   goes_on = goes_on_at_rest array;
   number = refl;
   others = λ other is_too. others_at_rest array other;
-  stepped = λ progress answered other is_too. IfOk-at_ok (λ (p : Progress). IsAfterStep array.table other 0 p array.table) answered
-      (no_rows (row_count array.table) array.table.position, array.table.allowed.position_below member is.state, inl (refl, refl));
+  stepped = λ progress answered other is_too. IfOk-at_ok (λ (p : Progress). IsAfterStep array.table other 0 p array.table) answered (
+    no_rows (rebuild_rows array.table.geometry.format) (row_count array.table) array.table.position,
+    array.table.allowed.position_below member is.state,
+    inl (refl, refl),
+  );
   has_member = λ progress answered nothing. nothing member is;
   refused = λ refusal same other is_too. inl refl;
   failure = λ fair open_still. none_failed array fair open_still;

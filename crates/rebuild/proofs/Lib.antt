@@ -12,3 +12,4 @@ pub mod RowsFilled
 pub mod RowsKept
 pub mod RowsWritten
 pub mod Stepped
+pub mod JoinedTable

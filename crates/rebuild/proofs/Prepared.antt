@@ -12,7 +12,8 @@ use Rattle.sector_model.specs.Readable.{readable}
 use Rattle.sector_model.proofs.Readable.{readable_up}
 use Rattle.sector_model.proofs.Sequences.{after_both, made_all, seen_writes}
 use Rattle.sector_model.proofs.Steps.{throughout_last, up_seen}
-use Rattle.layout_map.specs.declared.sizes.TheConstants.{BODY_SECTORS, FIRST_SEAL, HALVES, JOURNAL_SECTORS, SUPERBLOCK_PLACES}
+use Rattle.layout_map.specs.declared.sizes.TheConstants.{BODY_SECTORS, FIRST_SEAL, HALVES, SUPERBLOCK_PLACES}
+use Rattle.layout_map.specs.Formats.{journal_sectors}
 use Rattle.superblock.specs.declared.state.State.TheVariants.{Missing}
 use Rattle.superblock.specs.declared.table.Table.{Table}
 use Rattle.superblock.specs.Cases.{HasNone}
@@ -23,7 +24,7 @@ use Rattle.stripe_journal.specs.declared.seal.Seal.{Seal}
 use Rattle.stripe_journal.specs.Body.{place_by_seal, seal_place}
 use Rattle.stripe_journal.specs.Copying.{body_in, copy_calls}
 use Rattle.stripe_journal.specs.Entries.{body_start}
-use Rattle.stripe_journal.specs.Forms.{held_before, rank}
+use Rattle.stripe_journal.specs.Forms.{held_before, rank, rows_in}
 use Rattle.stripe_journal.specs.LastEntry.{Counts, IsGreatest, IsLastSealed}
 use Rattle.stripe_journal.specs.OneEntry.{IsOn, MayStandOn, Sealed, Writing}
 use Rattle.stripe_journal.proofs.Bodies.{is_placed}
@@ -100,7 +101,7 @@ none_copied spellings table source slot mid up cleared safe = record {
 
 module _ (spellings : Spellings) (table : Table) (source slot : ℕ) (seal : Seal) (mid new : History)
     (apart : source ≢ slot) (cleared : IsZeroBelow (FIRST_SEAL + HALVES) (seen mid slot))
-    (safe : IsSafe slot mid) (room : JOURNAL_SECTORS ≤ length (seen mid slot))
+    (safe : IsSafe slot mid) (room : journal_sectors table.geometry.format ≤ length (seen mid slot))
     (made : Made (copy_calls source slot seal (body_in table.geometry.members (seen mid source) seal)) true mid new)
     (last : IsGreatest table.id table.geometry (Some (seen mid source)) seal) where
   abbrev body : List Bytes
@@ -108,7 +109,7 @@ module _ (spellings : Spellings) (table : Table) (source slot : ℕ) (seal : Sea
 
   -- so many sectors does the entry hold
   abbrev held : ℕ
-  held = held_before table.geometry.members seal.form (length seal.rows.items)
+  held = held_before table.geometry.members seal.form (length (rows_in seal.form))
 
   long : length body ≡ held
   long = length-map-range_with_len (λ i. sector_of (seen mid source) (body_start seal.number + i)) 0 held
@@ -117,7 +118,7 @@ module _ (spellings : Spellings) (table : Table) (source slot : ℕ) (seal : Sea
   few = omega (
     arith,
     long,
-    before_few table.geometry.members seal.form (length seal.rows.items) table.geometry.limits.members_most
+    before_few table.geometry.members seal.form (length (rows_in seal.form)) table.geometry.limits.members_most
         seal.allowed.rows_most,
   )
 
@@ -131,11 +132,11 @@ module _ (spellings : Spellings) (table : Table) (source slot : ℕ) (seal : Sea
   }
 
   is_put : IsPutOn slot (seen mid slot) seal body Sealed new
-  is_put = (copy_put slot (seen mid slot) seal body source apart mid new few (λ up. room) begins made).1 refl
+  is_put = (copy_put slot (seen mid slot) seal body source apart table.geometry.format mid new few (λ up. room) begins made).1 refl
 
   source_same : seen new source ≡ seen mid source
   source_same = (throughout_last new
-      (copy_put slot (seen mid slot) seal body source apart mid new few (λ up. room) begins made).0).2.same
+      (copy_put slot (seen mid slot) seal body source apart table.geometry.format mid new few (λ up. room) begins made).0).2.same
 
   stands : (at : ℕ) → MayStandOn (seen mid slot) seal body Sealed at (sector_of (seen new slot) at)
   stands at = is_put.on.each at (sector_of (seen new slot) at) (up_seen new slot at is_put.up)
@@ -180,7 +181,7 @@ module _ (spellings : Spellings) (table : Table) (source slot : ℕ) (seal : Sea
       let at = is_placed members seal row member place found in
       let part = rank members seal.form at.i member in
       let within : part < held =
-      rank_before members seal.form at.i member (length seal.rows.items) at.held below at.within in
+      rank_before members seal.form at.i member (length (rows_in seal.form)) at.held below at.within in
       ap (λ (l : List Bytes). sector_of l place) source_same
       ∙ ap (sector_of (seen mid source)) at.place_is
       ∙ sym (get_or-map-range_with_len (λ k. sector_of (seen mid source) (body_start seal.number + k)) 0
@@ -205,7 +206,7 @@ module _ (spellings : Spellings) (table : Table) (source slot : ℕ) (seal : Sea
 -- What a copy of the last entry leaves.
 pub has_last : Spellings → (table : Table) (source slot : ℕ) (mid new : History) (last : Option Seal) → source ≢ slot
     → is_down mid slot ≡ false → IsZeroBelow (FIRST_SEAL + HALVES) (seen mid slot) → IsSafe slot mid
-    → JOURNAL_SECTORS ≤ length (seen mid slot)
+    → journal_sectors table.geometry.format ≤ length (seen mid slot)
     → Made (copy_of source slot table.geometry.members (seen mid source) last) true mid new
     → IsLastSealed table.id table.geometry (Some (seen mid source)) last → HasLast table source slot mid new last
 has_last spellings table source slot mid new None apart up cleared safe room made is =

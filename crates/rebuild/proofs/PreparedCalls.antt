@@ -12,7 +12,9 @@ use Rattle.sector_model.specs.History.{Bytes, History, is_down, seen}
 use Rattle.sector_model.specs.MemoryLaw.{length-seen}
 use Rattle.sector_model.proofs.Sequences.{sizes_after}
 use Rattle.sector_model.proofs.Steps.{throughout_last, throughout_more}
-use Rattle.layout_map.specs.declared.sizes.TheConstants.{FIRST_SEAL, HALVES, JOURNAL_SECTORS, SUPERBLOCK_PLACES}
+use Rattle.layout_map.specs.declared.sizes.TheConstants.{FIRST_SEAL, HALVES, SUPERBLOCK_PLACES}
+use Rattle.layout_map.specs.Formats.{journal_sectors}
+use Rattle.layout_map.proofs.Places.{journal_least as bodies_least}
 use Rattle.superblock.specs.declared.state.State.TheVariants.{Missing}
 use Rattle.superblock.specs.declared.table.Table.{Table}
 use Rattle.superblock.specs.Cases.{Lost}
@@ -240,7 +242,7 @@ member_has spellings honest table slot old_panel new_panel old new result member
 module _ (spellings : Spellings) (honest : Type 0) (table : Table) (slot : ℕ) (old_panel new_panel : Panel)
     (old new : History) (result : Result (Unit {0}) Stop)
     (beyond : table.geometry.members ≤ slot) (of_set : slot < slots_of table)
-    (missing : state_at table.states slot ≡ Missing) (room : JOURNAL_SECTORS ≤ old_panel.sectors slot)
+    (missing : state_at table.states slot ≡ Missing) (room : journal_sectors table.geometry.format ≤ old_panel.sectors slot)
     (true_old : honest → IsTrueTo old_panel old)
     (has : PreparesJournal honest table slot old_panel new_panel old new result) where
   abbrev source : ℕ
@@ -283,13 +285,13 @@ module _ (spellings : Spellings) (honest : Type 0) (table : Table) (slot : ℕ) 
     is_last = subst (λ (disk : List Bytes). IsLastSealed table.id table.geometry (Some disk) copies.last)
         same_source (copies.is_last done)
 
-    long : JOURNAL_SECTORS ≤ length (seen old slot)
-    long = has_room old_panel old slot JOURNAL_SECTORS (true_old fair) room
+    long : journal_sectors table.geometry.format ≤ length (seen old slot)
+    long = has_room old_panel old slot (journal_sectors table.geometry.format) (true_old fair) room
 
     the_last : HasLast table source slot mid new copies.last
     the_last = has_last spellings table source slot mid new copies.last has.beside.apart
         (flushed_is_up slot (writes_from slot 0 (zeros (FIRST_SEAL + HALVES))) cleared)
-        (front_cleared slot (FIRST_SEAL + HALVES) (after_all seals old) mid (omega (arith, long)) cleared)
+        (front_cleared slot (FIRST_SEAL + HALVES) (after_all seals old) mid (omega (arith, long, bodies_least table.geometry.format)) cleared)
         (all_flushed slot (writes_from slot 0 (zeros (FIRST_SEAL + HALVES))) cleared)
         (omega (arith, long, sizes_after (clear_calls slot (FIRST_SEAL + HALVES)) (after_all seals old) slot))
         (subst Copies same_source parts.1) is_last

@@ -16,7 +16,8 @@ use Rattle.sector_model.proofs.Panels.{later_both, later_same}
 use Rattle.sector_model.proofs.Reading.{seen_read}
 use Rattle.sector_model.proofs.Sequences.{made_all, made_none, made_stop, made_then, seen_elsewhere, seen_written}
 use Rattle.sector_model.proofs.Steps.{throughout_last, throughout_more, throughout_on}
-use Rattle.layout_map.specs.declared.sizes.TheConstants.{FIRST_ROW, JOURNAL_SECTORS, SUPERBLOCK_PLACES}
+use Rattle.layout_map.specs.declared.sizes.TheConstants.{FIRST_ROW, SUPERBLOCK_PLACES}
+use Rattle.layout_map.specs.Formats.{journal_sectors}
 use Rattle.superblock.specs.declared.state.State.TheVariants.{Missing, Rebuilding}
 use Rattle.superblock.specs.declared.table.Table.{Table}
 use Rattle.superblock.specs.Tables.{state_at}
@@ -336,7 +337,7 @@ row_room table member row end panel can within up =
       arith,
       can.its_slots.fit member (omega (arith, can.of_members)) (λ missing. none_differ (sym can.rebuilding
           ∙ missing)) up,
-      cond_below member table.geometry.members (FIRST_ROW + row_count table) JOURNAL_SECTORS can.of_members,
+      cond_below member table.geometry.members (FIRST_ROW + row_count table) (journal_sectors table.geometry.format) can.of_members,
       within,
       can.most,
     )

@@ -38,7 +38,7 @@ use Rattle.array_io.proofs.Rest.SettledAgain.{lost_stays}
 use Rattle.rebuild.proofs.JoinedLast.{others_stay}
 use Rattle.rebuild.specs.Joining.{IsTableAfter, MayJoin, PublishesLast}
 use Rattle.rebuild.specs.Rebuilding.{Complete, IsAfterStep, IsNoStep, IsRebuilding, IsSteppedOn, IsSteppedOrNot, OthersKeepTheirs, Position, Progress}
-use Rattle.rebuild.specs.Rebuilding.{StepsRebuild, stepped}
+use Rattle.rebuild.specs.Rebuilding.{StepsRebuild, end_of_step}
 use Rattle.rebuild.specs.RowsWritten.{HasRowsOf, WritesRows}
 use Rattle.rebuild.specs.declared.progress.Progress as declared
 use Rattle.rebuild.specs.Stepping.{IsNextAt, IsProgressAt, progress_by}
@@ -164,7 +164,7 @@ written_may_join devices table next member end h is ordered to up rows = record 
 -- the parts
 
 abbrev IsWithin : ArrayView → ℕ → ℕ → ℕ → Type 0
-IsWithin old member end rows = (old.table.position < end) × (end ≡ stepped (row_count old.table) rows old.table.position) × (1 ≤ rows)
+IsWithin old member end rows = (old.table.position < end) × (end ≡ end_of_step old.table rows) × (1 ≤ rows)
 
 no_member : {P : Type 0} (table : Table) (member : ℕ) → IsRebuilding table member → ((other : ℕ) → ¬ IsRebuilding table other) → P
 no_member table member is none = absurd (none member is)

@@ -3,6 +3,8 @@ use Rattle.std.specs.Prelude.{◌≡◌, ◌≢◌, ◌⊎◌, ℕ, ◌+◌, ◌
 use Rattle.sector_model.specs.declared.refusal.Refusal.{Refusal}
 use Rattle.sector_model.specs.declared.refusal.Refusal.TheVariants.{NotMissing, NothingToRebuild, NotUsable, TwoLost, Worn}
 use Rattle.sector_model.specs.declared.calls.TheConstants.{GREATEST_COUNT}
+use Rattle.layout_map.specs.declared.sizes.TheConstants.{REBUILD_ROWS}
+use Rattle.layout_map.specs.Formats.{rebuild_rows}
 use Rattle.superblock.specs.declared.state.State.TheVariants.{Missing, Rebuilding}
 use Rattle.superblock.specs.declared.table.Table.{Table}
 use Rattle.superblock.specs.Tables.{incarnation_at, state_at}
@@ -11,20 +13,27 @@ use Rattle.superblock.specs.NextTables.{IsJoined, IsMarked, IsMoved, IsRebuilt, 
 use Rattle.array_io.specs.Believed.Holds.{row_count}
 use Rattle.array_io.specs.Believed.ArrayCalls.{Answer, KeepsTheList}
 use Rattle.array_io.specs.Believed.Views.{ArrayView, DeviceFailed, GoesOn, HasEnded, IsEndOf, KeepsItsState}
-use Rattle.rebuild.specs.declared.stepping.TheConstants.{MOST_ROWS}
 
 -- how far a rebuild is: the rows below this position are done, or all are
 pub data Progress : Type 0 where
   Position : ℕ → Progress
   Complete : Progress
 
--- the position after a step of so many rows: `MOST_ROWS` at most, and none past the last
-abbrev pub stepped : ℕ → ℕ → ℕ → ℕ
-stepped all_rows rows position = position + min (min rows MOST_ROWS) (all_rows - position)
+-- the position after a step of so many rows: at most as many as a step may have, and none past the last
+abbrev pub stepped : (most all_rows rows position : ℕ) → ℕ
+stepped most all_rows rows position = position + min (min rows most) (all_rows - position)
 
--- how many steps of `MOST_ROWS` rows are left at this position of so many rows, the last counting where it is not full
+-- the same by a set's table, whose format says how many rows a step may have
+abbrev pub end_of_step : Table → (rows : ℕ) → ℕ
+end_of_step table rows = stepped (rebuild_rows table.geometry.format) (row_count table) rows table.position
+
+-- how many steps of so many rows each are left at this position of all rows, the last counting where it is not full
+abbrev pub steps_left_of : (each position rows : ℕ) → ℕ
+steps_left_of each position rows = (rows - position + (each - 1)) / each
+
+-- how many are left in a set of format 1
 abbrev pub steps_left : (position rows : ℕ) → ℕ
-steps_left position rows = (rows - position + (MOST_ROWS - 1)) / MOST_ROWS
+steps_left position rows = steps_left_of REBUILD_ROWS position rows
 
 -- the slots but one keep their states, unless their devices are down
 abbrev pub OthersKeepTheirs : ArrayView → ArrayView → ℕ → Type 0
@@ -93,20 +102,21 @@ IsNoStep old new refusal = ⊥
 -- the table after a step: the same where no row was to be done, else with the new position, or with the member in sync where that is the last
 abbrev pub IsAfterStep : (old : Table) → (member rows : ℕ) → Progress → (new : Table) → Type 0
 IsAfterStep old member rows (Position q) new =
-    (q ≡ stepped (row_count old) rows old.position) × (q < row_count old) × (((rows ≡ 0) × (new ≡ old)) ⊎ ((1 ≤ rows) × IsMoved old q new))
-IsAfterStep old member rows Complete new = (stepped (row_count old) rows old.position ≡ row_count old) × IsRebuilt old member new
+    (q ≡ end_of_step old rows) × (q < row_count old) × (((rows ≡ 0) × (new ≡ old)) ⊎ ((1 ≤ rows) × IsMoved old q new))
+IsAfterStep old member rows Complete new = (end_of_step old rows ≡ row_count old) × IsRebuilt old member new
 
 -- the table with the step done: the new position, or the member in sync where that is after the last row
 abbrev pub IsSteppedOn : (old : Table) → (member rows : ℕ) → (new : Table) → Type 0
-IsSteppedOn old member rows new = ((stepped (row_count old) rows old.position < row_count old) × IsMoved old (stepped (row_count old) rows old.position) new)
-    ⊎ ((stepped (row_count old) rows old.position ≡ row_count old) × IsRebuilt old member new)
+IsSteppedOn old member rows new = ((end_of_step old rows < row_count old) × IsMoved old (end_of_step old rows) new)
+    ⊎ ((end_of_step old rows ≡ row_count old) × IsRebuilt old member new)
 
 -- The table where a step was refused: the old one, or with the step done; or one of these with the member missing.
 abbrev pub IsSteppedOrNot : (old : Table) → (member rows : ℕ) → (new : Table) → Type 0
 IsSteppedOrNot old member rows new = (new ≡ old) ⊎ IsSteppedOn old member rows new ⊎ IsMarked old member new
     ⊎ ((mid : Table) × IsSteppedOn old member rows mid × IsMarked mid member new)
 
--- `rebuild_step(array, rows)`: so many rows of the rebuilding member, `MOST_ROWS` at most, are written before the position is published. 12, 15, 16.
+-- `rebuild_step(array, rows)`: so many rows of the rebuilding member, at most as many as a step may have, are written before the position is published.
+-- 12, 15, 16.
 pub record StepsRebuild (honest : Type 0) (rows : ℕ) (old new : ArrayView) (answer : Result Progress Refusal) : Type 0 where
   pub goes_on : GoesOn old new
   pub number : new.number ≡ old.number

@@ -2,7 +2,7 @@
 ghost use Rattle.std.specs.Prelude.{◌≡◌, ◌⊎◌, ◌≤◌, ◌<◌, ◌-◌, ◌↔◌, ℕ, false, is_ok, IfErr, OnOk};
 ghost use Rattle.sector_model.specs.Bank.{IsCauseOf, IsLater};
 ghost use Rattle.sector_model.specs.Calls.{Made, writes_from};
-ghost use Rattle.layout_map.specs.declared.sizes.TheConstants.{JOURNAL_SECTORS};
+ghost use Rattle.layout_map.specs.Formats.{journal_sectors};
 ghost use Rattle.superblock.specs.Counted.{least_sectors};
 ghost use Rattle.superblock.specs.NextTables.{slots_of};
 ghost use Rattle.superblock.specs.Tables.{state_at};
@@ -47,7 +47,7 @@ fn prepare_journal<B: Bank>(bank: &mut B, table: &Table, journal: u8) -> Result<
     requires of_set { journal < slots_of table.now }
     requires missing { state_at table.now.states journal ≡ State.Missing }
     requires its_slots { HasItsSlots table.now (B.panel bank.old) }
-    requires room { JOURNAL_SECTORS ≤ (B.panel bank.old).sectors journal }
+    requires room { journal_sectors table.now.geometry.format ≤ (B.panel bank.old).sectors journal }
     ensures honest { B.honest bank.old ↔ B.honest bank.new }
     ensures prepares { PreparesJournal (B.honest bank.old) table.now journal (B.panel bank.old) (B.panel bank.new)
         (B.history bank.old) (B.history bank.new) result }

@@ -4,23 +4,21 @@ ghost use Rattle.sector_model.specs.declared.calls.TheConstants.{GREATEST_COUNT}
 ghost use Rattle.layout_map.specs.Placement.{rows_of};
 ghost use Rattle.array_io.specs.Believed.Holds.{row_count};
 ghost use Rattle.array_io.specs.Believed.OpenArray.{IsHonest, array_view};
-ghost use Rattle.rebuild.specs.Rebuilding.{IsRebuilding, StepsRebuild, stepped, steps_left as left_of};
+ghost use Rattle.rebuild.specs.Rebuilding.{IsRebuilding, StepsRebuild, end_of_step};
+ghost use Rattle.rebuild.specs.Rebuilding.{steps_left as left_of, steps_left_of as left_by};
 ghost use Rattle.rebuild.specs.Stepping.{IsNextAt, IsProgressAt, answer_by};
 
 use crate::Progress;
 use crate::joining::{moved, publish_last, rebuilt};
 use crate::rows::write_rows;
 use array_io::Array;
-use layout_map::Geometry;
+use layout_map::{Geometry, REBUILD_ROWS};
 use sector_model::{Bank, GREATEST_COUNT, Refusal};
 use superblock::{State, Table};
 
-/// The most rows of a step.
-pub const MOST_ROWS: u64 = 64;
-
-/// Rebuilds the next rows of the member that is rebuilding: so many, `MOST_ROWS` at most, and none past the last. They
-/// are written from the other members' sectors and flushed, and only then the new position is published, or, after the
-/// last row, that the member is in sync (`Complete`). A step of 0 rows changes nothing.
+/// Rebuilds the next rows of the member that is rebuilding: so many, at most the 64, or in format 2 4,096, of a step,
+/// and none past the last. They are written from the other members' sectors and flushed, and only then the new position
+/// is published, or, after the last row, that the member is in sync (`Complete`). A step of 0 rows changes nothing.
 ///
 /// Refused with `NothingToRebuild` where no member is rebuilding, or the one that is goes down in the call and is then
 /// missing; with `TwoLost` where another device goes down; and with `Worn` where the count of device calls, or the
@@ -34,19 +32,28 @@ pub fn rebuild_step<B: Bank>(array: &mut Array<B>, rows: u64) -> Result<Progress
         return Err(Refusal::NothingToRebuild);
     };
     let from = array.table.position;
-    let end = from + rows.min(MOST_ROWS).min(array.table.geometry.rows() - from);
+    let most = array.table.geometry.format.rebuild_rows();
+    let end = from + rows.min(most).min(array.table.geometry.rows() - from);
     if end == from {
         return Ok(Progress::Position(from));
     }
     step_to(array, member, end)
 }
 
-/// How many steps of `MOST_ROWS` rows a rebuild takes from this position on, of so many rows: the last counts where it
-/// is not full, and at the end, or past it, none is left.
+/// How many steps of 64 rows a rebuild of a set of format 1 takes from this position on, of so many rows: the last
+/// counts where it is not full, and at the end, or past it, none is left.
 pub fn steps_left(position: u64, rows: u64) -> u64
     ensures { result ≡ left_of position rows }
 {
-    rows.saturating_sub(position).div_ceil(MOST_ROWS)
+    steps_left_of(REBUILD_ROWS, position, rows)
+}
+
+/// The same by steps of so many rows each, 1 at least (condition): what `rebuild_rows` says of a set's format.
+pub fn steps_left_of(each: u64, position: u64, rows: u64) -> u64
+    requires { 1 ≤ each }
+    ensures { result ≡ left_by each position rows }
+{
+    rows.saturating_sub(position).div_ceil(each)
 }
 
 // Rebuilds the member's rows up to this one, which is past the position.
@@ -55,7 +62,7 @@ fn step_to<B: Bank>(array: &mut Array<B>, member: u8, end: u64) -> Result<Progre
     requires further { array.old.table.position < end }
     requires of_set { end ≤ row_count array.old.table }
     ensures honest { IsHonest array.old ↔ IsHonest array.new }
-    ensures steps { (rows : ℕ) → end ≡ stepped (row_count array.old.table) rows array.old.table.position → 1 ≤ rows
+    ensures steps { (rows : ℕ) → end ≡ end_of_step array.old.table rows → 1 ≤ rows
         → StepsRebuild (IsHonest array.old) rows (array_view array.old) (array_view array.new) (answer_by result) }
 {
     if array.table.generation >= GREATEST_COUNT {

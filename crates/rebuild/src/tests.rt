@@ -5,7 +5,7 @@ ghost use Rattle.std.specs.Prelude.{◌≡◌, ◌≤◌, ◌<◌, false};
 ghost use Rattle.array_io.specs.Believed.Views.{HasItsSlots};
 ghost use Rattle.superblock.specs.Counted.{least_sectors};
 
-use crate::{Progress, rebuild_step, replace, steps_left};
+use crate::{Progress, rebuild_step, replace, steps_left, steps_left_of};
 use array_io::Array;
 use array_io::oracle::row_sources_in;
 use sector_model::{Bank, Choice, Image, MemBank, Plan, Refusal, Sector};
@@ -394,4 +394,13 @@ fn steps_left_values(rt: HostRuntime) {
     same(&rt, steps_left(64, 256), 3);
     same(&rt, steps_left(255, 256), 1);
     same(&rt, steps_left(256, 256), 0);
+}
+
+// Steps of 4,096 rows, of a set of 256 rows and of the one with most.
+#[test]
+fn large_steps_left(rt: HostRuntime) {
+    same(&rt, steps_left_of(4_096, 0, 256), 1);
+    same(&rt, steps_left_of(4_096, 0, 4_294_967_280), 1_048_576);
+    same(&rt, steps_left_of(4_096, 4_294_963_183, 4_294_967_280), 2);
+    same(&rt, steps_left_of(4_096, 4_294_963_184, 4_294_967_280), 1);
 }

@@ -1,5 +1,5 @@
 -- What assembling promises by which slots were out: one of them, or none, and then the superblocks are brought up.
-use Rattle.std.proofs.Common.{◌≡◌, ◌≢◌, inl, inr, ℕ, ◌+◌, ◌<◌, ◌≤◌, Bool, true, false, cond, nat_lt, List, Option, None, Result, Ok, Err, refl, sym, ◌∙◌, subst}
+use Rattle.std.proofs.Common.{◌≡◌, ◌≢◌, inl, inr, ℕ, ◌<◌, ◌≤◌, true, false, List, Option, None, Result, Ok, Err, refl, sym, ◌∙◌, subst}
 use Rattle.std.proofs.Common.{arith}
 use Rattle.sector_model.specs.declared.refusal.Refusal.TheVariants.{Worn}
 use Rattle.sector_model.specs.declared.sector.Stop.{Stop}
@@ -11,9 +11,6 @@ use Rattle.sector_model.specs.Readable.{readable}
 use Rattle.sector_model.proofs.Panels.{later_both, later_same}
 use Rattle.sector_model.proofs.Readable.{readable_left}
 use Rattle.sector_model.proofs.Steps.{throughout_last, throughout_more, throughout_on}
-use Rattle.layout_map.specs.declared.sizes.TheConstants.{FIRST_ROW, JOURNAL_SECTORS, SUPERBLOCK_PLACES}
-use Rattle.layout_map.specs.declared.geometry.Geometry.{Geometry}
-use Rattle.layout_map.specs.Placement.{rows_of}
 use Rattle.superblock.specs.declared.state.State.TheVariants.{Missing}
 use Rattle.superblock.specs.declared.table.Table.{Table}
 use Rattle.superblock.specs.Tables.{state_at}
@@ -26,6 +23,7 @@ use Rattle.array_io.specs.Steps.CallSteps.{StaysDown}
 use Rattle.array_io.specs.Believed.Moments.{HoldsThroughout}
 use Rattle.array_io.specs.Believed.Settled.{IsAllThere}
 use Rattle.array_io.specs.Believed.Views.{HasItsSlots, view_of}
+use Rattle.array_io.proofs.Marks.MarkMissing.{least_two}
 use Rattle.array_io.proofs.Marks.MarkedWhole.{out_is_lost}
 use Rattle.array_io.proofs.Marks.MarkingMoments.{calls_grow}
 use Rattle.array_io.proofs.Images.Spellings.{Spellings}
@@ -98,13 +96,6 @@ its_slots honest mid table panel room later there = record {
   of_bank = omega (arith, room, later.devices);
   fit = λ slot of_set counted up. subst (λ (n : ℕ). least_sectors table.geometry slot ≤ n) (sym (later.sectors slot)) (there slot of_set counted).long_enough;
 }
-
-least_two : (geometry : Geometry) (slot : ℕ) → SUPERBLOCK_PLACES ≤ least_sectors geometry slot
-least_two geometry slot = by_case (nat_lt slot geometry.members)
-  where
-    by_case : (is_member : Bool) → SUPERBLOCK_PLACES ≤ cond is_member (FIRST_ROW + rows_of geometry.chunk geometry.stripes) JOURNAL_SECTORS
-    by_case true = omega arith
-    by_case false = omega arith
 
 -- so superblocks of the table may be written
 pub can_bring : (honest : Type 0) (mid : BankView) (table : Table) → slots_of table ≤ mid.panel.devices → IsOutOf honest mid table out.Nobody

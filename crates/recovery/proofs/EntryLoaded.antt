@@ -14,7 +14,7 @@ use Rattle.superblock.specs.NextTables.{IsMarked}
 use Rattle.stripe_journal.specs.declared.entry.Entry.{Entry}
 use Rattle.stripe_journal.specs.declared.seal.Seal.{Seal}
 use Rattle.stripe_journal.specs.Entries.{body_of, body_start, form_of, numbers_of, sector_at}
-use Rattle.stripe_journal.specs.Forms.{holds, rank}
+use Rattle.stripe_journal.specs.Forms.{holds, rank, rows_in}
 use Rattle.array_io.specs.Believed.ArrayCalls.{Answer}
 use Rattle.array_io.specs.Believed.Views.{ArrayView, HasItsSlots, view_of}
 use Rattle.array_io.specs.Steps.Putting.{Copied, HoldsAll, IfSingleFailure, IsComing, IsPut}
@@ -41,10 +41,10 @@ module _ (spellings : Spellings) (honest : Type 0) (latest : Latest) (number : �
 
   -- it is in memory
   module _ (entry : Entry) (body_is : body ≡ body_of table.geometry.members entry) (result : Result (Unit {0}) Stop) (done : Unit {0}) (ok : result ≡ Ok done)
-      (numbers : OnOk result (numbers_of entry ≡ latest.seal.rows.items))
-      (held : (i member : ℕ) → i < length latest.seal.rows.items → member < table.geometry.members
+      (numbers : OnOk result (numbers_of entry ≡ rows_in latest.seal.form))
+      (held : (i member : ℕ) → i < length (rows_in latest.seal.form) → member < table.geometry.members
       → OnOk result (holds table.geometry.members (form_of entry) i member ≡ holds table.geometry.members latest.seal.form i member))
-      (loaded : (i member : ℕ) → honest → i < length latest.seal.rows.items → member < table.geometry.members
+      (loaded : (i member : ℕ) → honest → i < length (rows_in latest.seal.form) → member < table.geometry.members
       → holds table.geometry.members latest.seal.form i member ≡ true
       → OnOk result (sector_at entry i member ≡ sector_of (seen old latest.source)
       (body_start latest.seal.number + rank table.geometry.members latest.seal.form i member)))

@@ -1,5 +1,5 @@
 -- Small cases that meet what making a set and assembling one promise.
-use Rattle.std.proofs.Common.{◌≡◌, ◌≢◌, inl, inr, ℕ, zero, suc, ◌+◌, ◌*◌, ◌-◌, ◌^◌, ◌<◌, ◌≤◌, min, nat_lt, Bool, true, false, cond, List, [], ◌∷◌, length}
+use Rattle.std.proofs.Common.{◌≡◌, ◌≢◌, inl, inr, ℕ, zero, suc, ◌+◌, ◌-◌, ◌^◌, ◌<◌, ◌≤◌, min, Bool, true, false, cond, List, [], ◌∷◌, length}
 use Rattle.std.proofs.Common.{Option, Some, None, refl, sym, ◌∙◌, ap, subst, arith}
 use Rattle.std.specs.Prelude.{Contains, Result, Ok, Err}
 use Rattle.std.proofs.lemmas.Bool.{cases_lt}
@@ -16,10 +16,7 @@ use Rattle.sector_model.proofs.Readable.{readable_began, readable_left}
 use Rattle.sector_model.proofs.Panels.{later_same}
 use Rattle.sector_model.proofs.Reading.{read_none}
 use Rattle.sector_model.proofs.Steps.{throughout_cut}
-use Rattle.layout_map.specs.declared.sizes.TheConstants.{FIRST_ROW, JOURNAL_SECTORS}
 use Rattle.layout_map.specs.declared.geometry.Geometry.{Geometry}
-use Rattle.layout_map.specs.Placement.{rows_of}
-use Rattle.layout_map.proofs.Places.{chunk_most}
 use Rattle.superblock.specs.declared.state.State.{State}
 use Rattle.superblock.specs.declared.state.State.TheVariants.{Missing, Rebuilding}
 use Rattle.superblock.specs.declared.table.Table.{Table}
@@ -41,6 +38,7 @@ use Rattle.array_io.proofs.Images.Codecs.{spellings}
 use Rattle.array_io.proofs.Laws.Fresh.{fresh_live, fresh_set_holds, in_sync_not_rebuilding}
 use Rattle.array_io.proofs.Laws.FromCore.{holds_from_core}
 use Rattle.array_io.proofs.Laws.SettledBegins.{settled_begins}
+use Rattle.recovery.proofs.SurveyedOut.{least_fits}
 use Rattle.recovery.specs.Assembling.{Assembles, HasStatesOf, IsNoAssembly, IsOfAssembly, MayAssemble, OpensOnOne}
 use Rattle.recovery.specs.Making.{BankView, FindsTable, IsCarried, IsFirstTable, IsNoMake, Makes, Opened, Outcome, Returned}
 
@@ -66,20 +64,6 @@ not_opened A bank refusal array is = absurd (subst (OnOpened (λ a. ⊥)) is tt)
 not_returned : (A : Type 0) (array : ArrayView) (bank : BankView) (refusal : Refusal) → Opened array ≡ Returned bank refusal → A
 not_returned A array bank refusal is = absurd (subst (OnReturned (λ b r. ⊥)) is tt)
 
--- a slot needs fewer sectors than a panel can show
-small_rows : (chunk stripes : ℕ) → chunk ≤ 128 → stripes ≤ 65536 → stripes * chunk ≤ 65536 * 128
-small_rows chunk stripes small few = grind (arith)
-
-least_is_small : (geometry : Geometry) (slot : ℕ) → least_sectors geometry slot ≤ 2 ^ 32 - 1
-least_is_small geometry slot = by_place (nat_lt slot geometry.members)
-  where
-    rows : geometry.stripes * geometry.chunk ≤ 65536 * 128
-    rows = small_rows geometry.chunk geometry.stripes (chunk_most geometry.limits) geometry.limits.stripes_most
-
-    by_place : (b : Bool) → cond b (FIRST_ROW + rows_of geometry.chunk geometry.stripes) JOURNAL_SECTORS ≤ 2 ^ 32 - 1
-    by_place true = omega (arith, rows)
-    by_place false = omega arith
-
 -- a bank with nothing but a set that was just made
 abbrev fresh_bank : Panel → Slots → BankView
 fresh_bank panel image = record { panel = panel; history = Began image }
@@ -97,7 +81,7 @@ fresh_slots panel image table fresh true_to = record {
   of_bank = fresh.has_slots;
   fit = λ slot of_set counted up. subst (λ (n : ℕ). least_sectors table.geometry slot ≤ n) (sym (true_to.sectors slot))
       (both_most (least_sectors table.geometry slot) (length (disk_of (image slot))) (2 ^ 32 - 1) (fresh.long_enough slot of_set)
-      (least_is_small table.geometry slot));
+      (omega (arith, least_fits table.geometry slot)));
 }
   where
     both_most : (n a b : ℕ) → n ≤ a → n ≤ b → n ≤ min a b
@@ -141,7 +125,7 @@ makes_none honest id geometry bank refusal because = record {
 -- so where the bank has too few slots
 pub makes_none_of_few : (honest : Type 0) (id : List ℕ) (geometry : Geometry) (bank : BankView) → bank.panel.devices < geometry.members + 2
     → Makes honest id geometry bank (Returned bank BadGeometry)
-makes_none_of_few honest id geometry bank few = makes_none honest id geometry bank BadGeometry few
+makes_none_of_few honest id geometry bank few = makes_none honest id geometry bank BadGeometry (inr few)
 
 -- where a slot of the set is down
 pub makes_none_of_down : (honest : Type 0) (id : List ℕ) (geometry : Geometry) (bank : BankView) (slot : ℕ) → slot < geometry.members + 2

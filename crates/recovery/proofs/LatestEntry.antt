@@ -19,7 +19,7 @@ use Rattle.stripe_journal.specs.declared.form.Form.{Form}
 use Rattle.stripe_journal.specs.declared.seal.Seal.{Seal}
 use Rattle.stripe_journal.specs.Copying.{body_in}
 use Rattle.stripe_journal.specs.Entries.{body_of, body_start, form_of, sector_at}
-use Rattle.stripe_journal.specs.Forms.{count_held, held_before, holds, rank}
+use Rattle.stripe_journal.specs.Forms.{count_held, held_before, holds, rank, rows_in}
 use Rattle.stripe_journal.specs.LastEntry.{IsGreatest, IsLastSealed, number_of, sector_in}
 use Rattle.stripe_journal.specs.OneEntry.{HasThisEntry, IsNextOn}
 use Rattle.stripe_journal.specs.Seals.{row_at}
@@ -82,7 +82,7 @@ place_of members form (suc i) k inside = elim (cases_lt k (held_before members f
 
 -- the body of a seal's entry, sector by sector
 abbrev size : (members : ℕ) → Seal → ℕ
-size members seal = held_before members seal.form (length seal.rows.items)
+size members seal = held_before members seal.form (length (rows_in seal.form))
 
 length-body_in : (members : ℕ) (disk : List Bytes) (seal : Seal) → length (body_in members disk seal) ≡ size members seal
 length-body_in members disk seal = length-map-range_with_len (λ i. sector_of disk (body_start seal.number + i)) 0 (size members seal)
@@ -94,7 +94,7 @@ body_in_at members disk seal k below = get_or-map-range_with_len (λ i. sector_o
 
 -- the entry in memory, whose sectors are those of a journal, has the body that reads of it give
 pub body_loaded : (members : ℕ) (entry : Entry) (disk : List Bytes) (seal : Seal) → members ≤ MOST_MEMBERS → IsEntryOf members seal entry
-    → ((i member : ℕ) → i < length seal.rows.items → member < members → holds members seal.form i member ≡ true
+    → ((i member : ℕ) → i < length (rows_in seal.form) → member < members → holds members seal.form i member ≡ true
     → sector_at entry i member ≡ sector_of disk (body_start seal.number + rank members seal.form i member))
     → body_of members entry ≡ body_in members disk seal
 body_loaded members entry disk seal few is loaded =
@@ -103,7 +103,7 @@ body_loaded members entry disk seal few is loaded =
   where
     each : (k : ℕ) → k < size members seal → slice_index_or (body_of members entry) k [] ≡ sector_of disk (body_start seal.number + k)
     each k below =
-        let at : IsPlaceOf members seal.form (length seal.rows.items) k = place_of members seal.form (length seal.rows.items) k below in
+        let at : IsPlaceOf members seal.form (length (rows_in seal.form)) k = place_of members seal.form (length (rows_in seal.form)) k below in
         let same : rank members (form_of entry) at.row at.member ≡ rank members seal.form at.row at.member =
         rank_of_seal members seal entry few is at.row at.member at.of_rows at.of_members in
         ap (λ (n : ℕ). slice_index_or (body_of members entry) n []) (sym (same ∙ at.is))
@@ -125,18 +125,19 @@ same_sector : (members : ℕ) (first second : List Bytes) (seal : Seal) → Have
     → k < size members seal
     → sector_of second (body_start seal.number + k) ≡ sector_of first (body_start seal.number + k)
 same_sector members first second seal equal k below =
-    sym (at_place second) ∙ same_Some (stands second) (stands first) (sym (found second) ∙ sym (equal (row_at seal.rows.items at.row) at.member at.of_members)
+    sym (at_place second) ∙ same_Some (stands second) (stands first)
+    (sym (found second) ∙ sym (equal (row_at (rows_in seal.form) at.row) at.member at.of_members)
     ∙ found first) ∙ at_place first
   where
-    at : IsPlaceOf members seal.form (length seal.rows.items) k
-    at = place_of members seal.form (length seal.rows.items) k below
+    at : IsPlaceOf members seal.form (length (rows_in seal.form)) k
+    at = place_of members seal.form (length (rows_in seal.form)) k below
 
     stands : List Bytes → Bytes
     stands disk = sector_of disk (body_start seal.number + rank members seal.form at.row at.member)
 
-    found : (disk : List Bytes) → sector_in members (Some disk) seal (row_at seal.rows.items at.row) at.member ≡ Some (stands disk)
-    found disk = sector_held members (Some disk) seal (row_at seal.rows.items at.row) at.row at.member
-        (place_of_row seal.rows.items at.row seal.allowed.rising at.of_rows) at.held
+    found : (disk : List Bytes) → sector_in members (Some disk) seal (row_at (rows_in seal.form) at.row) at.member ≡ Some (stands disk)
+    found disk = sector_held members (Some disk) seal (row_at (rows_in seal.form) at.row) at.row at.member
+        (place_of_row (rows_in seal.form) at.row seal.allowed.rising at.of_rows) at.held
 
     at_place : (disk : List Bytes) → stands disk ≡ sector_of disk (body_start seal.number + k)
     at_place disk = ap (λ (n : ℕ). sector_of disk (body_start seal.number + n)) at.is

@@ -8,7 +8,7 @@ use Rattle.sector_model.specs.MemoryLaw.{length-seen}
 use Rattle.sector_model.specs.Readable.{readable}
 use Rattle.sector_model.proofs.Readable.{readable_up}
 use Rattle.layout_map.specs.declared.geometry.Geometry.{Geometry}
-use Rattle.layout_map.proofs.Places.{rows_most}
+use Rattle.layout_map.proofs.Places.{journal_most, rows_most}
 use Rattle.superblock.specs.declared.state.State.TheVariants.{InSync, Missing}
 use Rattle.superblock.specs.declared.table.Table.{Table}
 use Rattle.superblock.specs.Counted.{Content, HasIncarnation, least_sectors}
@@ -53,7 +53,7 @@ dead_down honest bank table slot is_honest down fair live =
 pub least_fits : (geometry : Geometry) (slot : ℕ) → least_sectors geometry slot < 2 ^ 32
 least_fits geometry slot = elim (cases_lt slot geometry.members) [
   | inl member ↦ omega (arith, member_least geometry slot member, rows_most geometry.limits)
-  | inr journal ↦ omega (arith, journal_least geometry slot journal)
+  | inr journal ↦ omega (arith, journal_least geometry slot journal, journal_most geometry.format)
 ]
 
 -- it is too short

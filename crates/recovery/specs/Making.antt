@@ -1,5 +1,5 @@
 -- What making a set and finding its table promise.
-use Rattle.std.specs.Prelude.{◌≡◌, ◌⊎◌, ℕ, ◌+◌, ◌<◌, ◌≤◌, true, false, List, Option, Some, None, Result, Ok, Err}
+use Rattle.std.specs.Prelude.{◌≡◌, ◌≢◌, ◌⊎◌, ℕ, ◌+◌, ◌<◌, ◌≤◌, true, false, List, Option, Some, None, Result, Ok, Err}
 use Rattle.sector_model.specs.declared.refusal.Refusal.{Refusal}
 use Rattle.sector_model.specs.declared.refusal.Refusal.TheVariants.{BadGeometry, NotUsable, Worn}
 use Rattle.sector_model.specs.declared.calls.TheConstants.{GREATEST_COUNT}
@@ -7,6 +7,7 @@ use Rattle.sector_model.specs.Bank.{IsLater, Panel}
 use Rattle.sector_model.specs.History.{Bytes, History, MayHold, MayLeave, Slots, is_down}
 use Rattle.sector_model.specs.Readable.{readable}
 use Rattle.sector_model.specs.Reads.{HasRead}
+use Rattle.layout_map.specs.declared.format.Format.TheVariants.{One}
 use Rattle.layout_map.specs.declared.geometry.Geometry.{Geometry}
 use Rattle.superblock.specs.declared.state.State.TheVariants.{InSync}
 use Rattle.superblock.specs.declared.table.Table.{Table}
@@ -67,7 +68,7 @@ pub record HasUnusable (geometry : Geometry) (panel : Panel) : Type 0 where
 
 -- why a set could not be made
 abbrev pub IsNoMake : Geometry → Panel → Refusal → Type 0
-IsNoMake geometry panel BadGeometry = panel.devices < geometry.members + 2
+IsNoMake geometry panel BadGeometry = (geometry.format ≢ One) ⊎ (panel.devices < geometry.members + 2)
 IsNoMake geometry panel NotUsable = HasUnusable geometry panel
 IsNoMake geometry panel Worn = GREATEST_COUNT ≤ panel.calls
 IsNoMake geometry panel refusal = ⊥

@@ -4,7 +4,7 @@ ghost use Rattle.sector_model.specs.Bank.{IsLater};
 ghost use Rattle.sector_model.specs.Reads.{HasRead};
 ghost use Rattle.sector_model.specs.declared.calls.TheConstants.{GREATEST_COUNT};
 ghost use Rattle.sector_model.specs.declared.refusal.Refusal.TheVariants as refusal;
-ghost use Rattle.layout_map.specs.declared.sizes.TheConstants.{JOURNAL_SECTORS};
+ghost use Rattle.layout_map.specs.Formats.{journal_sectors};
 ghost use Rattle.superblock.specs.NextTables.{slots_of};
 ghost use Rattle.stripe_journal.specs.LastEntry.{number_of};
 ghost use Rattle.recovery.specs.Examining.{AreExaminedSlots, AreLastNumbers, Examines, IsExaminedSlot, IsLastNumber};
@@ -188,7 +188,7 @@ fn last_sealed_number<B: Bank>(
     journal: u8,
 ) -> Result<Option<u64>, Refusal>
     requires device { journal < (B.panel bank.old).devices }
-    requires within { JOURNAL_SECTORS ≤ (B.panel bank.old).sectors journal }
+    requires within { journal_sectors table.now.geometry.format ≤ (B.panel bank.old).sectors journal }
     ensures honest { B.honest bank.old ↔ B.honest bank.new }
     ensures reads { ReadsLast (B.honest bank.old) (bank_seen B.Bank bank.old) (bank_seen B.Bank bank.new) result
         (λ last.

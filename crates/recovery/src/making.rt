@@ -1,6 +1,7 @@
 //! Making a set.
 ghost use Rattle.std.specs.Prelude.{◌≡◌, ◌↔◌, ◌≤◌, ◌<◌, ◌+◌, ℕ, None, IfOk, IfErr, OnOk};
 ghost use Rattle.sector_model.specs.Bank.{IsLater};
+ghost use Rattle.layout_map.specs.declared.format.Format.TheVariants.{One};
 ghost use Rattle.array_io.specs.Believed.Fresh.{zeros_of};
 ghost use Rattle.array_io.specs.Believed.Settled.{IsSettled};
 ghost use Rattle.array_io.specs.Believed.Views.{HasItsSlots};
@@ -18,17 +19,17 @@ use array_io::Array;
 use layout_map::Geometry;
 use sector_model::{Bank, Refusal, Stop};
 use stripe_journal::Entry;
-use superblock::{State, Table, least_of, publish};
+use superblock::{State, Table, is_supported, least_of, publish};
 
 /// Makes a set of this id and geometry on the bank's first `members + 2` slots, whatever they held: clears both
 /// superblock places of each, both seals of each journal and all rows of each member, flushes, and publishes
 /// generation 1 with all slots in sync and incarnation 1. The new set's logical sectors are all zero. Each sector that
 /// is cleared is read once, and is written only where it is not zero.
 ///
-/// `BadGeometry` where the bank has fewer slots; `NotUsable` where one of the set's devices is down, goes down in the
-/// call, or is too short; `Worn` where the count of device calls stands at 2^62. After a refusal, as after a crash
-/// within the call, nothing is promised of a set on these devices; the bank is given back as it stands, and the entry
-/// is given up.
+/// `BadGeometry` where the set would be of another format than 1, or the bank has fewer slots; `NotUsable` where one of
+/// the set's devices is down, goes down in the call, or is too short; `Worn` where the count of device calls stands at
+/// 2^62. After a refusal, as after a crash within the call, nothing is promised of a set on these devices; the bank is
+/// given back as it stands, and the entry is given up.
 pub fn make<B: Bank>(
     mut bank: B,
     entry: Entry,
@@ -41,6 +42,12 @@ pub fn make<B: Bank>(
     ensures refused { IfErr result
         (λ returned. Makes (B.honest bank) id geometry (bank_seen B.Bank bank) (given_back_as B.Bank returned)) }
 {
+    if !is_supported(geometry.format) {
+        return Err(Returned {
+            bank,
+            refusal: Refusal::BadGeometry,
+        });
+    }
     let table = first_table(id, geometry);
     match put_set(&mut bank, &table) {
         Ok(()) => Ok(Array {
@@ -53,8 +60,9 @@ pub fn make<B: Bank>(
     }
 }
 
-// The first table of a set.
+// The first table of a set, which is of format 1 (condition).
 fn first_table(id: [u8; 16], geometry: Geometry) -> Table
+    requires { geometry.format ≡ One }
     ensures { IsFirstTable id geometry result }
 {
     let mut states = [State::Missing; 10];

@@ -2,7 +2,7 @@
 //! and what values are compared with. Where one of them cannot go on, the test ends.
 use crate::{Returned, assemble, make};
 use array_io::Array;
-use layout_map::{FIRST_ROW, Geometry, JOURNAL_SECTORS};
+use layout_map::{FIRST_ROW, Format, Geometry};
 use sector_model::{Bank, Choice, Image, MemBank, Plan, Refusal, Sector};
 use std::fmt::Debug;
 use std::mem;
@@ -127,7 +127,7 @@ pub(crate) fn refusal_of(
 pub(crate) fn made(rt: &(impl Abort + AllocGlobal), shape: Shape) -> Array<MemBank> {
     let (members, chunk, stripes) = shape;
     assert!(rt; members <= 8 && stripes <= 100);
-    let mut sectors = [JOURNAL_SECTORS as usize; 10];
+    let mut sectors = [Format::One.journal_sectors() as usize; 10];
     for slot in 0..members as usize {
         sectors[slot] = FIRST_ROW as usize + chunk as usize * stripes as usize;
     }

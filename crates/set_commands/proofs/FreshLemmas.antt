@@ -11,6 +11,8 @@ use Rattle.sector_model.specs.Bank.{Panel}
 use Rattle.sector_model.specs.History.{Began, Bytes, History, SlotMayHold, Slots, disk_of, sector_of}
 use Rattle.sector_model.specs.Memory.{Disk, sectors_in, slots_of}
 use Rattle.sector_model.proofs.Copies.{slots_past}
+use Rattle.layout_map.specs.declared.format.Format.{Format}
+use Rattle.layout_map.specs.declared.format.Format.TheVariants.{One}
 use Rattle.layout_map.specs.declared.geometry.Geometry.{Geometry}
 use Rattle.layout_map.specs.Placement.{extents_of}
 use Rattle.superblock.specs.Cases.{HasNone}
@@ -33,7 +35,7 @@ use Rattle.set_commands.specs.Serving.{IsEarly, IsEnd}
 use Rattle.set_commands.proofs.ScriptLaws.{script_keeps_volumes}
 
 -- so many sectors of zeros
-abbrev zeros : ℕ → List Bytes
+abbrev pub zeros : ℕ → List Bytes
 zeros count = replicate count (replicate 512 0)
 
 -- ---- a bank in memory has nothing after its slots
@@ -93,24 +95,28 @@ made_fresh id geometry bank array is_id members chunk stripes quiet makes = reco
     five members is = omega (arith, is)
 
 -- the bank has enough slots, so that it is refused for two reasons alone
-make_refused_for : (geometry : Geometry) (panel : Panel) (refusal : Refusal) → geometry.members ≡ 3 → panel.devices ≡ 5 → IsNoMake geometry panel refusal
-    → IsFreshRefusal refusal
-make_refused_for geometry panel BadGeometry members five why = absurd (omega (arith, members, five, why))
-make_refused_for geometry panel NotUsable members five why = inr (inl refl)
-make_refused_for geometry panel Worn members five why = inr (inr tt)
-make_refused_for geometry panel refusal members five why = absurd why
+make_refused_for : (geometry : Geometry) (panel : Panel) (refusal : Refusal) → geometry.format ≡ One → geometry.members ≡ 3 → panel.devices ≡ 5
+    → IsNoMake geometry panel refusal → IsFreshRefusal refusal
+make_refused_for geometry panel BadGeometry one members five (inl other) = absurd (other one)
+make_refused_for geometry panel BadGeometry one members five (inr few) = absurd (omega (arith, members, five, few))
+make_refused_for geometry panel NotUsable one members five why = inr (inl refl)
+make_refused_for geometry panel Worn one members five why = inr (inr tt)
+make_refused_for geometry panel refusal one members five why = absurd why
 
-pub make_refused : (id : List ℕ) (geometry : Geometry) (bank back : BankView) (refusal : Refusal) → geometry.members ≡ 3 → bank.panel.devices ≡ 5
+pub make_refused : (id : List ℕ) (geometry : Geometry) (bank back : BankView) (refusal : Refusal) → geometry.format ≡ One → geometry.members ≡ 3
+    → bank.panel.devices ≡ 5
     → Makes (Unit {0}) id geometry bank (recovery.Returned back refusal) → IsFreshRefusal refusal
-make_refused id geometry bank back refusal members five makes =
-    make_refused_for geometry back.panel refusal members (makes.later.devices ∙ five) (makes.cause back refusal refl)
+make_refused id geometry bank back refusal one members five makes =
+    make_refused_for geometry back.panel refusal one members (makes.later.devices ∙ five) (makes.cause back refusal refl)
 
 -- ---- its store is opened
 
 -- the number of extents of these sizes
-extents_are : (members chunk stripes : ℕ) → members ≡ 3 → chunk ≡ 8 → stripes ≡ 32 → extents_of members chunk stripes ≡ 7
-extents_are members chunk stripes three eight more =
-    ap (λ (n : ℕ). extents_of n chunk stripes) three ∙ ap (λ (n : ℕ). extents_of 3 n stripes) eight ∙ ap (λ (n : ℕ). extents_of 3 8 n) more
+extents_are : (format : Format) (members chunk stripes : ℕ) → format ≡ One → members ≡ 3 → chunk ≡ 8 → stripes ≡ 32
+    → extents_of format members chunk stripes ≡ 7
+extents_are format members chunk stripes one three eight more =
+    ap (λ (f : Format). extents_of f members chunk stripes) one ∙ ap (λ (n : ℕ). extents_of One n chunk stripes) three
+    ∙ ap (λ (n : ℕ). extents_of One 3 n stripes) eight ∙ ap (λ (n : ℕ). extents_of One 3 8 n) more
 
 pub opened_fresh : (array : ArrayView) (store : StoreView) → IsMadeFresh array → Opens (Unit {0}) array (Opened store) → ∥ HasNoVolumes store ∥₁
 opened_fresh array store fresh opens = ∥∥₁_map (fresh_set_shows_none array.table.geometry) by_shown
@@ -123,7 +129,8 @@ opened_fresh array store fresh opens = ∥∥₁_map (fresh_set_shows_none array
           lost = after.lost;
           settled = after.settled;
           extents = ap extents_in (opens.goes_on store refl).not_older.same_geometry
-              ∙ extents_are array.table.geometry.members array.table.geometry.chunk array.table.geometry.stripes fresh.members fresh.chunk fresh.stripes;
+              ∙ extents_are array.table.geometry.format array.table.geometry.members array.table.geometry.chunk array.table.geometry.stripes
+              array.table.allowed.of_format_one fresh.members fresh.chunk fresh.stripes;
         }
 
 -- its zeros are a table, of no volume

@@ -6,6 +6,8 @@ use Rattle.std.proofs.lemmas.Bool.{cases_lt, eqb-false}
 use Rattle.sector_model.specs.declared.refusal.Refusal.{Refusal}
 use Rattle.sector_model.specs.declared.refusal.Refusal.TheVariants.{NothingToRebuild, TwoLost, Worn}
 use Rattle.layout_map.specs.declared.geometry.Geometry.{Geometry}
+use Rattle.layout_map.specs.declared.sizes.TheConstants.{REBUILD_ROWS}
+use Rattle.layout_map.specs.Formats.{rebuild_rows}
 use Rattle.layout_map.specs.Placement.{rows_of}
 use Rattle.superblock.specs.declared.table.Table.{Table}
 use Rattle.superblock.specs.States.{has_rebuilding}
@@ -40,6 +42,12 @@ rebuilds_for honest other steps old new answer so rebuilds = record {
   no_more = rebuilds.no_more;
   all_made = rebuilds.all_made;
 }
+
+-- the rows that a set's format gives a step are 64
+pub of_its_step : (honest : Type 0) (rows : ℕ) (table : Table) (old new : StoreView) (answer : Result Progress Refusal)
+    → rows ≡ rebuild_rows table.geometry.format → RebuildsRows honest rows old new answer → RebuildsRows honest 64 old new answer
+of_its_step honest rows table old new answer is rebuilds =
+    subst (λ (n : ℕ). RebuildsRows honest n old new answer) (is ∙ ap rebuild_rows table.allowed.of_format_one) rebuilds
 
 -- one more that is answered with a position, as a step's code answers it
 pub one_more : (honest other : Type 0) (before position : ℕ) (old mid new : StoreView) (answer : Result Progress Refusal) → (other → honest)
@@ -77,10 +85,10 @@ answer_by_case true false position there is = (refl, refl, cc)
 
 -- the position that it leaves then
 left_position : (devices : Devices) (was : SetState) (rebuilding last : Bool) → has_rebuilding (with_faults devices.faults was.states) ≡ rebuilding
-    → (stepped devices.rows 64 was.position == devices.rows) ≡ last → rebuilding ≡ true → last ≡ false
-    → (set_after devices (OnSet (RebuildStep 64)) was).position ≡ stepped devices.rows 64 was.position
+    → (stepped REBUILD_ROWS devices.rows 64 was.position == devices.rows) ≡ last → rebuilding ≡ true → last ≡ false
+    → (set_after devices (OnSet (RebuildStep 64)) was).position ≡ stepped REBUILD_ROWS devices.rows 64 was.position
 left_position devices was rebuilding last is_rebuilding is_last still more =
-    let there = stepped devices.rows 64 was.position in
+    let there = stepped REBUILD_ROWS devices.rows 64 was.position in
     let states = with_faults devices.faults was.states in
     let goes_on : set_after devices (OnSet (RebuildStep 64)) was ≡ settled devices (record { states = was.states; position = there }) =
     ap (λ (b : Bool). settled devices (set_or_same (cond (not b) (Some NothingToRebuild) None) (changed_set devices.rows (RebuildStep 64) was) was))
@@ -90,7 +98,7 @@ left_position devices was rebuilding last is_rebuilding is_last still more =
     ap (λ (set : SetState). set.position) goes_on ∙ ap (λ (b : Bool). cond b there 0) (is_rebuilding ∙ still)
 
 -- a step of 64 rows that does not reach the last one
-not_reached : (rows there was : ℕ) → was ≤ rows → there ≡ stepped rows 64 was → there ≢ rows → (there ≡ was + 64) × (there < rows)
+not_reached : (rows there was : ℕ) → was ≤ rows → there ≡ stepped REBUILD_ROWS rows 64 was → there ≢ rows → (there ≡ was + 64) × (there < rows)
 not_reached rows there was within is apart = by_order (cases_lt (was + 64) rows)
   where
     by_order : (was + 64 < rows) ⊎ (rows ≤ was + 64) → (there ≡ was + 64) × (there < rows)
@@ -103,7 +111,7 @@ step_through honest position old new through =
     let left = through.set_left (λ ends. ends) in
     let devices = left.devices in
     let was = set_of old.array.table in
-    let there = stepped devices.rows 64 was.position in
+    let there = stepped REBUILD_ROWS devices.rows 64 was.position in
     let states = with_faults devices.faults was.states in
     let case = answer_by_case (has_rebuilding states) (there == devices.rows) position there left.left.replied in
     let apart : there ≢ devices.rows = eqb-false there devices.rows case.1 in

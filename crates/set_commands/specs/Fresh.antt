@@ -4,7 +4,9 @@ use Rattle.std.specs.Io.KnownBytes.{Appends}
 use Rattle.sector_model.specs.declared.refusal.Refusal.{Refusal}
 use Rattle.sector_model.specs.declared.refusal.Refusal.TheVariants.{Memory, NotUsable}
 use Rattle.sector_model.specs.History.{Bytes}
-use Rattle.layout_map.specs.declared.sizes.TheConstants.{FIRST_ROW, JOURNAL_SECTORS}
+use Rattle.layout_map.specs.declared.format.Format.TheVariants.{One}
+use Rattle.layout_map.specs.declared.sizes.TheConstants.{FIRST_ROW}
+use Rattle.layout_map.specs.Formats.{journal_sectors}
 use Rattle.superblock.specs.Cases.{Lost}
 use Rattle.array_io.specs.Believed.Fresh.{zeros_of}
 use Rattle.array_io.specs.Believed.Views.{ArrayView, EndsIt, RestsOn}
@@ -36,7 +38,7 @@ member_sectors = FIRST_ROW + 256
 abbrev pub fresh_devices : List (Option (List Bytes))
 fresh_devices =
     zero_device member_sectors ∷ zero_device member_sectors ∷ zero_device member_sectors
-    ∷ zero_device JOURNAL_SECTORS ∷ zero_device JOURNAL_SECTORS ∷ []
+    ∷ zero_device (journal_sectors One) ∷ zero_device (journal_sectors One) ∷ []
 
 -- a set with this id and geometry was made: none of its slots is lost, and its logical sectors are zeros
 pub record IsMadeFresh (array : ArrayView) : Type 0 where

@@ -33,7 +33,7 @@ pub record IsShown (Reads : Option ℕ → Type 0) (percent : ℕ) (left : Optio
   pub percent_is : percent ≡ percent_of done total
   pub left_is : IsLeft (last - first) done total left
 
--- the most rows that so many steps of a rebuild do, 64 each and one step at least; at most 2^64 - 1, also where no number is given
+-- the most rows that so many steps of a rebuild of a set of format 1 do, 64 each and one step at least; at most 2^64 - 1, also where no number is given
 abbrev pub most_rows_of : Option ℕ → ℕ
 most_rows_of (Some steps) = min (max steps 1 * 64) (2 ^ 64 - 1)
 most_rows_of None = 2 ^ 64 - 1

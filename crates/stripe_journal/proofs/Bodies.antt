@@ -2,13 +2,14 @@
 use Rattle.std.proofs.Common.{◌≡◌, ℕ, ◌+◌, ◌*◌, ◌%◌, ◌<◌, ◌≤◌, Bool, true, false, cond, length, refl, sym, ap, ◌∙◌, arith, Option, Some, None}
 use Rattle.std.specs.Prelude.{option_and_then}
 use Rattle.std.proofs.lemmas.Bool.{lt-ltb}
-use Rattle.layout_map.specs.declared.sizes.TheConstants.{BODY_SECTORS, ENTRY_ROWS, FIRST_BODY, HALVES, JOURNAL_SECTORS, MOST_MEMBERS}
+use Rattle.arrayvec.specs.ArrayVec.{ArrayVec}
+use Rattle.layout_map.specs.declared.sizes.TheConstants.{BODY_SECTORS, ENTRY_ROWS, FIRST_BODY, HALVES, MOST_MEMBERS}
 use Rattle.stripe_journal.specs.declared.form.Form.{Form}
 use Rattle.stripe_journal.specs.declared.form.Form.TheVariants.{Whole}
 use Rattle.stripe_journal.specs.declared.seal.Seal.{Seal}
 use Rattle.stripe_journal.specs.Body.{body_place, place_by_seal, place_in}
 use Rattle.stripe_journal.specs.Entries.{body_start}
-use Rattle.stripe_journal.specs.Forms.{holds, rank}
+use Rattle.stripe_journal.specs.Forms.{holds, rank, rows_in}
 use Rattle.stripe_journal.specs.Seals.{row_at}
 use Rattle.stripe_journal.proofs.Masks.{before_few, one_rank, rank_before, rank_whole}
 use Rattle.stripe_journal.proofs.Places.{place_of_row, row_of_place}
@@ -16,23 +17,23 @@ use Rattle.stripe_journal.proofs.Places.{place_of_row, row_of_place}
 -- how an entry has a member's sector of a row in this place
 pub record IsPlaced (members : ℕ) (seal : Seal) (row member place : ℕ) : Type 0 where
   pub i : ℕ
-  pub within : i < length seal.rows.items
-  pub row_is : row_at seal.rows.items i ≡ row
+  pub within : i < length (rows_in seal.form)
+  pub row_is : row_at (rows_in seal.form) i ≡ row
   pub held : holds members seal.form i member ≡ true
   pub place_is : place ≡ body_start seal.number + rank members seal.form i member
 
 pub is_placed : (members : ℕ) (seal : Seal) (row member place : ℕ) → place_by_seal members seal row member ≡ Some place → IsPlaced members seal row member place
-is_placed members seal row member place found = by_row (place_in seal.rows.items row) refl found
+is_placed members seal row member place found = by_row (place_in (rows_in seal.form) row) refl found
   where
-    by_held : (i : ℕ) (b : Bool) → place_in seal.rows.items row ≡ Some i → holds members seal.form i member ≡ b
+    by_held : (i : ℕ) (b : Bool) → place_in (rows_in seal.form) row ≡ Some i → holds members seal.form i member ≡ b
         → cond b (Some (body_start seal.number + rank members seal.form i member)) None ≡ Some place → IsPlaced members seal row member place
     by_held i true there held found =
         let place_is : body_start seal.number + rank members seal.form i member ≡ place = cc in
-        let at = row_of_place seal.rows.items row i there in
+        let at = row_of_place (rows_in seal.form) row i there in
         record { i = i; within = at.0; row_is = at.1; held = held; place_is = sym place_is }
     by_held i false there held found = absurd (cc)
 
-    by_row : (o : Option ℕ) → place_in seal.rows.items row ≡ o → option_and_then (λ i. body_place members seal i member) o ≡ Some place
+    by_row : (o : Option ℕ) → place_in (rows_in seal.form) row ≡ o → option_and_then (λ i. body_place members seal i member) o ≡ Some place
         → IsPlaced members seal row member place
     by_row None there found = absurd (cc)
     by_row (Some i) there found = by_held i (holds members seal.form i member) there refl found
@@ -49,11 +50,11 @@ pub in_own_half : (members : ℕ) (seal : Seal) (row member place : ℕ) → mem
     → (body_start seal.number ≤ place) × (place < body_start seal.number + BODY_SECTORS)
 in_own_half members seal row member place few below found =
     let at = is_placed members seal row member place found in
-    let part = part_below members seal.form (length seal.rows.items) at.i member few seal.allowed.rows_most at.within below at.held in
+    let part = part_below members seal.form (length (rows_in seal.form)) at.i member few seal.allowed.rows_most at.within below at.held in
     (omega (arith, at.place_is), omega (arith, at.place_is, part))
 
 pub bodies_within : (members : ℕ) (seal : Seal) (row member place : ℕ) → members ≤ MOST_MEMBERS → member < members
-    → place_by_seal members seal row member ≡ Some place → (FIRST_BODY ≤ place) × (place < JOURNAL_SECTORS)
+    → place_by_seal members seal row member ≡ Some place → (FIRST_BODY ≤ place) × (place < FIRST_BODY + HALVES * BODY_SECTORS)
 bodies_within members seal row member place few below found =
     let half = in_own_half members seal row member place few below found in
     (omega (arith, half.0), omega (arith, half.1))
@@ -74,31 +75,31 @@ bodies_apart members seal row member row' member' place below below' found found
     let here = is_placed members seal row member place found in
     let there = is_placed members seal row' member' place found' in
     let one = one_rank members seal.form here.i member there.i member' here.held there.held below below' (omega (arith, here.place_is, there.place_is)) in
-    (sym here.row_is ∙ ap (row_at seal.rows.items) one.0 ∙ there.row_is, one.1)
+    (sym here.row_is ∙ ap (row_at (rows_in seal.form)) one.0 ∙ there.row_is, one.1)
 
 -- the place of a sector that is held
-pub place_held : (members : ℕ) (seal : Seal) (row i member : ℕ) → place_in seal.rows.items row ≡ Some i → holds members seal.form i member ≡ true
+pub place_held : (members : ℕ) (seal : Seal) (row i member : ℕ) → place_in (rows_in seal.form) row ≡ Some i → holds members seal.form i member ≡ true
     → place_by_seal members seal row member ≡ Some (body_start seal.number + rank members seal.form i member)
 place_held members seal row i member there held =
     ap (option_and_then (λ k. body_place members seal k member)) there
     ∙ ap (λ (b : Bool). cond b (Some (body_start seal.number + rank members seal.form i member)) None) held
 
 -- there is none of one that is not held, or of a row that the seal lacks
-pub place_lacking : (members : ℕ) (seal : Seal) (row i member : ℕ) → place_in seal.rows.items row ≡ Some i → holds members seal.form i member ≡ false
+pub place_lacking : (members : ℕ) (seal : Seal) (row i member : ℕ) → place_in (rows_in seal.form) row ≡ Some i → holds members seal.form i member ≡ false
     → place_by_seal members seal row member ≡ None
 place_lacking members seal row i member there held =
     ap (option_and_then (λ k. body_place members seal k member)) there
     ∙ ap (λ (b : Bool). cond b (Some (body_start seal.number + rank members seal.form i member)) None) held
 
-pub place_of_no_row : (members : ℕ) (seal : Seal) (row member : ℕ) → place_in seal.rows.items row ≡ None → place_by_seal members seal row member ≡ None
+pub place_of_no_row : (members : ℕ) (seal : Seal) (row member : ℕ) → place_in (rows_in seal.form) row ≡ None → place_by_seal members seal row member ≡ None
 place_of_no_row members seal row member there = ap (option_and_then (λ k. body_place members seal k member)) there
 
 -- whole rows follow one another
-pub whole_rows : (members : ℕ) (seal : Seal) (i member : ℕ) → seal.form ≡ Whole → i < length seal.rows.items → member < members
-    → place_by_seal members seal (row_at seal.rows.items i) member ≡ Some (body_start seal.number + i * members + member)
-whole_rows members seal i member whole within below =
+pub whole_rows : (members : ℕ) (seal : Seal) (i member : ℕ) (rows : ArrayVec ℕ) → seal.form ≡ Whole rows → i < length (rows_in seal.form) → member < members
+    → place_by_seal members seal (row_at (rows_in seal.form) i) member ≡ Some (body_start seal.number + i * members + member)
+whole_rows members seal i member rows whole within below =
     let held : holds members seal.form i member ≡ true = ap (λ (f : Form). holds members f i member) whole ∙ lt-ltb member members below in
     let rank_is : rank members seal.form i member ≡ i * members + member = ap (λ (f : Form). rank members f i member) whole
-    ∙ rank_whole members i member (omega arith) in
-    place_held members seal (row_at seal.rows.items i) i member (place_of_row seal.rows.items i seal.allowed.rising within) held
+    ∙ rank_whole rows members i member (omega arith) in
+    place_held members seal (row_at (rows_in seal.form) i) i member (place_of_row (rows_in seal.form) i seal.allowed.rising within) held
     ∙ ap Some (omega (arith, rank_is))

@@ -7,7 +7,10 @@ use Rattle.std.proofs.lemmas.Bool.{cases_eq}
 use Rattle.std.proofs.lemmas.List.{flat_map_more, length-append, get_or-take, get_or-drop, get_or-set_same, get_or-set_other, get_or_append_left}
 use Rattle.std.proofs.lemmas.List.{get_or-append-add, get_or_at, map-append}
 use Rattle.std.proofs.lemmas.List.Elements.{filter-append}
-use Rattle.layout_map.specs.declared.sizes.TheConstants.{ENTRY_ROWS, JOURNAL_SECTORS, MOST_MEMBERS}
+use Rattle.layout_map.specs.declared.sizes.TheConstants.{ENTRY_ROWS, MOST_MEMBERS}
+use Rattle.layout_map.specs.declared.format.Format.{Format}
+use Rattle.layout_map.specs.Formats.{journal_sectors}
+use Rattle.layout_map.proofs.Places.{journal_least}
 use Rattle.sector_model.specs.declared.sector.Stop.{Stop}
 use Rattle.sector_model.specs.Bank.{IsTrueTo, Panel, after_try, after_write}
 use Rattle.sector_model.specs.Calls.{Call, Write, Made, after_all, writes_from}
@@ -259,16 +262,18 @@ body_at members entry i member few below within held =
     ∙ row_member entry i member (omega (arith, few, within))
 
 -- what reads of the journal give there once it is written
-pub body_seen : (device members number : ℕ) (entry : Entry) (h : History) (i member : ℕ) → members ≤ MOST_MEMBERS → i < length (numbers_of entry)
+pub body_seen : (format : Format) (device members number : ℕ) (entry : Entry) (h : History) (i member : ℕ) → members ≤ MOST_MEMBERS
+    → i < length (numbers_of entry)
     → member < members
-    → holds members (form_of entry) i member ≡ true → JOURNAL_SECTORS ≤ length (seen h device)
+    → holds members (form_of entry) i member ≡ true → journal_sectors format ≤ length (seen h device)
     → sector_of (seen (after_all (writes_from device (body_start number) (body_of members entry)) h) device)
     (body_start number + rank members (form_of entry) i member) ≡ sector_at entry i member
-body_seen device members number entry h i member few below within held room =
+body_seen format device members number entry h i member few below within held room =
     let body = body_of members entry in
     let count = length (numbers_of entry) in
     let long : length body ≡ held_before members (form_of entry) count = length-body members entry in
     let most = before_few members (form_of entry) count few entry.few in
     let inside = rank_before members (form_of entry) i member count held within below in
-    seen_writes device (body_start number) body h (rank members (form_of entry) i member) (omega arith) (omega arith)
+    seen_writes device (body_start number) body h (rank members (form_of entry) i member) (omega arith)
+    (omega (arith, room, most, long, inside, journal_least format))
     ∙ body_at members entry i member few below within held

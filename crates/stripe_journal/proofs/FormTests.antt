@@ -4,6 +4,7 @@ use Rattle.std.proofs.Common.{arith}
 use Rattle.std.specs.Prelude.{count_ones}
 use Rattle.std.proofs.lemmas.Bool.{cases_lt, false≢true}
 use Rattle.std.proofs.lemmas.List.{get_or-drop, get_or-take, get_or_past, length-drop, length-take, length-take-le}
+use Rattle.arrayvec.specs.ArrayVec.{ArrayVec}
 use Rattle.layout_map.specs.declared.sizes.TheConstants.{ENTRY_ROWS}
 use Rattle.stripe_journal.specs.declared.form.Form.TheVariants.{Held}
 use Rattle.stripe_journal.specs.Forms.{AreMasks, IsForm, mask_at}
@@ -66,8 +67,9 @@ no_masks_by masks count two few is_two lacks = (
 )
 
 -- masks with two bits for each row are a seal's
-pub formed_by : (masks : List ℕ) (count : ℕ) → length masks ≡ ENTRY_ROWS → ((i : ℕ) → mask_at masks i < 256) → ((i : ℕ) → count ≤ i → mask_at masks i ≡ 0)
-    → ((i : ℕ) → i < count → 2 ≤ count_ones (mask_at masks i)) → IsForm (Held masks) count
-formed_by masks count long bytes rest two other is =
+pub formed_by : (rows : ArrayVec ℕ) (masks : List ℕ) (count : ℕ) → length masks ≡ ENTRY_ROWS → ((i : ℕ) → mask_at masks i < 256) → ((i : ℕ) → count ≤ i
+    → mask_at masks i ≡ 0)
+    → ((i : ℕ) → i < count → 2 ≤ count_ones (mask_at masks i)) → IsForm (Held rows masks) count
+formed_by rows masks count long bytes rest two others other is =
     let same : masks ≡ other = cc in
     subst (λ (l : List ℕ). AreMasks l count) same record { long = long; bytes = bytes; two_bits = two; rest = rest }

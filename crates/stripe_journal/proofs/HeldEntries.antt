@@ -6,7 +6,7 @@ use Rattle.stripe_journal.specs.declared.entry.Entry.{Entry}
 use Rattle.stripe_journal.specs.declared.form.Form.{Form}
 use Rattle.stripe_journal.specs.declared.seal.Seal.{Seal}
 use Rattle.stripe_journal.specs.Entries.{body_of, body_start, form_of, numbers_of, sector_at}
-use Rattle.stripe_journal.specs.Forms.{count_held, held_before, holds, rank}
+use Rattle.stripe_journal.specs.Forms.{count_held, held_before, holds, rank, rows_in}
 use Rattle.stripe_journal.specs.LastEntry.{sector_in}
 use Rattle.stripe_journal.specs.Seals.{row_at}
 use Rattle.stripe_journal.specs.Body.{place_by_seal}
@@ -41,59 +41,61 @@ rank_agrees members one other i member same within =
 
 -- an entry in memory has the rows of a seal, and holds of them what the seal's entry holds
 pub record IsEntryOf (members : ℕ) (seal : Seal) (entry : Entry) : Type 0 where
-  pub rows : numbers_of entry ≡ seal.rows.items
-  pub held : (i member : ℕ) → i < length seal.rows.items → member < members → holds members (form_of entry) i member ≡ holds members seal.form i member
+  pub rows : numbers_of entry ≡ rows_in seal.form
+  pub held : (i member : ℕ) → i < length (rows_in seal.form) → member < members → holds members (form_of entry) i member ≡ holds members seal.form i member
 
 module _ (members : ℕ) (seal : Seal) (entry : Entry) (few : members ≤ MOST_MEMBERS) (is : IsEntryOf members seal entry) where
-  count_is : length (numbers_of entry) ≡ length seal.rows.items
+  count_is : length (numbers_of entry) ≡ length (rows_in seal.form)
   count_is = ap length is.rows
 
   -- so its body is as long
-  pub length_of_seal : length (body_of members entry) ≡ held_before members seal.form (length seal.rows.items)
+  pub length_of_seal : length (body_of members entry) ≡ held_before members seal.form (length (rows_in seal.form))
   length_of_seal =
       length-body members entry ∙ ap (held_before members (form_of entry)) count_is
-      ∙ before_agrees members (form_of entry) seal.form (length seal.rows.items) (λ k m below within. is.held k m below within)
+      ∙ before_agrees members (form_of entry) seal.form (length (rows_in seal.form)) (λ k m below within. is.held k m below within)
 
-  pub rank_of_seal : (i member : ℕ) → i < length seal.rows.items → member < members → rank members (form_of entry) i member ≡ rank members seal.form i member
+  pub rank_of_seal : (i member : ℕ) → i < length (rows_in seal.form) → member < members
+      → rank members (form_of entry) i member ≡ rank members seal.form i member
   rank_of_seal i member below within = rank_agrees members (form_of entry) seal.form i member
       (λ k m upto inside. is.held k m (omega (arith, upto, below)) inside) (omega (arith, within))
 
   -- and where it stands the entry on the journal has its sectors, and no other
   pub sector_of_entry : (disk : List Bytes) → ((k : ℕ) → k < length (body_of members entry)
       → sector_of disk (body_start seal.number + k) ≡ get_or (body_of members entry) k [])
-      → (i member : ℕ) → i < length seal.rows.items → member < members
-      → sector_in members (Some disk) seal (row_at seal.rows.items i) member ≡ cond (holds members seal.form i member) (Some (sector_at entry i member)) None
+      → (i member : ℕ) → i < length (rows_in seal.form) → member < members
+      → sector_in members (Some disk) seal (row_at (rows_in seal.form) i) member
+      ≡ cond (holds members seal.form i member) (Some (sector_at entry i member)) None
   sector_of_entry disk stands i member below within = by_bit (holds members seal.form i member) refl
     where
       by_bit : (b : Bool) → holds members seal.form i member ≡ b
-          → sector_in members (Some disk) seal (row_at seal.rows.items i) member ≡ cond b (Some (sector_at entry i member)) None
-      by_bit false lacking = sector_lacking members (Some disk) seal (row_at seal.rows.items i) i member
-          (place_of_row seal.rows.items i seal.allowed.rising below) lacking
+          → sector_in members (Some disk) seal (row_at (rows_in seal.form) i) member ≡ cond b (Some (sector_at entry i member)) None
+      by_bit false lacking = sector_lacking members (Some disk) seal (row_at (rows_in seal.form) i) i member
+          (place_of_row (rows_in seal.form) i seal.allowed.rising below) lacking
       by_bit true held =
           let of_entry : holds members (form_of entry) i member ≡ true = is.held i member below within ∙ held in
           let same : rank members (form_of entry) i member ≡ rank members seal.form i member = rank_of_seal i member below within in
           let inside : rank members seal.form i member < length (body_of members entry) =
-          omega (arith, length_of_seal, rank_before members seal.form i member (length seal.rows.items) held within below) in
+          omega (arith, length_of_seal, rank_before members seal.form i member (length (rows_in seal.form)) held within below) in
           let sector : sector_of disk (body_start seal.number + rank members seal.form i member) ≡ sector_at entry i member =
           stands (rank members seal.form i member) inside
           ∙ ap (λ (k : ℕ). get_or (body_of members entry) k []) (sym same)
           ∙ body_at members entry i member few (omega (arith, count_is, below)) within of_entry in
-          sector_held members (Some disk) seal (row_at seal.rows.items i) i member (place_of_row seal.rows.items i seal.allowed.rising below) held
+          sector_held members (Some disk) seal (row_at (rows_in seal.form) i) i member (place_of_row (rows_in seal.form) i seal.allowed.rising below) held
           ∙ ap Some sector
 
 -- what is written of an entry stands where the seal with its rows and its form says
-pub bodies_in_place : (members : ℕ) (seal : Seal) (entry : Entry) (i member k : ℕ) → members ≤ MOST_MEMBERS → numbers_of entry ≡ seal.rows.items
+pub bodies_in_place : (members : ℕ) (seal : Seal) (entry : Entry) (i member k : ℕ) → members ≤ MOST_MEMBERS → numbers_of entry ≡ rows_in seal.form
     → form_of entry ≡ seal.form
-    → i < length seal.rows.items → member < members → place_by_seal members seal (row_at seal.rows.items i) member ≡ Some (body_start seal.number + k)
+    → i < length (rows_in seal.form) → member < members → place_by_seal members seal (row_at (rows_in seal.form) i) member ≡ Some (body_start seal.number + k)
     → get_or (body_of members entry) k [] ≡ sector_at entry i member
 bodies_in_place members seal entry i member k few rows form below within found = by_bit (holds members seal.form i member) refl
   where
     by_bit : (b : Bool) → holds members seal.form i member ≡ b → get_or (body_of members entry) k [] ≡ sector_at entry i member
     by_bit false lacking =
-        let none = place_lacking members seal (row_at seal.rows.items i) i member (place_of_row seal.rows.items i seal.allowed.rising below) lacking in
+        let none = place_lacking members seal (row_at (rows_in seal.form) i) i member (place_of_row (rows_in seal.form) i seal.allowed.rising below) lacking in
         absurd (cc)
     by_bit true held =
-        let place = place_held members seal (row_at seal.rows.items i) i member (place_of_row seal.rows.items i seal.allowed.rising below) held in
+        let place = place_held members seal (row_at (rows_in seal.form) i) i member (place_of_row (rows_in seal.form) i seal.allowed.rising below) held in
         let one : body_start seal.number + rank members seal.form i member ≡ body_start seal.number + k = cc in
         let there : rank members seal.form i member ≡ k = omega (arith, one) in
         let of_entry : holds members (form_of entry) i member ≡ true = ap (λ (f : Form). holds members f i member) form ∙ held in

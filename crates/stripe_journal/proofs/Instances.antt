@@ -11,7 +11,7 @@ use Rattle.stripe_journal.specs.LastEntry.{later_of}
 
 -- rows 32 and 33 of a first entry that holds members 0, 1 and 2 of the one, and 1 and 2 of the other
 abbrev two_rows : Form
-two_rows = Held (7 ∷ 6 ∷ [])
+two_rows = Held (record { items = 32 ∷ 33 ∷ [] }) (7 ∷ 6 ∷ [])
 
 -- five sectors, 264 to 268
 
@@ -25,14 +25,21 @@ second_places : (holds 3 two_rows 1 0 ≡ false) × (rank 3 two_rows 1 1 ≡ 3) 
 second_places = (refl, refl, refl)
 
 -- one row of which it holds the parity and the second data sector: 264 is member 1 here, and member 0 of an entry with whole rows
-one_row : (holds 3 (Held (6 ∷ [])) 0 0 ≡ false) × (rank 3 (Held (6 ∷ [])) 0 1 ≡ 0) × (rank 3 (Held (6 ∷ [])) 0 2 ≡ 1)
+abbrev one_held : Form
+one_held = Held (record { items = 32 ∷ [] }) (6 ∷ [])
+
+abbrev whole_two : Form
+whole_two = Whole (record { items = 32 ∷ 33 ∷ [] })
+
+one_row : (holds 3 one_held 0 0 ≡ false) × (rank 3 one_held 0 1 ≡ 0) × (rank 3 one_held 0 2 ≡ 1)
 one_row = (refl, refl, refl)
 
-whole_places : (rank 3 Whole 0 0 ≡ 0) × (rank 3 Whole 0 1 ≡ 1) × (rank 3 Whole 1 0 ≡ 3) × (rank 3 Whole 1 2 ≡ 5) × (held_before 3 Whole 2 ≡ 6)
+whole_places : (rank 3 whole_two 0 0 ≡ 0) × (rank 3 whole_two 0 1 ≡ 1) × (rank 3 whole_two 1 0 ≡ 3) × (rank 3 whole_two 1 2 ≡ 5) × (held_before 3 whole_two 2
+    ≡ 6)
 whole_places = (refl, refl, refl, refl, refl)
 
 -- a member that a set lacks is in no whole row
-no_member : holds 3 Whole 0 3 ≡ false
+no_member : holds 3 whole_two 0 3 ≡ false
 no_member = refl
 
 -- an entry that holds the parity and a member's sector fits a set, whatever member is lost; one without the parity does not

@@ -6,6 +6,7 @@ use Rattle.std.proofs.lemmas.List.{get_or_past}
 use Rattle.std.proofs.lemmas.Bool.{cases_Bool, cases_eq, cases_lt, false≢true, lt-ltb, ltb-true}
 use Rattle.sector_model.specs.declared.calls.TheConstants.{GREATEST_COUNT}
 use Rattle.layout_map.specs.declared.sizes.TheConstants.{ENTRY_ROWS, FIRST_SEAL, HALVES, MOST_MEMBERS}
+use Rattle.arrayvec.specs.ArrayVec.{ArrayVec}
 use Rattle.byteorder.specs.Endian.{little_number}
 use Rattle.layout_map.specs.declared.geometry.Geometry.{Geometry}
 use Rattle.layout_map.specs.Placement.{IsParityOf, rows_of}
@@ -15,7 +16,7 @@ use Rattle.stripe_journal.specs.declared.seal.Seal.{Seal}
 use Rattle.stripe_journal.specs.LastEntry.{Counts, CountsNone, IsLastSealed, later_of}
 use Rattle.stripe_journal.specs.declared.form.Form.{Form}
 use Rattle.stripe_journal.specs.declared.form.Form.TheVariants.{Held, Whole}
-use Rattle.stripe_journal.specs.Forms.{AreMasks, HoldsRow, IsForm, has_bit, holds, mask_at}
+use Rattle.stripe_journal.specs.Forms.{AreMasks, HoldsRow, IsForm, has_bit, holds, mask_at, rows_in}
 use Rattle.stripe_journal.specs.LastSealed.{AreBelow, RowsHold}
 use Rattle.stripe_journal.specs.Seals.{IsSeal, row_at}
 use Rattle.stripe_journal.specs.Spelling.{seal_bytes}
@@ -138,10 +139,10 @@ masks_or_not masks count = elim (cases_eq (length masks) ENTRY_ROWS) [
     ]
 
 form_or_not : (form : Form) (count : ℕ) → IsForm form count ⊎ ¬ IsForm form count
-form_or_not Whole count = inl (λ masks is. absurd (cc))
-form_or_not (Held masks) count = elim (masks_or_not masks count) [
-  | inr not_masks ↦ inr (λ formed. not_masks (formed masks refl))
-  | inl are ↦ inl (λ other is. let same : masks ≡ other = cc in subst (λ (l : List ℕ). AreMasks l count) same are)
+form_or_not (Whole rows) count = inl (λ others masks is. absurd (cc))
+form_or_not (Held rows masks) count = elim (masks_or_not masks count) [
+  | inr not_masks ↦ inr (λ formed. not_masks (formed rows masks refl))
+  | inl are ↦ inl (λ others other is. let same : masks ≡ other = cc in subst (λ (l : List ℕ). AreMasks l count) same are)
 ]
 
 -- the rows of an entry hold what a set may hold, or not
@@ -170,17 +171,17 @@ mask_or_not geometry row mask byte =
       ]
     ]
 
-whole_holds : (geometry : Geometry) (row i : ℕ) → HoldsRow geometry row (holds geometry.members Whole i)
-whole_holds geometry row i = record {
+whole_holds : (geometry : Geometry) (rows : ArrayVec ℕ) (row i : ℕ) → HoldsRow geometry row (holds geometry.members (Whole rows) i)
+whole_holds geometry rows row i = record {
   of_set = λ m is. ltb-true m geometry.members is;
   has_parity = λ m one. lt-ltb m geometry.members one.in_set;
 }
 
 rows_or_not : (geometry : Geometry) (form : Form) (rows : List ℕ) → IsForm form (length rows) → RowsHold geometry form rows ⊎ ¬ RowsHold geometry form rows
-rows_or_not geometry Whole rows formed = inl (λ i within. whole_holds geometry (row_at rows i) i)
-rows_or_not geometry (Held masks) rows formed =
+rows_or_not geometry (Whole own) rows formed = inl (λ i within. whole_holds geometry own (row_at rows i) i)
+rows_or_not geometry (Held own masks) rows formed =
     each_or_not (λ i. HoldsRow geometry (row_at rows i) (has_bit (mask_at masks i)))
-    (λ i. mask_or_not geometry (row_at rows i) (mask_at masks i) ((formed masks refl).bytes i)) (length rows)
+    (λ i. mask_or_not geometry (row_at rows i) (mask_at masks i) ((formed own masks refl).bytes i)) (length rows)
 
 -- What counts in a place of a journal is read of the sector that stands there.
 module _ (id : List ℕ) (geometry : Geometry) (place : ℕ) (content : Option (List Bytes)) (long : length id ≡ 16) where
@@ -191,35 +192,37 @@ module _ (id : List ℕ) (geometry : Geometry) (place : ℕ) (content : Option (
   number : ℕ
   number = little_number 8 (take 8 (drop 24 sector))
 
-  items : List ℕ
-  items = rows_read (little_number 4 (take 4 (drop 32 sector))) sector
-
   form : Form
-  form = form_read sector
+  form = form_read (rows_read (little_number 4 (take 4 (drop 32 sector))) sector) sector
+
+  items : List ℕ
+  items = rows_in form
 
   -- a seal that counts there says it
   says : (seal : Seal) → Counts id geometry content place seal
-      → (seal.id ≡ id) × (seal.number ≡ number) × (seal.rows.items ≡ items) × (seal.form ≡ form) × (sector ≡ seal_bytes id number items form)
+      → (seal.id ≡ id) × (seal.number ≡ number) × (rows_in seal.form ≡ items) × (seal.form ≡ form) × (sector ≡ seal_bytes id number items form)
   unfolding sector number items form
   says seal counts =
       let id_is : seal.id ≡ id = counts.belongs.of_set in
       let full : length sector ≡ 512 =
       omega (arith, ap length counts.stands, length-seal_sector seal, ap length id_is, long) in
-      let all = sector_says seal.id seal.number seal.rows.items seal.form sector seal.allowed seal.formed full counts.stands in (
+      let all = sector_says seal.id seal.number (rows_in seal.form) seal.form sector seal.allowed seal.formed full counts.stands refl in
+      let same_rows = ap rows_in all.2 in (
         id_is,
         all.1,
+        same_rows,
         all.2,
-        all.3,
         counts.stands
-            ∙ ap (λ (i : List ℕ). seal_bytes i seal.number seal.rows.items seal.form) id_is
-            ∙ ap (λ (n : ℕ). seal_bytes id n seal.rows.items seal.form) all.1
-            ∙ ap (λ (rows : List ℕ). seal_bytes id number rows seal.form) all.2
-            ∙ ap (seal_bytes id number items) all.3,
+            ∙ ap (λ (i : List ℕ). seal_bytes i seal.number (rows_in seal.form) seal.form) id_is
+            ∙ ap (λ (n : ℕ). seal_bytes id n (rows_in seal.form) seal.form) all.1
+            ∙ ap (λ (rows : List ℕ). seal_bytes id number rows seal.form) same_rows
+            ∙ ap (seal_bytes id number items) all.2,
       )
 
   -- the seal with it
   read_seal : IsSeal number items → IsForm form (length items) → Seal
-  read_seal allowed formed = record { id = id; number = number; rows = record { items = items }; form = form; allowed = allowed; formed = formed }
+  unfolding items
+  read_seal allowed formed = record { id = id; number = number; form = form; allowed = allowed; formed = formed }
 
   -- what a seal that counts may say is what may be said
   may_say_it : (seal : Seal) → Counts id geometry content place seal → IsSeal number items × IsForm form (length items) × RowsHold geometry form items
@@ -227,7 +230,7 @@ module _ (id : List ℕ) (geometry : Geometry) (place : ℕ) (content : Option (
       let all = says seal counts in
       let rows : (f : Form) → seal.form ≡ f → IsForm f (length items) × RowsHold geometry f items =
       λ f is. subst (λ (l : List ℕ). IsForm f (length l) × RowsHold geometry f l) all.2
-      (subst (λ (g : Form). IsForm g (length seal.rows.items) × RowsHold geometry g seal.rows.items) is (seal.formed, counts.belongs.held)) in
+      (subst (λ (g : Form). IsForm g (length (rows_in seal.form)) × RowsHold geometry g (rows_in seal.form)) is (seal.formed, counts.belongs.held)) in
       let both = rows form all.3 in
       (subst (λ (n : ℕ). IsSeal n items) all.1 (subst (IsSeal seal.number) all.2 seal.allowed), both.0, both.1)
 

@@ -5,6 +5,7 @@ use Rattle.std.proofs.lemmas.List.{get_or-replicate, get_or_past, length-replica
 use Rattle.std.proofs.lemmas.Nat.{leading_top, mul-le, pow_pos}
 use Rattle.std.proofs.Math.Nat.{div-eq_of_lt, div-eq_of_lt-le, div-lt_iff_lt-mul, pow-le-pow_right, pow-suc, zero-div}
 use Rattle.std.proofs.lemmas.Bool.{agree_below, agree_below_at, cases_lt, cases_eq, eqb-true, false≢true, lt-ltb}
+use Rattle.arrayvec.specs.ArrayVec.{ArrayVec}
 use Rattle.layout_map.specs.Placement.{IsParityOf}
 use Rattle.layout_map.specs.declared.geometry.Geometry.{Geometry}
 use Rattle.layout_map.specs.declared.sizes.TheConstants.{ENTRY_ROWS, MOST_MEMBERS, BODY_SECTORS}
@@ -200,9 +201,9 @@ count_all members zero few = refl
 count_all members (suc n) few =
     count_next (λ m. nat_lt m members) n (lt-ltb n members (omega (arith, few))) ∙ omega (arith, count_all members n (omega (arith, few)))
 
-before_all : (members i : ℕ) → held_before members Whole i ≡ i * members
-before_all members zero = omega arith
-before_all members (suc i) = omega (arith, before_all members i, count_all members members (omega arith))
+before_all : (rows : ArrayVec ℕ) (members i : ℕ) → held_before members (Whole rows) i ≡ i * members
+before_all rows members zero = omega arith
+before_all rows members (suc i) = omega (arith, before_all rows members i, count_all members members (omega arith))
 
-pub rank_whole : (members i member : ℕ) → member ≤ members → rank members Whole i member ≡ i * members + member
-rank_whole members i member few = omega (arith, before_all members i, count_all members member few)
+pub rank_whole : (rows : ArrayVec ℕ) (members i member : ℕ) → member ≤ members → rank members (Whole rows) i member ≡ i * members + member
+rank_whole rows members i member few = omega (arith, before_all rows members i, count_all members member few)

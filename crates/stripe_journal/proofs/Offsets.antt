@@ -6,6 +6,7 @@ use Rattle.std.proofs.lemmas.List.{take_at}
 use Rattle.layout_map.specs.declared.sizes.TheConstants.{ENTRY_ROWS}
 use Rattle.byteorder.specs.Endian.{little_bytes, little_number}
 use Rattle.byteorder.specs.Numbers.{little_from-append}
+use Rattle.stripe_journal.specs.Forms.{rows_in}
 use Rattle.stripe_journal.specs.declared.seal.Seal.{Seal}
 use Rattle.stripe_journal.specs.Law.{HasFields}
 use Rattle.stripe_journal.specs.Spelling.{zeros, seal_sector}
@@ -37,7 +38,7 @@ rows_split numbers gap bytes is =
 pub has_fields : (seal : Seal) → length seal.id ≡ 16 → HasFields (seal_sector seal) seal
 has_fields seal id_long =
     let sector = seal_sector seal in
-    let rows = seal.rows.items in
+    let rows = rows_in seal.form in
     let count = length rows in
     let few : count ≤ ENTRY_ROWS = seal.allowed.rows_most in
     let most = seal.allowed.number_most in

@@ -2,7 +2,10 @@
 use Rattle.std.proofs.Common.{◌≡◌, ◌≢◌, ◌⊎◌, inl, inr, ℕ, ◌+◌, ◌<◌, ◌≤◌, Bool, true, false, cond, List, [], ◌∷◌, ◌++◌, length, refl, sym, ◌∙◌, ap, subst, arith}
 use Rattle.std.proofs.Common.{◌==◌, ◌||◌}
 use Rattle.std.specs.Prelude.{slice_index_or, slice_set}
-use Rattle.layout_map.specs.declared.sizes.TheConstants.{BODY_SECTORS, JOURNAL_SECTORS}
+use Rattle.layout_map.specs.declared.format.Format.{Format}
+use Rattle.layout_map.specs.declared.sizes.TheConstants.{BODY_SECTORS}
+use Rattle.layout_map.specs.Formats.{journal_sectors}
+use Rattle.layout_map.proofs.Places.{journal_least}
 use Rattle.sector_model.specs.declared.event.Event.{Event}
 use Rattle.sector_model.specs.declared.event.Event.TheVariants.{Quiet, Wrote, Lost, Flushed, DeviceFailed}
 use Rattle.sector_model.specs.Bank.{fault_at}
@@ -366,28 +369,30 @@ module _ (dev : ℕ) (disk : List Bytes) (seal : Seal) (body : List Bytes) where
   body_kept old few = keep_both (OnAlone Writing old) (writes_from dev (body_start seal.number) body) (Flush dev ∷ [])
       (writes_kept old body (body_start seal.number) (omega arith) (omega (arith, few))) (kept_at Writing old (Flush dev) tt refl, tt)
 
-  body_staged : (old new : History) → length body ≤ BODY_SECTORS → (is_down old dev ≡ false → JOURNAL_SECTORS ≤ length (seen old dev))
+  body_staged : (format : Format) (old new : History) → length body ≤ BODY_SECTORS → (is_down old dev ≡ false → journal_sectors format ≤ length (seen old dev))
       → IsOn dev disk seal body Writing old
       → Made (writes_from dev (body_start seal.number) body ++ Flush dev ∷ []) true old new → IsOn dev disk seal body Staged new
-  body_staged old new few room is made =
+  body_staged format old new few room is made =
       let calls = writes_from dev (body_start seal.number) body in
       let up = (up_after calls (Flush dev ∷ []) old (made_up made)).0 in
       let kept = kept_after (OnAlone Writing old) calls old (writes_kept old body (body_start seal.number) (omega arith) (omega (arith, few)))
       (is, stays_off_none OfDevice old) in
       subst (λ (h : History). IsOn dev disk seal body Staged h) (sym (made_all made ∙ flushed_last dev calls old))
-      (staged_after (after_all calls old) (λ k within. seen_writes dev (body_start seal.number) body old k within (omega (arith, few, room up))) kept.0)
+      (staged_after (after_all calls old)
+      (λ k within. seen_writes dev (body_start seal.number) body old k within (omega (arith, few, room up, journal_least format))) kept.0)
 
   -- the body is put on a journal
-  pub body_put : {answered : Bool} (old new : History) → length body ≤ BODY_SECTORS → (is_down old dev ≡ false → JOURNAL_SECTORS ≤ length (seen old dev))
+  pub body_put : {answered : Bool} (format : Format) (old new : History) → length body ≤ BODY_SECTORS
+      → (is_down old dev ≡ false → journal_sectors format ≤ length (seen old dev))
       → IsOn dev disk seal body Writing old
       → Made (writes_from dev (body_start seal.number) body ++ Flush dev ∷ []) answered old new
       → Throughout (λ h. IsOn dev disk seal body Writing h × StaysOff (λ d. d ≡ dev) old h) old new × (answered ≡ true → IsPutOn dev disk seal body Staged new)
-  body_put old new few room is made = (
+  body_put format old new few room is made = (
     throughout_kept (OnAlone Writing old) (body_kept old few) (is, stays_off_none OfDevice old) made,
     λ all.
         let calls = writes_from dev (body_start seal.number) body in
         let made_whole = subst (λ (b : Bool). Made (calls ++ Flush dev ∷ []) b old new) all made in
-        record { on = body_staged old new few room is made_whole; flushed = all_flushed dev calls made_whole; up = flushed_is_up dev calls made_whole },
+        record { on = body_staged format old new few room is made_whole; flushed = all_flushed dev calls made_whole; up = flushed_is_up dev calls made_whole },
   )
 
   -- the calls of a seal
@@ -398,21 +403,22 @@ module _ (dev : ℕ) (disk : List Bytes) (seal : Seal) (body : List Bytes) where
   seal_kept : (old : History) → AllKeep (OnAlone Sealing old) (write_seal ∷ Flush dev ∷ [])
   seal_kept old = (kept_at Sealing old write_seal (λ same. place_put) refl, (kept_at Sealing old (Flush dev) tt refl, tt))
 
-  seal_sealed : (old : History) → JOURNAL_SECTORS ≤ length (seen old dev) → IsOn dev disk seal body Staged old
+  seal_sealed : (format : Format) (old : History) → journal_sectors format ≤ length (seen old dev) → IsOn dev disk seal body Staged old
       → IsOn dev disk seal body Sealed (after_all (write_seal ∷ Flush dev ∷ []) old)
-  seal_sealed old room is = sealed_after old (omega (arith, room)) ((kept_on Sealing write_seal (λ same. place_put)).keeps true old (is_staged_sealing old is))
+  seal_sealed format old room is = sealed_after old (omega (arith, room)) ((kept_on Sealing write_seal (λ same. place_put)).keeps true old
+      (is_staged_sealing old is))
 
   -- the seal is put on a journal
-  pub seal_put : {answered : Bool} (old new : History) → (is_down old dev ≡ false → JOURNAL_SECTORS ≤ length (seen old dev))
+  pub seal_put : {answered : Bool} (format : Format) (old new : History) → (is_down old dev ≡ false → journal_sectors format ≤ length (seen old dev))
       → IsOn dev disk seal body Staged old
       → Made (Write dev (seal_place seal.number) (seal_sector seal) ∷ Flush dev ∷ []) answered old new
       → Throughout (λ h. IsOn dev disk seal body Sealing h × StaysOff (λ d. d ≡ dev) old h) old new × (answered ≡ true → IsPutOn dev disk seal body Sealed new)
-  seal_put old new room is made = (
+  seal_put format old new room is made = (
     throughout_kept (OnAlone Sealing old) (seal_kept old) (is_staged_sealing old is, stays_off_none OfDevice old) made,
     λ all.
         let made_whole = subst (λ (b : Bool). Made (write_seal ∷ Flush dev ∷ []) b old new) all made in
         record {
-          on = subst (λ (h : History). IsOn dev disk seal body Sealed h) (sym (made_all made_whole)) (seal_sealed old (room (made_up made_whole).0) is);
+          on = subst (λ (h : History). IsOn dev disk seal body Sealed h) (sym (made_all made_whole)) (seal_sealed format old (room (made_up made_whole).0) is);
           flushed = all_flushed dev (write_seal ∷ []) made_whole;
           up = flushed_is_up dev (write_seal ∷ []) made_whole;
         },
@@ -473,19 +479,20 @@ module _ (dev : ℕ) (disk : List Bytes) (seal : Seal) (body : List Bytes) where
     body_copied old few is = kept_after (InCopy Writing old) copied old (copied_kept old body (body_start seal.number) (omega arith) (omega (arith, few)))
         (begins old is)
 
-    copied_staged : (old : History) → length body ≤ BODY_SECTORS → JOURNAL_SECTORS ≤ length (seen old dev) → IsOn dev disk seal body Writing old
+    copied_staged : (format : Format) (old : History) → length body ≤ BODY_SECTORS → journal_sectors format ≤ length (seen old dev)
+        → IsOn dev disk seal body Writing old
         → IsOn dev disk seal body Staged (After (Flushed dev) (after_all copied old))
-    copied_staged old few room is =
+    copied_staged format old few room is =
         staged_after (after_all copied old)
         (λ k within. ap (λ (l : List Bytes). sector_of l (body_start seal.number + k))
         (copied_seen from dev (body_start seal.number) body old old (λ d. refl) dev)
-        ∙ seen_writes dev (body_start seal.number) body old k within (omega (arith, few, room)))
+        ∙ seen_writes dev (body_start seal.number) body old k within (omega (arith, few, room, journal_least format)))
         (body_copied old few is).0.0
 
     -- every moment of the calls of a copy
-    copy_safe : (old : History) → length body ≤ BODY_SECTORS → (is_down old dev ≡ false → JOURNAL_SECTORS ≤ length (seen old dev))
+    copy_safe : (format : Format) (old : History) → length body ≤ BODY_SECTORS → (is_down old dev ≡ false → journal_sectors format ≤ length (seen old dev))
         → IsOn dev disk seal body Writing old → IsSafe (Copies old) (copy_calls from dev seal body) old
-    copy_safe old few room is =
+    copy_safe format old few room is =
         let g = after_all copied old in
         let in_body = body_copied old few is in
         let flush = flush_kept Writing old in
@@ -495,36 +502,37 @@ module _ (dev : ℕ) (disk : List Bytes) (seal : Seal) (body : List Bytes) where
           in_writing old (after_call (Flush dev) false g) (flush.keeps false g in_body),
           λ up.
               let beyond = flush.keeps true g in_body in
-              let staged = copied_staged old few (room (sym (down_after copied old dev) ∙ up)) is in
+              let staged = copied_staged format old few (room (sym (down_after copied old dev) ∙ up)) is in
               safe_kept_as (Copies old) (InCopy Sealing old) (write_seal ∷ Flush dev ∷ []) (After (Flushed dev) g) (in_sealing old)
               (write_kept Sealing old (seal_place seal.number) (seal_sector seal) place_put, (flush_kept Sealing old, tt))
               ((is_staged_sealing (After (Flushed dev) g) staged, beyond.0.1), beyond.1),
         )
 
     -- and its end
-    copy_done : (old new : History) → length body ≤ BODY_SECTORS → (is_down old dev ≡ false → JOURNAL_SECTORS ≤ length (seen old dev))
+    copy_done : (format : Format) (old new : History) → length body ≤ BODY_SECTORS → (is_down old dev ≡ false → journal_sectors format ≤ length (seen old dev))
         → IsOn dev disk seal body Writing old
         → Made (copy_calls from dev seal body) true old new → IsPutOn dev disk seal body Sealed new
-    copy_done old new few room is made =
+    copy_done format old new few room is made =
         let rest : List Call = Flush dev ∷ write_seal ∷ Flush dev ∷ [] in
         let up = (up_after copied rest old (made_up made)).0 in
         let g = After (Flushed dev) (after_all copied old) in
         let ends = made_all made ∙ after_both copied rest old in
         record {
           on = subst (λ (h : History). IsOn dev disk seal body Sealed h) (sym ends)
-              (seal_sealed g (omega (arith, room up, sizes_after copied old dev)) (copied_staged old few (room up) is));
+              (seal_sealed format g (omega (arith, room up, sizes_after copied old dev)) (copied_staged format old few (room up) is));
           flushed = flushed_after dev (After (Wrote dev (seal_place seal.number) (seal_sector seal)) g) new ends;
           up = made_down made dev ∙ up;
         }
 
     -- an entry is copied to a journal
-    pub copy_put : {answered : Bool} (old new : History) → length body ≤ BODY_SECTORS → (is_down old dev ≡ false → JOURNAL_SECTORS ≤ length (seen old dev))
+    pub copy_put : {answered : Bool} (format : Format) (old new : History) → length body ≤ BODY_SECTORS
+        → (is_down old dev ≡ false → journal_sectors format ≤ length (seen old dev))
         → IsOn dev disk seal body Writing old
         → Made (copy_calls from dev seal body) answered old new
         → Throughout (λ h. (IsOn dev disk seal body Writing h ⊎ IsOn dev disk seal body Sealing h) × StaysOff (λ d. (d ≡ dev) ⊎ (d ≡ from)) old h
         × IsOnlyRead from old h) old new
         × (answered ≡ true → IsPutOn dev disk seal body Sealed new)
-    copy_put old new few room is made = (
-      throughout_made (Copies old) (copy_safe old few room is) made,
-      λ all. copy_done old new few room is (subst (λ (b : Bool). Made (copy_calls from dev seal body) b old new) all made),
+    copy_put format old new few room is made = (
+      throughout_made (Copies old) (copy_safe format old few room is) made,
+      λ all. copy_done format old new few room is (subst (λ (b : Bool). Made (copy_calls from dev seal body) b old new) all made),
     )

@@ -8,6 +8,7 @@ use Rattle.std.proofs.lemmas.List.{drop-drop, ext_get_or, get_or-drop, get_or-re
 use Rattle.std.proofs.lemmas.List.{length-take-le, take-append-drop}
 use Rattle.std.proofs.lemmas.Nat.{le_bytes_4, le_bytes_8}
 use Rattle.byteorder.specs.Endian.{little_bytes, little_number}
+use Rattle.stripe_journal.specs.Forms.{rows_in}
 use Rattle.stripe_journal.specs.declared.seal.Seal.{Seal}
 use Rattle.stripe_journal.specs.Law.{HasFields}
 use Rattle.stripe_journal.specs.Spelling.{first_mark, last_mark, masks_of, zeros, row_numbers, seal_bytes, seal_sector}
@@ -97,7 +98,7 @@ joined sector mark id number count gap rows past masks rest end n p0 p1 p2 p3 p4
 pub respelled : (sector : List ℕ) (seal : Seal) → length sector ≡ 512 → ((k : ℕ) → get_or sector k 0 < 256) → HasFields sector seal → sector ≡ seal_sector seal
 unfolding seal_bytes row_numbers
 respelled sector seal long bytes fields =
-    let rows = seal.rows.items in
+    let rows = rows_in seal.form in
     let count = length rows in
     let few : count ≤ 32 = seal.allowed.rows_most in
     let number_part = take 8 (drop 24 sector) in

@@ -4,7 +4,7 @@ use Rattle.std.specs.List.{IsAllAdjacentAnswer}
 use Rattle.std.specs.List.Sorted.{IsStrictlyIncreasing}
 use denote.Struct.Props.{props}
 use Rattle.stripe_journal.specs.declared.form.Form.{Form}
-use Rattle.stripe_journal.specs.Forms.{IsForm}
+use Rattle.stripe_journal.specs.Forms.{IsForm, rows_in}
 use Rattle.stripe_journal.specs.Seals.{IsSeal}
 use Rattle.stripe_journal.specs.declared.seal.Seal.{Seal}
 use Rattle.std.proofs.lemmas.Bool.{false≢true}
@@ -26,28 +26,20 @@ IsSeal-prop number rows = hlevel props
 IsForm-prop : (form : Form) (count : ℕ) → IsProp (IsForm form count)
 IsForm-prop form count = hlevel props
 
--- the seal with this id, number, rows and form
-seal_of : (id : List ℕ) (number : ℕ) (rows : List ℕ) (form : Form) → IsSeal number rows → IsForm form (length rows) → Seal
-seal_of id number rows form allowed formed = record {
-  id = id;
-  number = number;
-  rows = record { items = rows };
-  form = form;
-  allowed = allowed;
-  formed =
-      formed;
-}
+-- the seal with this id, number and form
+seal_of : (id : List ℕ) (number : ℕ) (form : Form) → IsSeal number (rows_in form) → IsForm form (length (rows_in form)) → Seal
+seal_of id number form allowed formed = record { id = id; number = number; form = form; allowed = allowed; formed = formed }
 
--- a seal is known by its id, number, rows and form
-pub same_seal : (a b : Seal) → a.id ≡ b.id → a.number ≡ b.number → a.rows.items ≡ b.rows.items → a.form ≡ b.form → a ≡ b
+-- a seal is known by its id, number and form
+pub same_seal : (a b : Seal) → a.id ≡ b.id → a.number ≡ b.number → a.form ≡ b.form → a ≡ b
 unfolding seal_of
-same_seal a b id number rows form =
-    subst (λ (i : List ℕ). a ≡ seal_of i b.number b.rows.items b.form b.allowed b.formed) id
-    (subst (λ (n : ℕ). (q : IsSeal n b.rows.items) → a ≡ seal_of a.id n b.rows.items b.form q b.formed) number
-    (λ q. subst (λ (r : List ℕ). (q : IsSeal a.number r) (f : IsForm b.form (length r)) → a ≡ seal_of a.id a.number r b.form q f) rows
-    (λ q f. subst (λ (m : Form). (f : IsForm m (length a.rows.items)) → a ≡ seal_of a.id a.number a.rows.items m q f) form
-    (λ f. ap (λ (p : IsSeal a.number a.rows.items). seal_of a.id a.number a.rows.items a.form p a.formed) (IsSeal-prop a.number a.rows.items a.allowed q)
-    ∙ ap (seal_of a.id a.number a.rows.items a.form q) (IsForm-prop a.form (length a.rows.items) a.formed f)) f) q b.formed) b.allowed)
+same_seal a b id number form =
+    subst (λ (i : List ℕ). a ≡ seal_of i b.number b.form b.allowed b.formed) id
+    (subst (λ (n : ℕ). (q : IsSeal n (rows_in b.form)) → a ≡ seal_of a.id n b.form q b.formed) number
+    (λ q. subst (λ (m : Form). (q : IsSeal a.number (rows_in m)) (f : IsForm m (length (rows_in m))) → a ≡ seal_of a.id a.number m q f) form
+    (λ q f. ap (λ (p : IsSeal a.number (rows_in a.form)). seal_of a.id a.number a.form p a.formed)
+    (IsSeal-prop a.number (rows_in a.form) a.allowed q)
+    ∙ ap (seal_of a.id a.number a.form q) (IsForm-prop a.form (length (rows_in a.form)) a.formed f)) q b.formed) b.allowed)
 
 -- the same number and the same rows are allowed
 pub same_allowed : (a b : ℕ) (rows rows' : List ℕ) → a ≡ b → rows ≡ rows' → IsSeal b rows' → IsSeal a rows

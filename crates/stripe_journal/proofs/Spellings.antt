@@ -8,7 +8,7 @@ use borrow.Rule.Slice.PartMut.{put_mid}
 use Rattle.stripe_journal.specs.declared.form.Form.{Form}
 use Rattle.stripe_journal.specs.declared.form.Form.TheVariants.{Held, Whole}
 use Rattle.stripe_journal.specs.declared.seal.Seal.{Seal}
-use Rattle.stripe_journal.specs.Forms.{IsForm}
+use Rattle.stripe_journal.specs.Forms.{IsForm, rows_in}
 use Rattle.stripe_journal.specs.Seals.{IsSeal}
 use Rattle.stripe_journal.proofs.Seals.{same_seal}
 use Rattle.stripe_journal.specs.Spelling.{first_mark, last_mark, masks_of, zeros, row_numbers, seal_bytes, seal_sector}
@@ -86,27 +86,34 @@ written n bytes xs = ap (λ (ys : List ℕ). bytes ++ ys) (drop_all n (take n xs
 -- marks have eight bytes
 pub length-first_mark : (form : Form) → length (first_mark form) ≡ 8
 unfolding first_mark
-length-first_mark Whole = refl
-length-first_mark (Held masks) = refl
+length-first_mark (Whole rows) = refl
+length-first_mark (Held rows masks) = refl
 
 pub length-last_mark : (form : Form) → length (last_mark form) ≡ 8
 unfolding last_mark
-length-last_mark Whole = refl
-length-last_mark (Held masks) = refl
+length-last_mark (Whole rows) = refl
+length-last_mark (Held rows masks) = refl
 
 -- and masks 32
 pub length-masks : (form : Form) (count : ℕ) → IsForm form count → length (masks_of form) ≡ 32
 unfolding masks_of
-length-masks Whole count formed = length-zeros 32
-length-masks (Held masks) count formed = (formed masks refl).long
+length-masks (Whole rows) count formed = length-zeros 32
+length-masks (Held rows masks) count formed = (formed rows masks refl).long
 
 abbrev is_held : Form → Bool
-is_held Whole = false
-is_held (Held masks) = true
+is_held (Whole rows) = false
+is_held (Held rows masks) = true
 
--- the form that a sector's mark names, with the masks that stand in it
-unfoldable pub form_read : List ℕ → Form
-form_read sector = cond (get_or sector 7 0 == 50) (Held (take 32 (drop 168 sector))) Whole
+-- so many rows, and the masks that stand in a sector
+abbrev held_with : List ℕ → List ℕ → Form
+held_with rows sector = Held (record { items = rows }) (take 32 (drop 168 sector))
+
+abbrev whole_with : List ℕ → Form
+whole_with rows = Whole (record { items = rows })
+
+-- the form of these rows that a sector's mark names, with the masks that stand in it
+unfoldable pub form_read : (rows sector : List ℕ) → Form
+form_read rows sector = cond (get_or sector 7 0 == 50) (held_with rows sector) (whole_with rows)
 
 -- four bytes for each number
 pub length-numbers : (rows : List ℕ) → length (flat_map (little_bytes 4) rows) ≡ 4 * length rows
@@ -258,7 +265,7 @@ length-seal_bytes id number rows form few formed =
 
 -- the spelling of a seal fills a sector
 pub length-seal_sector : (seal : Seal) → length (seal_sector seal) ≡ length seal.id + 496
-length-seal_sector seal = length-seal_bytes seal.id seal.number seal.rows.items seal.form seal.allowed.rows_most seal.formed
+length-seal_sector seal = length-seal_bytes seal.id seal.number (rows_in seal.form) seal.form seal.allowed.rows_most seal.formed
 
 -- what is read of a sector that spells a seal
 pub fields_of : (id : List ℕ) (number : ℕ) (rows : List ℕ) (form : Form) (sector : List ℕ) → length sector ≡ 512 → length rows ≤ ENTRY_ROWS
@@ -284,32 +291,36 @@ fields_of id number rows form sector long few formed is =
       last_is = all.part8;
     }
 
-pub read_as_whole : (sector : List ℕ) → get_or sector 7 0 ≢ 50 → form_read sector ≡ Whole
+pub read_as_whole : (rows sector : List ℕ) → get_or sector 7 0 ≢ 50 → form_read rows sector ≡ Whole (record { items = rows })
 unfolding form_read
-read_as_whole sector other = ap (λ (b : Bool). cond b (Held (take 32 (drop 168 sector))) Whole) (ne_eqb (get_or sector 7 0) 50 other)
+read_as_whole rows sector other = ap (λ (b : Bool). cond b (held_with rows sector) (whole_with rows)) (ne_eqb (get_or sector 7 0) 50 other)
 
-pub read_as_held : (sector : List ℕ) → get_or sector 7 0 ≡ 50 → form_read sector ≡ Held (take 32 (drop 168 sector))
+pub read_as_held : (rows sector : List ℕ) → get_or sector 7 0 ≡ 50 → form_read rows sector ≡ Held (record { items = rows }) (take 32 (drop 168 sector))
 unfolding form_read
-read_as_held sector is = ap (λ (b : Bool). cond b (Held (take 32 (drop 168 sector))) Whole) (eq-eqb (get_or sector 7 0) 50 is)
+read_as_held rows sector is = ap (λ (b : Bool). cond b (held_with rows sector) (whole_with rows)) (eq-eqb (get_or sector 7 0) 50 is)
 
 -- the form is read back
 
 mark_names : (form : Form) → get_or (first_mark form) 7 0 ≡ cond (is_held form) 50 49
 unfolding first_mark
-mark_names Whole = refl
-mark_names (Held masks) = refl
+mark_names (Whole rows) = refl
+mark_names (Held rows masks) = refl
 
-form_by : (form : Form) (sector : List ℕ) → get_or sector 7 0 ≡ cond (is_held form) 50 49 → take 32 (drop 168 sector) ≡ masks_of form → form_read sector ≡ form
+form_by : (form : Form) (rows sector : List ℕ) → rows_in form ≡ rows → get_or sector 7 0 ≡ cond (is_held form) 50 49 → take 32 (drop 168 sector) ≡ masks_of form
+    → form_read rows sector ≡ form
 unfolding form_read masks_of
-form_by Whole sector mark masks = ap (λ (b : ℕ). cond (b == 50) (Held (take 32 (drop 168 sector))) Whole) mark
-form_by (Held masks) sector mark masks_are = ap (λ (b : ℕ). cond (b == 50) (Held (take 32 (drop 168 sector))) Whole) mark ∙ ap Held masks_are
+form_by (Whole own) rows sector same mark masks =
+    ap (λ (b : ℕ). cond (b == 50) (held_with rows sector) (whole_with rows)) mark ∙ ap whole_with (sym same)
+form_by (Held own masks) rows sector same mark masks_are =
+    ap (λ (b : ℕ). cond (b == 50) (held_with rows sector) (whole_with rows)) mark ∙ ap (Held (record { items = rows })) masks_are
+    ∙ ap (λ (r : List ℕ). Held (record { items = r }) masks) (sym same)
 
 pub form_back : (id : List ℕ) (number : ℕ) (rows : List ℕ) (form : Form) (sector : List ℕ) → length sector ≡ 512 → length rows ≤ ENTRY_ROWS
     → IsForm form (length rows)
-    → sector ≡ seal_bytes id number rows form → form_read sector ≡ form
-form_back id number rows form sector long few formed is =
+    → sector ≡ seal_bytes id number rows form → rows_in form ≡ rows → form_read rows sector ≡ form
+form_back id number rows form sector long few formed is named =
     let fields = fields_of id number rows form sector long few formed is in
-    form_by form sector
+    form_by form rows sector named
     (sym (get_or-take 8 sector 7 0 (omega arith)) ∙ ap (λ (xs : List ℕ). get_or xs 7 0) fields.first_is ∙ mark_names form)
     fields.masks_are
 
@@ -379,30 +390,29 @@ rows_read_back id number rows form sector allowed formed long is =
 -- what a sector says is read of it alone
 pub sector_says : (id : List ℕ) (number : ℕ) (rows : List ℕ) (form : Form) (sector : List ℕ) → IsSeal number rows → IsForm form (length rows)
     → length sector ≡ 512
-    → sector ≡ seal_bytes id number rows form
+    → sector ≡ seal_bytes id number rows form → rows_in form ≡ rows
     → (id ≡ take 16 (drop 8 sector)) × (number ≡ little_number 8 (take 8 (drop 24 sector)))
-    × (rows ≡ rows_read (little_number 4 (take 4 (drop 32 sector))) sector)
-    × (form ≡ form_read sector)
-sector_says id number rows form sector allowed formed long is = (
+    × (form ≡ form_read (rows_read (little_number 4 (take 4 (drop 32 sector))) sector) sector)
+sector_says id number rows form sector allowed formed long is named = (
   sym (fields_of id number rows form sector long allowed.rows_most formed is).id_is,
   sym (entry_back id number rows form sector allowed formed long is),
-  sym (rows_read_back id number rows form sector allowed formed long is),
-  sym (form_back id number rows form sector long allowed.rows_most formed is),
+  sym (ap (λ (r : List ℕ). form_read r sector) (rows_read_back id number rows form sector allowed formed long is)
+      ∙ form_back id number rows form sector long allowed.rows_most formed is named),
 )
 
 -- a sector spells one seal at most
 pub one_spelled : (sector : List ℕ) (first second : Seal) → length sector ≡ 512 → sector ≡ seal_sector first → sector ≡ seal_sector second → first ≡ second
 one_spelled sector first second long is_first is_second =
-    let one = sector_says first.id first.number first.rows.items first.form sector first.allowed first.formed long is_first in
-    let other = sector_says second.id second.number second.rows.items second.form sector second.allowed second.formed long is_second in
-    same_seal first second (one.0 ∙ sym other.0) (one.1 ∙ sym other.1) (one.2 ∙ sym other.2) (one.3 ∙ sym other.3)
+    let one = sector_says first.id first.number (rows_in first.form) first.form sector first.allowed first.formed long is_first refl in
+    let other = sector_says second.id second.number (rows_in second.form) second.form sector second.allowed second.formed long is_second refl in
+    same_seal first second (one.0 ∙ sym other.0) (one.1 ∙ sym other.1) (one.2 ∙ sym other.2)
 
 -- a spelling begins with the mark's first byte
 
 bytes_begin : (form : Form) (id : List ℕ) (number : ℕ) (rows : List ℕ) → get_or (seal_bytes id number rows form) 0 0 ≡ 82
 unfolding seal_bytes first_mark
-bytes_begin Whole id number rows = refl
-bytes_begin (Held masks) id number rows = refl
+bytes_begin (Whole own) id number rows = refl
+bytes_begin (Held own masks) id number rows = refl
 
 pub seal_begins : (seal : Seal) → get_or (seal_sector seal) 0 0 ≡ 82
-seal_begins seal = bytes_begin seal.form seal.id seal.number seal.rows.items
+seal_begins seal = bytes_begin seal.form seal.id seal.number (rows_in seal.form)

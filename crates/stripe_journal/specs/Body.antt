@@ -3,7 +3,7 @@ use Rattle.std.specs.Prelude.{ℕ, ◌+◌, ◌%◌, ◌==◌, if◌then◌else�
 use Rattle.layout_map.specs.declared.sizes.TheConstants.{FIRST_SEAL, HALVES}
 use Rattle.stripe_journal.specs.declared.seal.Seal.{Seal}
 use Rattle.stripe_journal.specs.Entries.{body_start}
-use Rattle.stripe_journal.specs.Forms.{holds, rank}
+use Rattle.stripe_journal.specs.Forms.{holds, rank, rows_in}
 
 -- the sector with the seal of the entry of this number
 abbrev pub seal_place : (number : ℕ) → ℕ
@@ -21,4 +21,4 @@ place_in (first ∷ rows) row = if first == row then Some 0 else option_map (λ 
 
 -- the sector in which the entry of a seal has a member's sector of a row, if it has one
 abbrev pub place_by_seal : (members : ℕ) → Seal → (row member : ℕ) → Option ℕ
-place_by_seal members seal row member = option_and_then (λ i. body_place members seal i member) (place_in seal.rows.items row)
+place_by_seal members seal row member = option_and_then (λ i. body_place members seal i member) (place_in (rows_in seal.form) row)

@@ -9,7 +9,7 @@ use Rattle.sector_model.specs.History.{Bytes, History, sector_of, seen}
 use Rattle.stripe_journal.specs.declared.seal.Seal.{Seal}
 use Rattle.stripe_journal.specs.Body.{seal_place}
 use Rattle.stripe_journal.specs.Entries.{body_start}
-use Rattle.stripe_journal.specs.Forms.{held_before}
+use Rattle.stripe_journal.specs.Forms.{held_before, rows_in}
 use Rattle.stripe_journal.specs.Spelling.{seal_sector}
 
 -- each of these sectors is read from the one device, and written to the same place of the other
@@ -20,7 +20,7 @@ copied_from from to at (value ∷ values) = Read from at ∷ Write to at value �
 -- the body of a seal's entry, as reads of a journal give it
 abbrev pub body_in : (members : ℕ) → List Bytes → Seal → List Bytes
 body_in members journal seal =
-    map (λ i. sector_of journal (body_start seal.number + i)) (range_with_len 0 (held_before members seal.form (length seal.rows.items)))
+    map (λ i. sector_of journal (body_start seal.number + i)) (range_with_len 0 (held_before members seal.form (length (rows_in seal.form))))
 
 -- The calls of a copy: the body is copied and flushed, and only then the seal is written and flushed.
 abbrev pub copy_calls : (from to : ℕ) → Seal → List Bytes → List Call

@@ -15,9 +15,9 @@ use Rattle.stripe_journal.specs.Forms.{has_bit, held_members, mask_at}
 abbrev pub numbers_of : Entry → List ℕ
 numbers_of entry = entry.rows.items
 
--- which sectors of its rows an entry holds
+-- the rows of an entry, and which of their sectors it holds
 abbrev pub form_of : Entry → Form
-form_of entry = Held entry.masks
+form_of entry = Held entry.rows entry.masks
 
 -- the mask of the i-th row of an entry
 abbrev pub row_mask : Entry → (i : ℕ) → ℕ

@@ -2,6 +2,7 @@
 use Rattle.std.specs.Prelude.{◌≡◌, ℕ, zero, suc, ◌+◌, ◌<◌, ◌≤◌, ◌==◌, Bool, true, nat_lt, if◌then◌else◌, List, filter, length, slice_index_or, count_ones}
 use Rattle.std.specs.Int.{bit_at}
 use Rattle.std.specs.List.{range_with_len}
+use Rattle.arrayvec.specs.ArrayVec.{ArrayVec}
 use Rattle.layout_map.specs.declared.geometry.Geometry.{Geometry}
 use Rattle.layout_map.specs.declared.sizes.TheConstants.{ENTRY_ROWS}
 use Rattle.layout_map.specs.Placement.{IsParityOf}
@@ -16,10 +17,15 @@ has_bit mask member = bit_at mask member == 1
 abbrev pub mask_at : List ℕ → (i : ℕ) → ℕ
 mask_at masks i = slice_index_or masks i 0
 
+-- the rows of an entry
+abbrev pub rows_in : Form → List ℕ
+rows_in (Whole rows) = rows.items
+rows_in (Held rows masks) = rows.items
+
 -- whether the i-th row of an entry holds a member's sector, in a set with so many members
 abbrev pub holds : (members : ℕ) → Form → (i member : ℕ) → Bool
-holds members Whole i member = nat_lt member members
-holds members (Held masks) i member = has_bit (mask_at masks i) member
+holds members (Whole rows) i member = nat_lt member members
+holds members (Held rows masks) i member = has_bit (mask_at masks i) member
 
 -- masks of an entry with so many rows: one byte each, with two bits at least for a row, and zero after the last row
 pub record AreMasks (masks : List ℕ) (count : ℕ) : Type 0 where
@@ -30,7 +36,7 @@ pub record AreMasks (masks : List ℕ) (count : ℕ) : Type 0 where
 
 -- what a seal of so many rows may say of the sectors that its entry holds: if it names masks, those of so many rows
 abbrev pub IsForm : Form → (count : ℕ) → Type 0
-IsForm form count = (masks : List ℕ) → form ≡ Held masks → AreMasks masks count
+IsForm form count = (rows : ArrayVec ℕ) (masks : List ℕ) → form ≡ Held rows masks → AreMasks masks count
 
 -- A row that holds sectors of these members fits a set: it holds no sector of a member that the set lacks, and that of the row's parity.
 pub record HoldsRow (geometry : Geometry) (row : ℕ) (held : ℕ → Bool) : Type 0 where

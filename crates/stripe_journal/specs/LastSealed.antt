@@ -5,7 +5,7 @@ use Rattle.layout_map.specs.declared.geometry.Geometry.{Geometry}
 use Rattle.layout_map.specs.Placement.{rows_of}
 use Rattle.stripe_journal.specs.declared.form.Form.{Form}
 use Rattle.stripe_journal.specs.declared.seal.Seal.{Seal}
-use Rattle.stripe_journal.specs.Forms.{HoldsRow, holds}
+use Rattle.stripe_journal.specs.Forms.{HoldsRow, holds, rows_in}
 use Rattle.stripe_journal.specs.Seals.{row_at}
 
 -- these are rows of a set
@@ -21,5 +21,5 @@ RowsHold geometry form rows = (i : ℕ) → i < length rows → HoldsRow geometr
 pub record Belongs (id : List ℕ) (geometry : Geometry) (place : ℕ) (seal : Seal) : Type 0 where
   pub of_set : seal.id ≡ id
   pub own_place : seal.number % HALVES ≡ place
-  pub below : AreBelow geometry seal.rows.items
-  pub held : RowsHold geometry seal.form seal.rows.items
+  pub below : AreBelow geometry (rows_in seal.form)
+  pub held : RowsHold geometry seal.form (rows_in seal.form)

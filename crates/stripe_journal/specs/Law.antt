@@ -1,7 +1,9 @@
 -- What the spelling of seals keeps, and the places of bodies.
 use Rattle.std.specs.Prelude.{◌≡◌, ℕ, ◌+◌, ◌*◌, ◌%◌, ◌<◌, ◌≤◌, List, [], length, take, drop, slice_index, slice_index_or, Some}
-use Rattle.layout_map.specs.declared.sizes.TheConstants.{FIRST_BODY, HALVES, JOURNAL_SECTORS, MOST_MEMBERS}
+use Rattle.layout_map.specs.declared.sizes.TheConstants.{BODY_SECTORS, FIRST_BODY, HALVES, MOST_MEMBERS}
+use Rattle.arrayvec.specs.ArrayVec.{ArrayVec}
 use Rattle.byteorder.specs.Endian.{little_number}
+use Rattle.stripe_journal.specs.Forms.{rows_in}
 use Rattle.stripe_journal.specs.declared.entry.Entry.{Entry}
 use Rattle.stripe_journal.specs.declared.form.Form.TheVariants.{Whole}
 use Rattle.stripe_journal.specs.declared.seal.Seal.{Seal}
@@ -15,10 +17,10 @@ pub record HasFields (sector : List ℕ) (seal : Seal) : Type 0 where
   pub begins : take 8 sector ≡ first_mark seal.form
   pub id_is : take 16 (drop 8 sector) ≡ seal.id
   pub number_is : little_number 8 (drop 24 sector) ≡ seal.number
-  pub count_is : little_number 4 (drop 32 sector) ≡ length seal.rows.items
+  pub count_is : little_number 4 (drop 32 sector) ≡ length (rows_in seal.form)
   pub gap_is : (at : ℕ) → 36 ≤ at → at < 40 → slice_index sector at ≡ 0
-  pub rows_are : (i : ℕ) → i < length seal.rows.items → little_number 4 (drop (40 + 4 * i) sector) ≡ row_at seal.rows.items i
-  pub past_is : (at : ℕ) → 40 + 4 * length seal.rows.items ≤ at → at < 168 → slice_index sector at ≡ 0
+  pub rows_are : (i : ℕ) → i < length (rows_in seal.form) → little_number 4 (drop (40 + 4 * i) sector) ≡ row_at (rows_in seal.form) i
+  pub past_is : (at : ℕ) → 40 + 4 * length (rows_in seal.form) ≤ at → at < 168 → slice_index sector at ≡ 0
   pub masks_are : take 32 (drop 168 sector) ≡ masks_of seal.form
   pub rest_is : (at : ℕ) → 200 ≤ at → at < 504 → slice_index sector at ≡ 0
   pub ends : drop 504 sector ≡ last_mark seal.form
@@ -43,7 +45,7 @@ SpellsOneSeal = (sector : List ℕ) (first second : Seal) → length sector ≡ 
 -- a body of at most 32 rows of at most 8 members lies in sectors 8 to 519
 abbrev pub BodiesAreWithin : Type 0
 BodiesAreWithin = (members : ℕ) (seal : Seal) (row member place : ℕ) → members ≤ MOST_MEMBERS → member < members
-    → place_by_seal members seal row member ≡ Some place → (FIRST_BODY ≤ place) × (place < JOURNAL_SECTORS)
+    → place_by_seal members seal row member ≡ Some place → (FIRST_BODY ≤ place) × (place < FIRST_BODY + HALVES * BODY_SECTORS)
 
 -- one sector is in the bodies of two entries only where their numbers are both even or both odd
 abbrev pub HalvesLieApart : Type 0
@@ -58,12 +60,12 @@ BodiesLieApart = (members : ℕ) (seal : Seal) (row member row' member' place : 
 
 -- an entry whose seal names no members holds those of each row, one after another
 abbrev pub WholeRowsFollow : Type 0
-WholeRowsFollow = (members : ℕ) (seal : Seal) (i member : ℕ) → seal.form ≡ Whole → i < length seal.rows.items → member < members
-    → place_by_seal members seal (row_at seal.rows.items i) member ≡ Some (body_start seal.number + i * members + member)
+WholeRowsFollow = (members : ℕ) (seal : Seal) (i member : ℕ) → (rows : ArrayVec ℕ) → seal.form ≡ Whole rows → i < length (rows_in seal.form) → member < members
+    → place_by_seal members seal (row_at (rows_in seal.form) i) member ≡ Some (body_start seal.number + i * members + member)
 
 -- what is written of an entry in memory stands where the seal with its rows and its form says
 abbrev pub BodiesAreInPlace : Type 0
-BodiesAreInPlace = (members : ℕ) (seal : Seal) (entry : Entry) (i member k : ℕ) → members ≤ MOST_MEMBERS → numbers_of entry ≡ seal.rows.items
+BodiesAreInPlace = (members : ℕ) (seal : Seal) (entry : Entry) (i member k : ℕ) → members ≤ MOST_MEMBERS → numbers_of entry ≡ rows_in seal.form
     → form_of entry ≡ seal.form
-    → i < length seal.rows.items → member < members → place_by_seal members seal (row_at seal.rows.items i) member ≡ Some (body_start seal.number + k)
+    → i < length (rows_in seal.form) → member < members → place_by_seal members seal (row_at (rows_in seal.form) i) member ≡ Some (body_start seal.number + k)
     → slice_index_or (body_of members entry) k [] ≡ sector_at entry i member

@@ -3,7 +3,7 @@ ghost use Rattle.std.specs.Prelude.{◌≡◌, ◌↔◌, ◌≤◌, ◌<◌, �
 ghost use Rattle.std.specs.List.Sorted.{IsStrictlyIncreasing};
 ghost use Rattle.layout_map.specs.declared.sizes.TheConstants.{ENTRY_ROWS};
 ghost use Rattle.stripe_journal.specs.declared.seal.Seal.{Seal};
-ghost use Rattle.stripe_journal.specs.Forms.{AreMasks, IsForm, mask_at};
+ghost use Rattle.stripe_journal.specs.Forms.{AreMasks, IsForm, mask_at, rows_in};
 ghost use Rattle.stripe_journal.specs.Seals.{IsSeal};
 ghost use Rattle.stripe_journal.specs.Spelling.{seal_sector};
 
@@ -17,7 +17,7 @@ use sector_model::{GREATEST_COUNT, Sector};
 pub fn seal_encode(seal: &Seal, to: &mut Sector)
     ensures { to.new ≡ seal_sector seal.now }
 {
-    let rows = seal.rows.as_slice();
+    let rows = seal.form.rows().as_slice();
     to.fill(0);
     to[..8].copy_from_slice(seal.form.first_mark());
     to[8..24].copy_from_slice(&seal.id);
@@ -47,35 +47,30 @@ fn read_seal(from: &Sector) -> Option<Seal>
 {
     let number = LittleEndian::read_u64(&from[24..32]);
     let rows = read_rows(from);
-    let form = read_form(from);
-    if !is_seal(number, &rows) || !is_form(&form, rows.len()) {
+    let form = read_form(from, rows);
+    if !is_seal(number, form.rows()) || !is_form(&form, form.rows().len()) {
         return None;
     }
     let mut id = [0; 16];
     id.copy_from_slice(&from[8..24]);
-    Some(Seal {
-        id,
-        number,
-        rows,
-        form,
-    })
+    Some(Seal { id, number, form })
 }
 
-/// The form of the seal in a sector, by the last byte of its mark at the start.
-fn read_form(from: &Sector) -> Form
-    ensures { (s : Seal) → from.now ≡ seal_sector s → result ≡ s.form }
+/// The form of the seal in a sector, of these rows, by the last byte of its mark at the start.
+fn read_form(from: &Sector, rows: ArrayVec<u32, ENTRY_ROWS>) -> Form
+    ensures { (s : Seal) → from.now ≡ seal_sector s → rows.items ≡ rows_in s.form → result ≡ s.form }
 {
     if from[7] != b'2' {
-        return Form::Whole;
+        return Form::Whole(rows);
     }
     let mut masks = [0; ENTRY_ROWS];
     masks.copy_from_slice(&from[168..200]);
-    Form::Held(masks)
+    Form::Held(rows, masks)
 }
 
 /// The row numbers in a sector, as many as its count says, and 32 where it says more.
 fn read_rows(from: &Sector) -> ArrayVec<u32, ENTRY_ROWS>
-    ensures { (s : Seal) → from.now ≡ seal_sector s → result.items ≡ s.rows.items }
+    ensures { (s : Seal) → from.now ≡ seal_sector s → result.items ≡ rows_in s.form }
 {
     let count = LittleEndian::read_u32(&from[32..36]);
     let mut numbers = [0; ENTRY_ROWS];
@@ -106,8 +101,8 @@ fn is_form(form: &Form, count: usize) -> bool
     ensures { IsTrue result ↔ IsForm form.now count }
 {
     match form {
-        Form::Whole => true,
-        Form::Held(masks) => are_masks(masks, count),
+        Form::Whole(_) => true,
+        Form::Held(_, masks) => are_masks(masks, count),
     }
 }
 

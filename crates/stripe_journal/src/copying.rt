@@ -1,6 +1,6 @@
 //! A copy of an entry, from one journal to the other.
 ghost use Rattle.std.specs.Prelude.{◌≡◌, ◌≢◌, ◌⊎◌, ◌≤◌, ◌<◌, ◌↔◌, false, is_ok, IfErr, OnOk};
-ghost use Rattle.layout_map.specs.declared.sizes.TheConstants.{JOURNAL_SECTORS};
+ghost use Rattle.layout_map.specs.Formats.{journal_sectors};
 ghost use Rattle.sector_model.specs.Bank.{IsCauseOf, IsLater};
 ghost use Rattle.sector_model.specs.Calls.{Made};
 ghost use Rattle.sector_model.specs.History.{seen};
@@ -13,8 +13,8 @@ use sector_model::{Bank, Stop, flush_device, read_sector, write_sector};
 
 /// Copies the entry of this seal from the journal `from` to the journal `to`: the body first, sector after sector, and
 /// only when it is flushed the seal, which is flushed too. What the body of `from` holds it does not check. The
-/// journals are two slots of the bank, each with at least 520 sectors where it is up (conditions). `Down` names the one
-/// that is down; `Worn` where the count of device calls stands at 2^62.
+/// journals are two slots of the bank, each where it is up with as many sectors as a journal of the set's format has at
+/// least (conditions). `Down` names the one that is down; `Worn` where the count of device calls stands at 2^62.
 pub fn copy_entry<B: Bank>(
     bank: &mut B,
     from: u8,
@@ -25,8 +25,10 @@ pub fn copy_entry<B: Bank>(
     requires from { from < (B.panel bank.old).devices }
     requires to { to < (B.panel bank.old).devices }
     requires apart { from ≢ to }
-    requires from_within { (B.panel bank.old).down from ≡ false → JOURNAL_SECTORS ≤ (B.panel bank.old).sectors from }
-    requires to_within { (B.panel bank.old).down to ≡ false → JOURNAL_SECTORS ≤ (B.panel bank.old).sectors to }
+    requires from_within { (B.panel bank.old).down from ≡ false
+        → journal_sectors geometry.now.format ≤ (B.panel bank.old).sectors from }
+    requires to_within { (B.panel bank.old).down to ≡ false
+        → journal_sectors geometry.now.format ≤ (B.panel bank.old).sectors to }
     ensures honest { B.honest bank.old ↔ B.honest bank.new }
     ensures up { OnOk result ((B.panel bank.new).down to ≡ false) }
     ensures copies { CopiesEntry (B.honest bank.old) geometry.now.members from to seal.now (B.panel bank.old)
@@ -49,8 +51,10 @@ fn copy_body<B: Bank>(
     requires from { from < (B.panel bank.old).devices }
     requires to { to < (B.panel bank.old).devices }
     requires apart { from ≢ to }
-    requires from_within { (B.panel bank.old).down from ≡ false → JOURNAL_SECTORS ≤ (B.panel bank.old).sectors from }
-    requires to_within { (B.panel bank.old).down to ≡ false → JOURNAL_SECTORS ≤ (B.panel bank.old).sectors to }
+    requires from_within { (B.panel bank.old).down from ≡ false
+        → journal_sectors geometry.now.format ≤ (B.panel bank.old).sectors from }
+    requires to_within { (B.panel bank.old).down to ≡ false
+        → journal_sectors geometry.now.format ≤ (B.panel bank.old).sectors to }
     ensures panel { IsLater (B.panel bank.old) (B.panel bank.new) }
     ensures honest { B.honest bank.old ↔ B.honest bank.new }
     ensures made { B.honest bank.old → Made
@@ -61,7 +65,9 @@ fn copy_body<B: Bank>(
         × ((stop ≡ Stop.Worn) ⊎ (stop ≡ Stop.Down from) ⊎ (stop ≡ Stop.Down to))) }
 {
     let first = FIRST_BODY + BODY_SECTORS * (seal.number % HALVES as u64) as u32;
-    let count = seal.form.held_before(geometry.members, seal.rows.len());
+    let count = seal
+        .form
+        .held_before(geometry.members, seal.form.rows().len());
     let mut sector = [0; 512];
     for i in 0..count {
         read_sector(bank, from, first + i, &mut sector)?;

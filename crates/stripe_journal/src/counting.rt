@@ -20,7 +20,7 @@ pub(crate) fn counts(seal: &Seal, id: &[u8; 16], geometry: &Geometry, place: u64
 {
     seal.id == *id
         && seal.number % HALVES as u64 == place
-        && is_of_set(&seal.form, seal.rows.as_slice(), geometry)
+        && is_of_set(&seal.form, seal.form.rows().as_slice(), geometry)
 }
 
 /// Whether an entry of this form has only rows of the set, at most 32 (condition), and of each holds only sectors of
@@ -47,8 +47,8 @@ fn is_form_of(form: &Form, rows: &[u32], geometry: &Geometry) -> bool
     ensures { IsTrue result ↔ RowsHold geometry.now form.now rows.now }
 {
     match form {
-        Form::Whole => true,
-        Form::Held(masks) => are_masks_of(masks, rows, geometry),
+        Form::Whole(_) => true,
+        Form::Held(_, masks) => are_masks_of(masks, rows, geometry),
     }
 }
 

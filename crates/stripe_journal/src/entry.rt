@@ -1,5 +1,5 @@
 //! An entry in memory, before it is on a journal.
-ghost use Rattle.std.specs.Prelude.{◌≡◌, ◌≤◌, ◌<◌, ◌+◌, ◌*◌, ◌++◌, ◌∷◌, ◌==◌, [], ℕ, IfOk, IfErr, IfSome, IsNone};
+ghost use Rattle.std.specs.Prelude.{◌≡◌, ◌≤◌, ◌<◌, ◌+◌, ◌*◌, ◌^◌, ◌++◌, ◌∷◌, ◌==◌, [], ℕ, IfOk, IfErr, IfSome, IsNone};
 ghost use Rattle.std.specs.Prelude.{count_ones, false, true, length, replicate, slice_index_or, vec_len};
 ghost use Rattle.layout_map.specs.declared.sizes.TheConstants.{BODY_SECTORS, ENTRY_ROWS, MOST_MEMBERS};
 
@@ -110,14 +110,19 @@ impl Entry {
         &mut self.sectors[ROW_SECTORS * i + member as usize]
     }
 
-    /// Which sectors of its rows it holds, by the masks of its rows, and zeros after them: where each mask has at least
-    /// two bits, a form that a seal with these rows may have.
+    /// Its rows, and which of their sectors it holds, by the masks of its rows, and zeros after them: where each mask
+    /// has at least two bits, a form that a seal may have.
     pub fn form(&self) -> Form
         ensures form { result ≡ form_of self.now }
         ensures sealed { ((i : ℕ) → i < length (numbers_of self.now) → 2 ≤ count_ones (row_mask self.now i))
             → IsForm result (length (numbers_of self.now)) }
+        ensures fits { (i : ℕ) → i < length (numbers_of self.now) → slice_index_or (numbers_of self.now) i 0 < 2 ^ 32 }
     {
-        Form::Held(self.masks)
+        let mut rows = ArrayVec::new();
+        for i in 0..self.len() {
+            rows.push(self.row(i));
+        }
+        Form::Held(rows, self.masks)
     }
 
     /// The number of the i-th row; `i` is below `len()` (condition).

@@ -1,22 +1,33 @@
 //! Which sectors of its rows an entry holds.
 ghost use Rattle.std.specs.Prelude.{◌≡◌, ◌≤◌, ◌<◌, ℕ};
 ghost use Rattle.layout_map.specs.declared.sizes.TheConstants.{BODY_SECTORS, ENTRY_ROWS, MOST_MEMBERS};
-ghost use Rattle.stripe_journal.specs.Forms.{count_held, has_bit, held_before, holds};
+ghost use Rattle.stripe_journal.specs.Forms.{count_held, has_bit, held_before, holds, rows_in};
 ghost use Rattle.stripe_journal.specs.Spelling.{first_mark, last_mark, masks_of};
 
+use arrayvec::ArrayVec;
 use layout_map::ENTRY_ROWS;
 
-/// Which sectors of its rows an entry holds.
-#[derive(Clone, Copy, Drop)]
+/// The rows of an entry, and which of their sectors it holds.
+#[derive(Drop)]
 pub enum Form {
     /// Of each row the sectors of all members.
-    Whole,
+    Whole(ArrayVec<u32, ENTRY_ROWS>),
     /// Of each row the sectors of some members, at least two: bit m of mask i says that the body holds member m of the
     /// i-th row. The masks after the last row are 0.
-    Held([u8; ENTRY_ROWS]),
+    Held(ArrayVec<u32, ENTRY_ROWS>, [u8; ENTRY_ROWS]),
 }
 
 impl Form {
+    /// The rows of the entry.
+    pub fn rows(&self) -> &ArrayVec<u32, ENTRY_ROWS>
+        ensures { result.now.items ≡ rows_in self.now }
+    {
+        match self {
+            Form::Whole(rows) => rows,
+            Form::Held(rows, _) => rows,
+        }
+    }
+
     /// Whether the i-th row of an entry, i from 0 to 31, holds the sector of a member, 0 to 7, in a set with so many
     /// members (conditions).
     pub fn holds(&self, members: u8, i: usize, member: u8) -> bool
@@ -25,8 +36,8 @@ impl Form {
         ensures { result ≡ holds members self.now i member }
     {
         match self {
-            Form::Whole => member < members,
-            Form::Held(masks) => has_bit(masks[i], member),
+            Form::Whole(_) => member < members,
+            Form::Held(_, masks) => has_bit(masks[i], member),
         }
     }
 
@@ -39,8 +50,8 @@ impl Form {
         ensures { (member : ℕ) → member < MOST_MEMBERS → has_bit result member ≡ holds members self.now i member }
     {
         match self {
-            Form::Whole => u8::MAX >> (8 - members),
-            Form::Held(masks) => masks[i],
+            Form::Whole(_) => u8::MAX >> (8 - members),
+            Form::Held(_, masks) => masks[i],
         }
     }
 
@@ -80,8 +91,8 @@ impl Form {
         ensures { result.now ≡ first_mark self.now }
     {
         match self {
-            Form::Whole => b"RAID5JE1",
-            Form::Held(_) => b"RAID5JE2",
+            Form::Whole(_) => b"RAID5JE1",
+            Form::Held(_, _) => b"RAID5JE2",
         }
     }
 
@@ -90,8 +101,8 @@ impl Form {
         ensures { result.now ≡ last_mark self.now }
     {
         match self {
-            Form::Whole => b"1EJ5DIAR",
-            Form::Held(_) => b"2EJ5DIAR",
+            Form::Whole(_) => b"1EJ5DIAR",
+            Form::Held(_, _) => b"2EJ5DIAR",
         }
     }
 
@@ -100,8 +111,8 @@ impl Form {
         ensures { result ≡ masks_of self.now }
     {
         match self {
-            Form::Whole => [0; ENTRY_ROWS],
-            Form::Held(masks) => *masks,
+            Form::Whole(_) => [0; ENTRY_ROWS],
+            Form::Held(_, masks) => *masks,
         }
     }
 }

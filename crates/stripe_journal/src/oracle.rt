@@ -53,7 +53,7 @@ pub fn place_by_seal(seal: &Seal, members: u8, row: u64, member: u8) -> Option<u
     requires member { member < members }
     ensures { result ≡ place_by_seal members seal.now row member }
 {
-    let i = place_in(seal.rows.as_slice(), row)?;
+    let i = place_in(seal.form.rows().as_slice(), row)?;
     if !seal.form.holds(members, i, member) {
         return None;
     }

@@ -1,7 +1,8 @@
 //! The last seal of a journal, by what reads give.
 ghost use Rattle.std.specs.Prelude.{◌≡◌, ◌⊎◌, ◌≤◌, ◌<◌, ◌↔◌, ◌+◌, [], ◌∷◌, false, is_ok, IfErr, IfOk, IfSome, Some};
 ghost use Rattle.std.specs.Prelude.{◌%◌};
-ghost use Rattle.layout_map.specs.declared.sizes.TheConstants.{FIRST_SEAL, HALVES, JOURNAL_SECTORS};
+ghost use Rattle.layout_map.specs.declared.sizes.TheConstants.{FIRST_SEAL, HALVES};
+ghost use Rattle.layout_map.specs.Formats.{journal_sectors};
 ghost use Rattle.sector_model.specs.Bank.{IsCauseOf, IsLater};
 ghost use Rattle.sector_model.specs.Calls.{Made, Read};
 ghost use Rattle.sector_model.specs.History.{seen};
@@ -14,8 +15,9 @@ use layout_map::{FIRST_SEAL, Geometry};
 use sector_model::{Bank, Sector, Stop, read_sector};
 
 /// The last seal of a journal of the set with this id: of the seals that count there the one with the greater number,
-/// `None` where none counts. The journal is a slot of the bank, with at least 520 sectors where it is up (conditions).
-/// `Down` names it where it is down; `Worn` where the count of device calls stands at 2^62.
+/// `None` where none counts. The journal is a slot of the bank, where it is up with as many sectors as a
+/// journal of the set's format has at least (conditions). `Down` names it where it is down; `Worn` where the count of
+/// device calls stands at 2^62.
 pub fn last_sealed<B: Bank>(
     bank: &mut B,
     dev: u8,
@@ -23,7 +25,8 @@ pub fn last_sealed<B: Bank>(
     geometry: &Geometry,
 ) -> Result<Option<Seal>, Stop>
     requires device { dev < (B.panel bank.old).devices }
-    requires within { (B.panel bank.old).down dev ≡ false → JOURNAL_SECTORS ≤ (B.panel bank.old).sectors dev }
+    requires within { (B.panel bank.old).down dev ≡ false
+        → journal_sectors geometry.now.format ≤ (B.panel bank.old).sectors dev }
     ensures panel { IsLater (B.panel bank.old) (B.panel bank.new) }
     ensures honest { B.honest bank.old ↔ B.honest bank.new }
     ensures made { B.honest bank.old → Made (Read dev FIRST_SEAL ∷ Read dev (FIRST_SEAL + 1) ∷ []) (is_ok result)

@@ -1,11 +1,9 @@
 //! The seal of an entry.
 ghost use Rattle.std.specs.Prelude.{length};
-ghost use Rattle.stripe_journal.specs.Forms.{IsForm};
+ghost use Rattle.stripe_journal.specs.Forms.{IsForm, rows_in};
 ghost use Rattle.stripe_journal.specs.Seals.{IsSeal};
 
 use crate::Form;
-use arrayvec::ArrayVec;
-use layout_map::ENTRY_ROWS;
 
 /// What makes a journal's entry count: its number, its rows, and which of their sectors stand in its body.
 #[derive(Drop)]
@@ -14,10 +12,8 @@ pub struct Seal {
     pub id: [u8; 16],
     /// The number of the entry, 1 to 2^62.
     pub number: u64,
-    /// The rows of the entry, 1 to 32 of them, strictly rising.
-    pub rows: ArrayVec<u32, ENTRY_ROWS>,
-    /// Which sectors of its rows the entry holds.
+    /// The rows of the entry, 1 to 32 of them, strictly rising, and which of their sectors it holds.
     pub form: Form,
-    pub ghost allowed: { IsSeal number rows.items },
-    pub ghost formed: { IsForm form (length rows.items) },
+    pub ghost allowed: { IsSeal number (rows_in form) },
+    pub ghost formed: { IsForm form (length (rows_in form)) },
 }

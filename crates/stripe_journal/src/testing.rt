@@ -2,7 +2,7 @@
 ghost use Rattle.std.specs.Prelude.{◌≡◌, ◌≤◌, ◌<◌, false};
 
 use crate::{Entry, Seal, last_sealed, seal_decode, write_body, write_seal};
-use layout_map::Geometry;
+use layout_map::{FIRST_BODY, Geometry};
 use sector_model::{Bank, Image, MemBank, Plan, Sector, Stop, read_sector};
 use std::fmt::Debug;
 use std::process::Abort;
@@ -58,7 +58,7 @@ pub(crate) fn read_seal(rt: &impl Abort, sector: &Sector) -> Seal {
 /// Whether it is the seal of this number with these rows, or, where the number is 0, there is none.
 pub(crate) fn is_seal(found: &Option<Seal>, number: u64, rows: &[u32]) -> bool {
     match found {
-        Some(seal) => seal.number == number && seal.rows.as_slice() == rows,
+        Some(seal) => seal.number == number && seal.form.rows().as_slice() == rows,
         None => number == 0,
     }
 }
@@ -128,13 +128,13 @@ pub(crate) fn set(rt: &impl Abort) -> Geometry {
     Geometry::new(3, 8, 32).ok().expect(rt, "it is a geometry")
 }
 
-/// Checks that a journal is there, and has its sectors while it is up.
-pub(crate) fn check_room(rt: &impl Abort, bank: &MemBank, dev: u8)
+/// Checks that a journal is there, and has so many sectors while it is up.
+pub(crate) fn check_room(rt: &impl Abort, bank: &MemBank, dev: u8, sectors: u32)
     ensures device { dev < (⟦<MemBank as Bank>⟧.panel bank.now).devices }
     ensures within { (⟦<MemBank as Bank>⟧.panel bank.now).down dev ≡ false
-        → 520 ≤ (⟦<MemBank as Bank>⟧.panel bank.now).sectors dev }
+        → sectors ≤ (⟦<MemBank as Bank>⟧.panel bank.now).sectors dev }
 {
-    assert!(rt; dev < bank.devices() && (bank.is_down(dev) || 520 <= bank.sectors(dev)));
+    assert!(rt; dev < bank.devices() && (bank.is_down(dev) || sectors <= bank.sectors(dev)));
 }
 
 /// Fills the sector of a member in a row, which the row's mask has, with one byte.
@@ -172,21 +172,22 @@ pub(crate) fn put_body(
     number: u64,
     masks: [u8; 2],
 ) -> Result<(), Stop> {
-    check_room(rt, bank, FROM);
-    write_body(bank, FROM, number, &two_rows(rt, masks), &set(rt))
+    let geometry = set(rt);
+    check_room(rt, bank, FROM, geometry.format.journal_sectors());
+    write_body(bank, FROM, number, &two_rows(rt, masks), &geometry)
 }
 
 /// Writes the seal that a sector spells to the first journal.
 pub(crate) fn put_seal(rt: &impl Abort, bank: &mut MemBank, sector: &Sector) -> Result<(), Stop> {
-    check_room(rt, bank, FROM);
+    check_room(rt, bank, FROM, FIRST_BODY);
     write_seal(bank, FROM, &read_seal(rt, sector))
 }
 
 /// A sector of a journal has these bytes.
 pub(crate) fn check_sector(rt: &impl Abort, bank: &mut MemBank, dev: u8, at: u32, want: &Sector) {
     let mut sector = [0xee; 512];
-    check_room(rt, bank, dev);
     assert!(rt; at < 520);
+    check_room(rt, bank, dev, at + 1);
     let answer = read_sector(bank, dev, at, &mut sector);
     same(rt, (dev, at, answer, sector), (dev, at, Ok(()), *want));
 }
@@ -217,7 +218,8 @@ pub(crate) fn is_last(
     number: u64,
     rows: &[u32],
 ) -> Result<bool, Stop> {
-    check_room(rt, bank, dev);
-    let found = last_sealed(bank, dev, &ID, &set(rt))?;
+    let geometry = set(rt);
+    check_room(rt, bank, dev, geometry.format.journal_sectors());
+    let found = last_sealed(bank, dev, &ID, &geometry)?;
     Ok(is_seal(&found, number, rows))
 }

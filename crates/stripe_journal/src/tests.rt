@@ -47,16 +47,11 @@ fn seal_vector(rt: HostRuntime) {
     let mut sector = [0xff; 512];
     let number = 1;
     let id = ID;
-    let form = Form::Whole;
-    let given = Seal {
-        id,
-        number,
-        rows,
-        form,
-    };
+    let form = Form::Whole(rows);
+    let given = Seal { id, number, form };
     seal_encode(&given, &mut sector);
     let seal = read_seal(&rt, &vector());
-    let got = (sector, seal.id, seal.number, seal.rows.as_slice());
+    let got = (sector, seal.id, seal.number, seal.form.rows().as_slice());
     same(&rt, got, (vector(), ID, 1, [32].as_slice()));
     seal_law();
 }
@@ -75,7 +70,7 @@ fn held_seal_vector(rt: HostRuntime) {
     let got = (
         seal.id,
         seal.number,
-        seal.rows.as_slice(),
+        seal.form.rows().as_slice(),
         mask_of(&seal, 0),
     );
     same(&rt, got, (ID, 1, [32].as_slice(), Some(6)));
@@ -100,8 +95,8 @@ fn held_seal_vector(rt: HostRuntime) {
 // The mask of a row in a seal, if it names the members.
 fn mask_of(seal: &Seal, i: usize) -> Option<u8> {
     match &seal.form {
-        Form::Whole => None,
-        Form::Held(masks) => masks.get(i).copied(),
+        Form::Whole(_) => None,
+        Form::Held(_, masks) => masks.get(i).copied(),
     }
 }
 
@@ -110,8 +105,9 @@ fn full_sector(rt: HostRuntime) {
     let seal = read_seal(&rt, &full());
     let mut sector = [0xff; 512];
     seal_encode(&seal, &mut sector);
-    assert!(rt; seal.rows.len() == 32);
-    let got = (seal.number, seal.rows[0], seal.rows[31], sector);
+    let rows = seal.form.rows().as_slice();
+    assert!(rt; rows.len() == 32);
+    let got = (seal.number, rows[0], rows[31], sector);
     same(
         &rt,
         got,

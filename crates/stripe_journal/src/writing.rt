@@ -1,6 +1,7 @@
 //! The device calls that put an entry on a journal.
 ghost use Rattle.std.specs.Prelude.{◌≡◌, ◌⊎◌, ◌≤◌, ◌<◌, ◌+◌, ◌↔◌, [], ◌∷◌, false, is_ok, IfErr, IfOk};
-ghost use Rattle.layout_map.specs.declared.sizes.TheConstants.{JOURNAL_SECTORS, MOST_MEMBERS};
+ghost use Rattle.layout_map.specs.Formats.{journal_sectors};
+ghost use Rattle.layout_map.specs.declared.sizes.TheConstants.{FIRST_BODY};
 ghost use Rattle.sector_model.specs.Bank.{IsCauseOf, IsLater};
 ghost use Rattle.sector_model.specs.Calls.{Made, Write, writes_from};
 ghost use Rattle.stripe_journal.specs.Body.{seal_place};
@@ -13,8 +14,9 @@ use layout_map::{BODY_SECTORS, FIRST_BODY, FIRST_SEAL, Geometry, HALVES};
 use sector_model::{Bank, Stop, write_sector};
 
 /// Writes the body of the entry of this number to a journal: of each row the sectors that its mask has, of the set's
-/// members. It flushes nothing. The journal is a slot of the bank, with at least 520 sectors where it is up
-/// (conditions). `Down` names it where it is down; `Worn` where the count of device calls stands at 2^62.
+/// members. It flushes nothing. The journal is a slot of the bank, where it is up with as many sectors as a journal of
+/// the set's format has at least (conditions). `Down` names it where it is down; `Worn` where the count of device calls
+/// stands at 2^62.
 pub fn write_body<B: Bank>(
     bank: &mut B,
     dev: u8,
@@ -23,7 +25,8 @@ pub fn write_body<B: Bank>(
     geometry: &Geometry,
 ) -> Result<(), Stop>
     requires device { dev < (B.panel bank.old).devices }
-    requires within { (B.panel bank.old).down dev ≡ false → JOURNAL_SECTORS ≤ (B.panel bank.old).sectors dev }
+    requires within { (B.panel bank.old).down dev ≡ false
+        → journal_sectors geometry.now.format ≤ (B.panel bank.old).sectors dev }
     ensures panel { IsLater (B.panel bank.old) (B.panel bank.new) }
     ensures honest { B.honest bank.old ↔ B.honest bank.new }
     ensures made { B.honest bank.old → Made
@@ -34,34 +37,36 @@ pub fn write_body<B: Bank>(
 {
     let mut at = FIRST_BODY + BODY_SECTORS * (number % HALVES as u64) as u32;
     for i in 0..entry.len() {
-        at = write_row(bank, dev, at, &entry.view(i), geometry.members)?;
+        at = write_row(bank, dev, at, &entry.view(i), geometry)?;
     }
     Ok(())
 }
 
-// Writes the sectors that a row's mask has, of so many members, to a journal, from a sector on, up to sector 519 at
-// most. It answers the sector after them.
+// Writes the sectors that a row's mask has, of the set's members, to a journal, from a sector on, up to the end of its
+// bodies at most. It answers the sector after them.
 fn write_row<B: Bank>(
     bank: &mut B,
     dev: u8,
     first: u32,
     row: &EntryView,
-    members: u8,
+    geometry: &Geometry,
 ) -> Result<u32, Stop>
     requires device { dev < (B.panel bank.old).devices }
-    requires within { (B.panel bank.old).down dev ≡ false → JOURNAL_SECTORS ≤ (B.panel bank.old).sectors dev }
-    requires members { members ≤ MOST_MEMBERS }
-    requires end { first + count_held (has_bit row.now.mask) members ≤ JOURNAL_SECTORS }
+    requires within { (B.panel bank.old).down dev ≡ false
+        → journal_sectors geometry.now.format ≤ (B.panel bank.old).sectors dev }
+    requires end { first + count_held
+        (has_bit row.now.mask) geometry.now.members ≤ journal_sectors geometry.now.format }
     ensures panel { IsLater (B.panel bank.old) (B.panel bank.new) }
     ensures honest { B.honest bank.old ↔ B.honest bank.new }
-    ensures beyond { IfOk result (λ at. at ≡ first + count_held (has_bit row.now.mask) members) }
-    ensures made { B.honest bank.old → Made (writes_from dev first (held_of members row.now.mask row.now.sectors.now))
-        (is_ok result) (B.history bank.old) (B.history bank.new) }
+    ensures beyond { IfOk result (λ at. at ≡ first + count_held (has_bit row.now.mask) geometry.now.members) }
+    ensures made { B.honest bank.old → Made (writes_from dev first
+        (held_of geometry.now.members row.now.mask row.now.sectors.now)) (is_ok result) (B.history bank.old)
+        (B.history bank.new) }
     ensures err { IfErr result (λ stop. IsCauseOf (B.panel bank.new) stop
         × ((stop ≡ Stop.Worn) ⊎ (stop ≡ Stop.Down dev))) }
 {
     let mut at = first;
-    for member in 0..members {
+    for member in 0..geometry.members {
         if let Some(sector) = row.member(member) {
             write_sector(bank, dev, at, sector)?;
             at += 1;
@@ -70,10 +75,11 @@ fn write_row<B: Bank>(
     Ok(at)
 }
 
-/// Writes a seal to its place on a journal. It flushes nothing; conditions and errors as of `write_body`.
+/// Writes a seal to its place on a journal, a slot of the bank where it is up with more sectors than its seals'
+/// (conditions). It flushes nothing; errors as of `write_body`.
 pub fn write_seal<B: Bank>(bank: &mut B, dev: u8, seal: &Seal) -> Result<(), Stop>
     requires device { dev < (B.panel bank.old).devices }
-    requires within { (B.panel bank.old).down dev ≡ false → JOURNAL_SECTORS ≤ (B.panel bank.old).sectors dev }
+    requires within { (B.panel bank.old).down dev ≡ false → FIRST_BODY ≤ (B.panel bank.old).sectors dev }
     ensures panel { IsLater (B.panel bank.old) (B.panel bank.new) }
     ensures honest { B.honest bank.old ↔ B.honest bank.new }
     ensures made { B.honest bank.old → Made (Write dev (seal_place seal.now.number) (seal_sector seal.now) ∷ [])

@@ -6,6 +6,8 @@ use Rattle.std.specs.Prelude.{IfOk, IsOk}
 use Rattle.std.specs.Result.{result_ok}
 use Rattle.sector_model.specs.declared.calls.TheConstants.{GREATEST_COUNT}
 use Rattle.layout_map.specs.declared.sizes.TheConstants.{MOST_MEMBERS}
+use Rattle.layout_map.specs.declared.format.Format.{Format}
+use Rattle.layout_map.specs.declared.format.Format.TheVariants.{One}
 use Rattle.layout_map.specs.declared.geometry.Geometry.{Geometry}
 use Rattle.layout_map.specs.Placement.{IsGeometry}
 use Rattle.superblock.specs.declared.fields.Fields.{Fields}
@@ -19,8 +21,9 @@ use Rattle.superblock.specs.Tables.{IsTable, state_at}
 use Rattle.superblock.proofs.Same.{same_geometry, same_superblock}
 use Rattle.superblock.proofs.Spelled.{fields_same}
 
--- the geometry has the fields' numbers
+-- the geometry is of format 1, with the fields' numbers
 pub record IsOfFields (fields : Fields) (geometry : Geometry) : Type 0 where
+  pub format : geometry.format ≡ One
   pub members : geometry.members ≡ fields.members
   pub chunk : geometry.chunk ≡ fields.chunk
   pub stripes : geometry.stripes ≡ fields.stripes
@@ -29,8 +32,8 @@ pub allowed_fields : (fields : Fields) (geometry : Geometry) (s : Superblock) �
     → IsTable fields.generation geometry fields.states fields.incarnations fields.position
 allowed_fields fields geometry s of_fields same =
     let geometry_is : geometry ≡ s.table.geometry =
-    same_geometry geometry s.table.geometry (of_fields.members ∙ ap (λ (f : Fields). f.members) same) (of_fields.chunk ∙ ap (λ (f : Fields). f.chunk) same)
-    (of_fields.stripes ∙ ap (λ (f : Fields). f.stripes) same) in
+    same_geometry geometry s.table.geometry (of_fields.format ∙ sym s.table.allowed.of_format_one) (of_fields.members ∙ ap (λ (f : Fields). f.members) same)
+    (of_fields.chunk ∙ ap (λ (f : Fields). f.chunk) same) (of_fields.stripes ∙ ap (λ (f : Fields). f.stripes) same) in
     subst (λ (f : Fields). IsTable f.generation geometry f.states f.incarnations f.position) (sym same)
     (subst (λ (g : Geometry). IsTable s.table.generation g s.table.states s.table.incarnations s.table.position) (sym geometry_is) s.table.allowed)
 
@@ -38,13 +41,15 @@ pub ten_slots : {members : ℕ} → members ≤ MOST_MEMBERS → members + 2 ≤
 ten_slots most = omega arith
 
 -- the rules of a table, one after another
-pub table_iff : (Position : Type 0) (generation : ℕ) (geometry : Geometry) (states : List State) (incarnations : List ℕ) (position : ℕ) → length states ≡ 10
+pub table_iff : (Position : Type 0) (generation : ℕ) (geometry : Geometry) (states : List State) (incarnations : List ℕ) (position : ℕ)
+    → geometry.format ≡ One → length states ≡ 10
     → length incarnations ≡ 10
     → 1 ≤ generation → generation ≤ GREATEST_COUNT → AreNumbered (geometry.members + 2) incarnations → AreMissingBeyond (geometry.members + 2) states
     → AreOutOnce (geometry.members + 2) states → Position ↔ IsPositionOf geometry states position → Position
     ↔ IsTable generation geometry states incarnations position
-table_iff Position generation geometry states incarnations position ten_states ten_incarnations least most numbered missing out is_position = (
+table_iff Position generation geometry states incarnations position of_format_one ten_states ten_incarnations least most numbered missing out is_position = (
   (λ is. let found = is_position.0 is in record {
+    of_format_one = of_format_one;
     ten_states = ten_states;
     ten_incarnations = ten_incarnations;
     generation_least = least;
@@ -77,16 +82,18 @@ pub table_out : {generation : ℕ} {geometry : Geometry} {states : List State} {
 table_out table = record { once = table.one_out }
 
 pub geometry_of_fields : {E : Type 0} (fields : Fields) (geometry : Geometry) (made : Result Geometry E) → Some geometry ≡ result_ok made
-    → IfOk made (λ g. g.members ≡ fields.members) → IfOk made (λ g. g.chunk ≡ fields.chunk) → IfOk made (λ g. g.stripes ≡ fields.stripes)
+    → IfOk made (λ g. g.format ≡ One) → IfOk made (λ g. g.members ≡ fields.members) → IfOk made (λ g. g.chunk ≡ fields.chunk)
+    → IfOk made (λ g. g.stripes ≡ fields.stripes)
     → IsOfFields fields geometry
-geometry_of_fields fields geometry (Ok g) same members chunk stripes =
+geometry_of_fields fields geometry (Ok g) same format members chunk stripes =
     let is_made : geometry ≡ g = cc in
     record {
+      format = ap (λ (x : Geometry). x.format) is_made ∙ format;
       members = ap (λ (x : Geometry). x.members) is_made ∙ members;
       chunk = ap (λ (x : Geometry). x.chunk) is_made ∙ chunk;
       stripes = ap (λ (x : Geometry). x.stripes) is_made ∙ stripes;
     }
-geometry_of_fields fields geometry (Err e) same members chunk stripes = absurd cc
+geometry_of_fields fields geometry (Err e) same format members chunk stripes = absurd cc
 
 -- a superblock with these fields is that superblock
 pub fields_are : (fields : Fields) (s t : Superblock) → IsOfFields fields t.table.geometry → fields ≡ fields_of s → t.table.id ≡ fields.id
@@ -97,8 +104,11 @@ fields_are fields s t of_fields same id generation role states incarnations posi
     ∙ same)
 
 -- where there is no geometry, no superblock has these fields
-pub fields_limits : (fields : Fields) (s : Superblock) → fields ≡ fields_of s → IsGeometry fields.members fields.chunk fields.stripes
-fields_limits fields s same = subst (λ (f : Fields). IsGeometry f.members f.chunk f.stripes) (sym same) s.table.geometry.limits
+pub fields_limits : (fields : Fields) (s : Superblock) → fields ≡ fields_of s → IsGeometry One fields.members fields.chunk fields.stripes
+fields_limits fields s same =
+    subst (λ (f : Fields). IsGeometry One f.members f.chunk f.stripes) (sym same)
+    (subst (λ (f : Format). IsGeometry f s.table.geometry.members s.table.geometry.chunk s.table.geometry.stripes) s.table.allowed.of_format_one
+    s.table.geometry.limits)
 
 pub no_geometry : {E : Type 0} (made : Result Geometry E) → None ≡ result_ok made → IsOk made → ⊥
 no_geometry (Ok g) none is = absurd cc

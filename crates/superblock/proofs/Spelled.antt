@@ -1,11 +1,13 @@
 -- What the spelling of a superblock says at the places of its fields.
 use Rattle.std.proofs.Common.{◌≡◌, ◌≢◌, ◌⊎◌, inl, inr, ℕ, zero, suc, ◌+◌, ◌*◌, ◌<◌, ◌≤◌, ◌^◌, List, [], ◌∷◌, ◌++◌, length, get_or, set, take, drop, replicate}
-use Rattle.std.proofs.Common.{refl, sym, ap, subst, ◌∙◌, append_assoc, add-one, arith, rules}
-use Rattle.std.specs.Prelude.{IsTrue}
+use Rattle.std.proofs.Common.{refl, sym, ap, subst, ◌∙◌, append_assoc, add-one, arith}
 use Rattle.std.proofs.lemmas.Bool.{cases_lt, cases_eq}
 use Rattle.std.proofs.lemmas.List.{length-append, length-replicate, same_lists, get_or_default, get_or-set_same, get_or-set_other}
 use Rattle.byteorder.specs.Endian.{little_bytes, little_number}
-use Rattle.layout_map.specs.Placement.{is_chunk_size}
+use Rattle.layout_map.specs.declared.format.Format.{Format}
+use Rattle.layout_map.specs.declared.format.Format.TheVariants.{One, Two}
+use Rattle.layout_map.specs.Formats.{stripes_limit}
+use Rattle.layout_map.proofs.Places.{chunk_most, rows_most}
 use Rattle.superblock.specs.declared.fields.Fields.{Fields}
 use Rattle.superblock.specs.declared.state.State.{State}
 use Rattle.superblock.specs.declared.state.State.TheVariants.{Missing, InSync, Rebuilding}
@@ -237,17 +239,13 @@ some_rebuilding (Rebuilding ∷ states) = inl (0, refl)
 some_rebuilding (Missing ∷ states) = one_later Missing states (λ same. absurd cc) (some_rebuilding states)
 some_rebuilding (InSync ∷ states) = one_later InSync states (λ same. absurd cc) (some_rebuilding states)
 
-small_rows : (chunk stripes : ℕ) → chunk < 256 → stripes ≤ 65536 → stripes * chunk ≤ 65536 * 256
-small_rows chunk stripes small few = grind (arith)
-
-chunk_fits : (chunk : ℕ) → IsTrue (is_chunk_size chunk) → chunk < 256
-chunk_fits chunk size = search (rules)
+stripes_number : (format : Format) (stripes : ℕ) → stripes ≤ stripes_limit format → stripes < 256 ^ 4
+stripes_number One stripes few = omega (arith, few)
+stripes_number Two stripes few = omega (arith, few)
 
 position_fits : (s : Superblock) → s.table.position < 256 ^ 8
 position_fits s = elim (some_rebuilding s.table.states) [
-  | inl found ↦ let below = s.table.allowed.position_below found.0 found.1 in
-      let rows = small_rows s.table.geometry.chunk s.table.geometry.stripes (chunk_fits s.table.geometry.chunk s.table.geometry.limits.chunk_size)
-      s.table.geometry.limits.stripes_most in omega arith
+  | inl found ↦ omega (arith, s.table.allowed.position_below found.0 found.1, rows_most s.table.geometry.limits)
   | inr none ↦ let zero_position = s.table.allowed.no_position none in omega arith
 ]
 
@@ -278,13 +276,13 @@ read_role s = read_byte 33 s.role (superblock_sector s) (of_head 33 s (s.role �
 
 pub read_chunk : (s : Superblock) → little_number 2 (drop 34 (superblock_sector s)) ≡ s.table.geometry.chunk
 read_chunk s =
-    let small = chunk_fits s.table.geometry.chunk s.table.geometry.limits.chunk_size in
-    read_number 34 2 s.table.geometry.chunk (superblock_sector s) (of_head 34 s (little_bytes 2 s.table.geometry.chunk) (head_chunk s)) (omega arith)
+    read_number 34 2 s.table.geometry.chunk (superblock_sector s) (of_head 34 s (little_bytes 2 s.table.geometry.chunk) (head_chunk s))
+    (omega (arith, chunk_most s.table.geometry.limits))
 
 pub read_stripes : (s : Superblock) → little_number 4 (drop 36 (superblock_sector s)) ≡ s.table.geometry.stripes
 read_stripes s =
     read_number 36 4 s.table.geometry.stripes (superblock_sector s) (of_head 36 s (little_bytes 4 s.table.geometry.stripes) (head_stripes s))
-    (omega (arith, s.table.geometry.limits.stripes_most))
+    (omega (arith, stripes_number s.table.geometry.format s.table.geometry.stripes s.table.geometry.limits.stripes_most))
 
 pub read_state : (s : Superblock) (slot at : ℕ) → slot < 10 → 40 + 16 * slot ≡ at
     → get_or (superblock_sector s) at 0 ≡ state_byte (state_at s.table.states slot)

@@ -1,8 +1,9 @@
 -- Which superblocks of a set count, which table decides, and which devices are live.
 use Rattle.std.specs.Prelude.{◌≡◌, ◌≢◌, ℕ, ◌+◌, ◌%◌, ◌<◌, ◌≤◌, nat_lt, if◌then◌else◌, List, length, Option}
 use Rattle.sector_model.specs.History.{Bytes, Slots, disk_of, sector_of}
-use Rattle.layout_map.specs.declared.sizes.TheConstants.{FIRST_ROW, JOURNAL_SECTORS, SUPERBLOCK_PLACES}
+use Rattle.layout_map.specs.declared.sizes.TheConstants.{FIRST_ROW, SUPERBLOCK_PLACES}
 use Rattle.layout_map.specs.declared.geometry.Geometry.{Geometry}
+use Rattle.layout_map.specs.Formats.{journal_sectors}
 use Rattle.layout_map.specs.Placement.{rows_of}
 use Rattle.superblock.specs.declared.state.State.TheVariants.{Missing, InSync}
 use Rattle.superblock.specs.declared.table.Table.{Table}
@@ -45,9 +46,10 @@ pub record HasIncarnation (id : List ℕ) (devices slot : ℕ) (content : Conten
       → superblock.table.generation ≤ newest.table.generation
   pub own : incarnation_at newest.table.incarnations slot ≡ incarnation
 
--- the least number of sectors of a device: a member's rows stand from sector 8 on, a journal's bodies end before sector 520
+-- the least number of sectors of a device: a member's rows stand from sector 8 on, and a journal has the sectors of its format
 abbrev pub least_sectors : Geometry → ℕ → ℕ
-least_sectors geometry slot = if nat_lt slot geometry.members then FIRST_ROW + rows_of geometry.chunk geometry.stripes else JOURNAL_SECTORS
+least_sectors geometry slot =
+    if nat_lt slot geometry.members then FIRST_ROW + rows_of geometry.chunk geometry.stripes else journal_sectors geometry.format
 
 -- what a slot has is live: it is long enough, the table does not call it missing, and its own incarnation is the table's
 pub record IsLive (devices : ℕ) (table : Table) (slot : ℕ) (content : Content) : Type 0 where

@@ -19,6 +19,7 @@ pub use counting::{counted, newer};
 pub use law::superblock_law;
 pub use lengths::least_of;
 pub use publishing::{own_sector, publish};
+pub use rules::is_supported;
 pub use state::State;
 pub use table::{Superblock, Table};
 

@@ -10,7 +10,7 @@ ghost use Rattle.superblock.specs.Tables.{incarnation_at, state_at};
 
 use crate::counting::{counted, newer};
 use crate::{State, Superblock, Table};
-use layout_map::{FIRST_ROW, Geometry, JOURNAL_SECTORS};
+use layout_map::{FIRST_ROW, Geometry};
 use sector_model::{Image, Sector};
 
 /// The superblock of the set that counts in a place, 0 or 1, of what a slot has. The bank has this many slots.
@@ -106,7 +106,7 @@ fn is_long_enough(content: &Option<Vec<Sector>>, geometry: &Geometry, slot: usiz
     let least = if slot < geometry.members as usize {
         FIRST_ROW as u64 + geometry.rows()
     } else {
-        JOURNAL_SECTORS as u64
+        geometry.format.journal_sectors() as u64
     };
     least <= sectors
 }

@@ -1,5 +1,6 @@
 //! The rules of a superblock's fields.
 ghost use Rattle.std.specs.Prelude.{◌≡◌, ◌≤◌, ◌↔◌, IsTrue};
+ghost use Rattle.layout_map.specs.declared.format.Format.TheVariants.{One};
 ghost use Rattle.superblock.specs.declared.table.Superblock.{Superblock};
 ghost use Rattle.superblock.specs.Reading.{fields_of};
 ghost use Rattle.superblock.specs.Rules.{AreMissingBeyond, AreNumbered, AreOutOnce, IsPositionOf};
@@ -7,7 +8,7 @@ ghost use Rattle.superblock.specs.Tables.{IsTable};
 
 use crate::fields::Fields;
 use crate::{State, Superblock, Table};
-use layout_map::Geometry;
+use layout_map::{Format, Geometry};
 use sector_model::GREATEST_COUNT;
 
 // The superblock that has these fields, or `None` where a rule forbids them.
@@ -39,7 +40,8 @@ fn is_table(fields: &Fields, geometry: &Geometry) -> bool
         fields.now.position }
 {
     let slots = geometry.members + 2;
-    if !matches!(fields.generation, 1..=GREATEST_COUNT)
+    if !is_supported(geometry.format)
+        || !matches!(fields.generation, 1..=GREATEST_COUNT)
         || !are_numbered(&fields.incarnations, slots)
         || !are_missing_beyond(&fields.states, slots)
         || !are_out_once(&fields.states, slots)
@@ -47,6 +49,13 @@ fn is_table(fields: &Fields, geometry: &Geometry) -> bool
         return false;
     }
     is_position(&fields.states, fields.position, geometry)
+}
+
+/// Whether a superblock may be of a set of this format: format 1.
+pub fn is_supported(format: Format) -> bool
+    ensures { IsTrue result ↔ format ≡ One }
+{
+    matches!(format, Format::One)
 }
 
 // Whether the slots have incarnations 1 to 2^62, and the places after them 0.

@@ -3,6 +3,7 @@ use crate::fields::Fields;
 use crate::rules::judge;
 use crate::testing::{FRESH, ID, read, same, spelled};
 use crate::*;
+use layout_map::{Format, Geometry};
 use sector_model::Sector;
 use std::process::Abort;
 
@@ -205,4 +206,27 @@ fn choice(rt: HostRuntime) {
     assert!(rt; table_of(second) != table_of(other));
     let list = [None, None, first, second, other, second, None, first, None];
     check_choices(&rt, &list, CHOICES)
+}
+
+// Sets of format 1 and 2: whether they are of format 2, their members, the sectors of a chunk and the stripes, and the
+// least sectors of a member and of a journal.
+const LENGTHS: &[(bool, u8, u16, u32, u32, u32)] = &[
+    (false, 3, 8, 32, 264, 520),
+    (false, 8, 128, 65_536, 8_388_616, 520),
+    (true, 3, 8, 32, 264, 8_200),
+    (true, 8, 8, 536_870_910, 4_294_967_288, 8_200),
+    (true, 8, 1_024, 4_194_303, 4_294_966_280, 8_200),
+];
+
+#[test]
+fn least_lengths(rt: HostRuntime) {
+    for (is_large, members, chunk, stripes, member, journal) in LENGTHS {
+        let format = if *is_large { Format::Two } else { Format::One };
+        let geometry = Geometry::of_format(format, *members, *chunk, *stripes).expect(
+            &rt,
+            "it is made",
+        );
+        let got = (least_of(&geometry, 0), least_of(&geometry, *members));
+        same(&rt, (*stripes, got), (*stripes, (*member, *journal)));
+    }
 }

@@ -1,5 +1,5 @@
 -- A set that was just made shows no volume.
-use Rattle.std.proofs.Common.{◌≡◌, inl, inr, ℕ, ◌-◌, ◌/◌, ◌≤◌, min, List, [], ◌∷◌, map, take, replicate, refl, subst, sym, ap, ◌∙◌, arith}
+use Rattle.std.proofs.Common.{◌≡◌, inl, inr, ℕ, List, [], ◌∷◌, map, take, replicate, refl, subst, sym, ap, ◌∙◌, arith}
 use Rattle.std.proofs.Math.Logic.{∥∥₁_map}
 use Rattle.std.proofs.lemmas.List.FromFn.{take-map-range_with_len}
 use Rattle.std.proofs.lemmas.List.Elements.{Contains-push, Contains-push_cases}
@@ -23,15 +23,11 @@ use Rattle.volume_table.specs.Shows.{Shows}
 use Rattle.volume_table.specs.Volumes.{no_volumes}
 use Rattle.volume_table.specs.Stands.{FreshSetShowsNone, FreshSetStandsForNone, ShowsOneOf, extents_in}
 use Rattle.volume_table.proofs.ReadLemmas.{empty_is_shown}
-use Rattle.volume_table.proofs.TableSizes.{table_short}
-use Rattle.layout_map.specs.declared.sizes.TheConstants.{EXTENT_SECTORS, MOST_EXTENTS, RESERVED_SECTORS}
+use Rattle.volume_table.proofs.TableSizes.{has_table_sectors, table_short}
 
 zeros_are_zero : (n : ℕ) → n ≡ 512 → zeros n ≡ zero_sector
 unfolding zeros
 zeros_are_zero n is = zero_sector-replicate n is
-
-enough : (sectors : ℕ) → 1 ≤ min MOST_EXTENTS ((sectors - RESERVED_SECTORS) / EXTENT_SECTORS) → table_length 1 ≤ sectors
-enough sectors has = omega (arith, has, table_short 1)
 
 eleven : (sector : Bytes) → map (λ (k : ℕ). sector) (range_with_len 0 (table_length 1)) ≡ replicate (table_length 1) sector
 unfolding table_length record_sectors
@@ -40,7 +36,7 @@ eleven sector = refl
 first_eleven : (geometry : Geometry) → take (table_length 1) (zeros_of geometry) ≡ replicate (table_length 1) (zeros 512)
 first_eleven geometry =
     take-map-range_with_len (λ (k : ℕ). zero_sector) 0 (data_sectors_of geometry.members geometry.chunk geometry.stripes) (table_length 1)
-    (enough (data_sectors_of geometry.members geometry.chunk geometry.stripes) geometry.limits.has_extent)
+    (omega (arith, has_table_sectors geometry, table_short 1))
     ∙ eleven zero_sector ∙ ap (λ (sector : Bytes). replicate (table_length 1) sector) (sym (zeros_are_zero 512 refl))
 
 -- they spell the empty table

@@ -65,7 +65,7 @@ pub kept_after : (geometry later : Geometry) (table new : VolumeTable) (owners o
     → length other ≡ length owners
     → new.extents ≡ owners_padded other → later ≡ geometry → AreKept (extents_in later) new other
 kept_after geometry later table new owners other kept as_long same is =
-    let most = extents_most geometry.members geometry.chunk geometry.stripes in
+    let most = extents_most geometry.format geometry.members geometry.chunk geometry.stripes in
     subst (λ (its : Geometry). AreKept (extents_in its) new other) (sym is)
     (kept_by_owners (extents_in geometry) new other (as_long ∙ kept_length (extents_in geometry) table owners most kept) same)
 

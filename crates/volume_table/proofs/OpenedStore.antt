@@ -15,7 +15,7 @@ use Rattle.sector_model.specs.Bank.{IsLater, IsTrueTo, Panel}
 use Rattle.sector_model.specs.History.{Bytes, History}
 use Rattle.sector_model.proofs.Steps.{throughout_more}
 use Rattle.layout_map.specs.declared.geometry.Geometry.{Geometry}
-use Rattle.layout_map.specs.Placement.{data_sectors_of, extents_of}
+use Rattle.layout_map.specs.Placement.{data_sectors_of}
 use Rattle.superblock.specs.declared.table.Table.{Table}
 use Rattle.superblock.specs.Cases.{Lost}
 use Rattle.array_io.specs.Believed.ArrayCalls.{Answer, Reads}
@@ -40,7 +40,7 @@ use Rattle.volume_table.specs.Shows.{Shows}
 use Rattle.volume_table.specs.Stands.{IsSettledAfter, StandsNow, StandsThroughout, StoreView, extents_in, store_of}
 use Rattle.volume_table.proofs.FreeLemmas.{table_is_extent_map}
 use Rattle.volume_table.proofs.ListChanges.{changes_both, changes_read, rests_long}
-use Rattle.volume_table.proofs.TableSizes.{table_long, table_short}
+use Rattle.volume_table.proofs.TableSizes.{has_table_sectors, table_long, table_short}
 use Rattle.layout_map.specs.declared.sizes.TheConstants.{MOST_EXTENTS}
 use Rattle.extents.specs.declared.volume_table.TheConstants.{TABLE_SECTORS}
 
@@ -59,13 +59,6 @@ read_ends honest still sector old mid new to refusal why changes reads is =
     let same : refusal ≡ why = cc in
     let end = reads.cause refusal refl in
     subst (IsEndOf old new ⊥) same (end_of_both honest old mid new (HasEnded (refused refusal)) changes.stays refusal end (two_or_worn mid new refusal end))
-
--- a set has more sectors than a table
-has_table_sectors : (geometry : Geometry) → TABLE_SECTORS < data_sectors_of geometry.members geometry.chunk geometry.stripes
-has_table_sectors geometry = by_extent geometry.members geometry.chunk geometry.stripes geometry.limits.has_extent
-  where
-    by_extent : (members chunk stripes : ℕ) → 1 ≤ extents_of members chunk stripes → TABLE_SECTORS < data_sectors_of members chunk stripes
-    by_extent members chunk stripes has = omega (arith, has)
 
 pub first_of_set : (geometry now : Geometry) (sector : ℕ) → now ≡ geometry → sector < TABLE_SECTORS → sector < data_sectors_of now.members now.chunk now.stripes
 first_of_set geometry now sector same below = omega (arith, below, has_table_sectors now)

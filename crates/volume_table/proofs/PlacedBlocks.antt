@@ -4,7 +4,7 @@ use Rattle.std.specs.Prelude.{slice_index_or}
 use Rattle.extents.specs.declared.owned.Owned.{Owned}
 use Rattle.extents.specs.ExtentMaps.{HasPlace, IsWhere}
 use Rattle.extents.proofs.ExtentLawLemmas.{block_is_within, sector_is_one}
-use Rattle.layout_map.specs.Placement.{data_sectors_of, extents_of}
+use Rattle.layout_map.specs.Placement.{data_sectors_of}
 use Rattle.superblock.specs.declared.table.Table.{Table}
 use Rattle.superblock.specs.Cases.{Lost}
 use Rattle.array_io.specs.Believed.ArrayCalls.{Answer, Commits, MayCommit, written}
@@ -17,6 +17,7 @@ use Rattle.volume_table.specs.ListChanges.{ChangesList, IsSameOr}
 use Rattle.volume_table.specs.Stands.{extents_in}
 use Rattle.volume_table.specs.StoreChanges.{AllPlaced, ArePlaced, IsWrittenAt, no_sector}
 use Rattle.volume_table.proofs.ListChanges.{changes_commit, changes_more, rests_long}
+use Rattle.volume_table.proofs.TableSizes.{room_for}
 use Rattle.volume_table.specs.declared.event.TheConstants.{MOST_BLOCKS_AT_ONCE}
 use Rattle.layout_map.specs.declared.sizes.TheConstants.{EXTENT_SECTORS, RESERVED_SECTORS}
 
@@ -61,11 +62,6 @@ module _ (owners : List (Option Owned)) (number at : ℕ) (blocks : List Block) 
     };
   }
 
--- the extents of a set lie within its data sectors
-room_for : (members chunk stripes count : ℕ) → 1 ≤ extents_of members chunk stripes → count ≤ extents_of members chunk stripes
-    → RESERVED_SECTORS + EXTENT_SECTORS * count ≤ data_sectors_of members chunk stripes
-room_for members chunk stripes count has few = omega (arith, has, few)
-
 -- they may be committed
 pub placed_may_commit : (table : Table) (owners : List (Option Owned)) (number at : ℕ) (blocks : List Block) (sectors : List (ℕ × Block))
     → length owners ≤ extents_in table.geometry
@@ -79,7 +75,7 @@ placed_may_commit table owners number at blocks sectors sized least most placed 
 }
   where
     room : RESERVED_SECTORS + EXTENT_SECTORS * length owners ≤ data_sectors_of table.geometry.members table.geometry.chunk table.geometry.stripes
-    room = room_for table.geometry.members table.geometry.chunk table.geometry.stripes (length owners) table.geometry.limits.has_extent sized
+    room = room_for table (length owners) sized
 
 -- a commit of them
 pub placed_commit : (honest : Type 0) (owners : List (Option Owned)) (number at : ℕ) (blocks : List Block) (sectors : List (ℕ × Block)) (old new : ArrayView)
@@ -102,7 +98,6 @@ placed_commit honest owners number at blocks sectors old new answer sized placed
         (written_at owners number at blocks sectors placed are V
         (omega (
           arith,
-          room_for old.table.geometry.members old.table.geometry.chunk old.table.geometry.stripes (length owners)
-              old.table.geometry.limits.has_extent sized,
+          room_for old.table (length owners) sized,
           rests_long old lost V rests,
         )))

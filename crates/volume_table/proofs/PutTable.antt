@@ -6,8 +6,6 @@ use Rattle.std.specs.Prelude.{Ok}
 use Rattle.sector_model.specs.History.{Bytes}
 use Rattle.superblock.specs.declared.table.Table.{Table}
 use Rattle.superblock.specs.Cases.{Lost}
-use Rattle.layout_map.specs.Placement.{data_sectors_of}
-use Rattle.layout_map.proofs.Places.{extents_fit}
 use Rattle.array_io.specs.Believed.ArrayCalls.{Answer, Commits, MayCommit, written}
 use Rattle.array_io.specs.Believed.Views.{ArrayView, RestsOn}
 use Rattle.extents.specs.declared.volume_table.VolumeTable.{VolumeTable}
@@ -19,8 +17,8 @@ use Rattle.volume_table.specs.Volumes.{Block}
 use Rattle.volume_table.specs.ListChanges.{ChangesList, IsSameOr}
 use Rattle.volume_table.specs.StoreChanges.{AreAll, AreChangedBelow, AreTheChanged, HasTable, MayPutTable, PutsTable, no_sector}
 use Rattle.volume_table.proofs.ListChanges.{changes_commit, changes_more, changes_none, rests_long}
+use Rattle.volume_table.proofs.TableSizes.{has_table_sectors}
 use Rattle.volume_table.proofs.WrittenSectors.{length-written, written_at, written_elsewhere}
-use Rattle.layout_map.specs.declared.sizes.TheConstants.{EXTENT_SECTORS, RESERVED_SECTORS}
 
 -- none of the first 0 sectors
 pub none_changed : (before after : List Block) → AreChangedBelow 0 before after []
@@ -148,17 +146,13 @@ all_of_version version after sectors are = record {
   each = λ number below. (number, omega (arith, below, are.long), are.each number below);
 }
 
--- a set has the sectors of a table, and more
-pub eleven_of_set : (table : Table) → RESERVED_SECTORS + EXTENT_SECTORS ≤ data_sectors_of table.geometry.members table.geometry.chunk table.geometry.stripes
-eleven_of_set table = omega (arith, extents_fit table.geometry.limits, table.geometry.limits.has_extent)
-
 -- the sectors that differ may be committed
 pub may_put : (version : ℕ) (table : Table) (before after : List Block) (sectors : List (ℕ × Block)) → 1 ≤ length sectors
     → AreTheChanged version before after sectors → MayCommit table sectors
 may_put version table before after sectors some are = record {
   least = some;
   most = omega (arith, are.most, table_length_most version);
-  of_set = λ i within. omega (arith, are.below i within, eleven_of_set table, table_length_most version);
+  of_set = λ i within. omega (arith, are.below i within, has_table_sectors table.geometry, table_length_most version);
   apart = λ i j less within same. omega (arith, are.rising i j less within, same);
 }
 
@@ -211,7 +205,7 @@ module _ (V before after : List Block) (table : VolumeTable) (sectors : List (�
   }
 
 long_enough : (version : ℕ) (array : ArrayView) (lost : Option Lost) (V : List Bytes) → RestsOn array lost V → table_length version ≤ length V
-long_enough version array lost V rests = omega (arith, rests_long array lost V rests, eleven_of_set array.table, table_length_most version)
+long_enough version array lost V rests = omega (arith, rests_long array lost V rests, has_table_sectors array.table.geometry, table_length_most version)
 
 -- the commit of sectors puts the table, where those that are not written are those of each list on which the array is settled
 puts_by : (honest : Type 0) (before after : List Block) (first table : VolumeTable) (sectors given : List (ℕ × Block)) (old new : ArrayView) (answer : Answer)

@@ -1,5 +1,5 @@
 -- Blocks of a volume are read one after another.
-use Rattle.std.proofs.Common.{◌≡◌, ⊎_elim, ℕ, ◌+◌, ◌*◌, ◌/◌, ◌<◌, ◌≤◌, List, [], length, get_or, set, Option, Ok, refl, sym, ap, ◌∙◌, arith}
+use Rattle.std.proofs.Common.{◌≡◌, ⊎_elim, ℕ, ◌+◌, ◌/◌, ◌<◌, ◌≤◌, List, [], length, get_or, set, Option, Ok, refl, sym, ap, ◌∙◌, arith}
 use Rattle.std.proofs.lemmas.Bool.{cases_eq}
 use Rattle.std.proofs.lemmas.List.{get_or-set_same, get_or-set_other}
 use Rattle.sector_model.specs.Bank.{IsTrueTo}
@@ -8,8 +8,8 @@ use Rattle.extents.specs.declared.owned.Owned.{Owned}
 use Rattle.extents.specs.ExtentMaps.{HasPlace, IsWhere}
 use Rattle.extents.specs.Owners.{IsAt}
 use Rattle.extents.proofs.ExtentLawLemmas.{block_is_within}
-use Rattle.layout_map.specs.declared.geometry.Geometry.{Geometry}
-use Rattle.layout_map.specs.Placement.{data_sectors_of, extents_of}
+use Rattle.layout_map.specs.Placement.{data_sectors_of}
+use Rattle.superblock.specs.declared.table.Table.{Table}
 use Rattle.superblock.specs.Cases.{Lost}
 use Rattle.array_io.specs.Believed.ArrayCalls.{Answer, Reads}
 use Rattle.array_io.specs.Believed.Views.{ArrayView, RestsOn}
@@ -18,22 +18,19 @@ use Rattle.volume_table.specs.ListChanges.{ChangesList, IsSame}
 use Rattle.volume_table.specs.Shows.{sector_of_block}
 use Rattle.volume_table.specs.Stands.{extents_in}
 use Rattle.volume_table.proofs.ListChanges.{changes_both, changes_read}
-use Rattle.layout_map.specs.declared.sizes.TheConstants.{EXTENT_SECTORS, RESERVED_SECTORS}
-
--- the extents of a set lie within its data sectors
-room_for : (members chunk stripes count : ℕ) → 1 ≤ extents_of members chunk stripes → count ≤ extents_of members chunk stripes
-    → RESERVED_SECTORS + EXTENT_SECTORS * count ≤ data_sectors_of members chunk stripes
-room_for members chunk stripes count has few = omega (arith, has, few)
+use Rattle.volume_table.proofs.TableSizes.{room_for}
+use Rattle.layout_map.specs.declared.sizes.TheConstants.{EXTENT_SECTORS}
 
 -- a block lies in a logical sector of the set
-pub block_of_set : (geometry now : Geometry) (owners : List (Option Owned)) (number block sector : ℕ) → length owners ≤ extents_in geometry → now ≡ geometry
+pub block_of_set : (table now : Table) (owners : List (Option Owned)) (number block sector : ℕ) → length owners ≤ extents_in table.geometry
+    → now.geometry ≡ table.geometry
     → HasPlace owners number (block / EXTENT_SECTORS)
-    → IsWhere owners number block sector → sector < data_sectors_of now.members now.chunk now.stripes
-block_of_set geometry now owners number block sector sized same place where_is =
-    let few : length owners ≤ extents_in now = rw same sized in
+    → IsWhere owners number block sector → sector < data_sectors_of now.geometry.members now.geometry.chunk now.geometry.stripes
+block_of_set table now owners number block sector sized same place where_is =
+    let few : length owners ≤ extents_in now.geometry = rw same sized in
     omega (
       arith,
-      room_for now.members now.chunk now.stripes (length owners) now.limits.has_extent few,
+      room_for now (length owners) few,
       (block_is_within owners number block sector place where_is).1,
     )
 

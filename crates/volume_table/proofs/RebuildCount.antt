@@ -27,7 +27,7 @@ use Rattle.volume_table.specs.RebuildLaw.{AllLeaveRebuilding, AllUp, IsRebuildin
 use Rattle.volume_table.proofs.SingleFailure.{refused_beside}
 use Rattle.volume_table.proofs.SetLemmas.{call_leaves, made, none_missing, step_is_last, tables_have_one_out}
 use Rattle.volume_table.proofs.StoreSteps.{length-set_of}
-use Rattle.rebuild.specs.declared.stepping.TheConstants.{MOST_ROWS}
+use Rattle.layout_map.specs.declared.sizes.TheConstants.{REBUILD_ROWS}
 
 rebuilding_not_in_sync : (state : State) → state ≡ Rebuilding → state ≢ InSync
 rebuilding_not_in_sync state is in_sync = let never : Rebuilding ≡ InSync = sym is ∙ in_sync in cc
@@ -84,7 +84,7 @@ fail_not_done devices table member slot is apart = by_refusal (set_refusal no_de
 
 -- how far a rebuild is after some events of a store, none of which ended it
 record IsAhead (member steps : ℕ) (old new : StoreView) : Type 0 where
-  on : IsRebuildingOn member (MOST_ROWS * steps) old.array.table new.array.table
+  on : IsRebuildingOn member (REBUILD_ROWS * steps) old.array.table new.array.table
   rows : row_count new.array.table ≡ row_count old.array.table
   going : new.ended ≡ None
 
@@ -92,7 +92,7 @@ record IsAhead (member steps : ℕ) (old new : StoreView) : Type 0 where
 one_ahead : (honest : Type 0) (member : ℕ) (event : Event) (old new : StoreView) (reply : Reply)
     → GoesThrough honest event old new reply → ¬ EndsStore reply
     → IsRebuilding old.array.table member → LeavesRebuilding member event new
-    → old.array.table.position + MOST_ROWS * steps_of event < row_count old.array.table
+    → old.array.table.position + REBUILD_ROWS * steps_of event < row_count old.array.table
     → IsAhead member (steps_of event) old new
 one_ahead honest member event old new reply through goes is leaves more = record {
   on = record {
@@ -126,11 +126,11 @@ one_ahead honest member event old new reply through goes is leaves more = record
       whole = leaves.whole;
     }
 
-    more_rows : old.array.table.position + MOST_ROWS * steps_of event < left.devices.rows
+    more_rows : old.array.table.position + REBUILD_ROWS * steps_of event < left.devices.rows
     more_rows = omega (arith, more, left.are.rows)
 
     after : set_of new.array.table
-        ≡ made (set_of old.array.table).states (old.array.table.position + MOST_ROWS * steps_of event)
+        ≡ made (set_of old.array.table).states (old.array.table.position + REBUILD_ROWS * steps_of event)
     after = left_is event left.devices (set_of old.array.table) (set_of new.array.table) reply left.left
         ∙ call_leaves left.devices event (set_of old.array.table) (tables_have_one_out old.array.table)
         (set_rebuilds old.array.table member is) lets more_rows
@@ -139,16 +139,16 @@ one_ahead honest member event old new reply through goes is leaves more = record
 ahead : (member : ℕ) (events : List Event) (acks : List ℕ) (old new : StoreView) → old.ended ≡ None
     → IsRebuilding old.array.table member
     → (chain : Chain (Unit {0}) events acks old new) → AllLeaveRebuilding member chain
-    → old.array.table.position + MOST_ROWS * steps_in events < row_count old.array.table
+    → old.array.table.position + REBUILD_ROWS * steps_in events < row_count old.array.table
     → IsAhead member (steps_in events) old new
 ahead member [] [] old new goes is none_done leave more =
     record { on = record { still = is; position = omega arith }; rows = refl; going = goes }
 ahead member [] (_ ∷ acks) old new goes is chain leave more = elim chain [ ]
 ahead member (_ ∷ events) [] old new goes is chain leave more = elim chain [ ]
 ahead member (_ ∷ events) (_ ∷ acks) old new goes is (then_done mid event reply ack applies on same chain) leave more =
-    let less : old.array.table.position + MOST_ROWS * steps_of event < row_count old.array.table = omega (arith, more) in
+    let less : old.array.table.position + REBUILD_ROWS * steps_of event < row_count old.array.table = omega (arith, more) in
     let first = one_ahead (Unit {0}) member event old mid reply (applies.going goes) on is leave.0 less in
-    let beyond : mid.array.table.position + MOST_ROWS * steps_in events < row_count mid.array.table =
+    let beyond : mid.array.table.position + REBUILD_ROWS * steps_in events < row_count mid.array.table =
     omega (arith, more, first.rows, first.on.position) in
     let rest = ahead member events acks mid new first.going first.on.still chain leave.1 beyond in
     record {
@@ -160,7 +160,7 @@ ahead member (_ ∷ events) (_ ∷ acks) old new goes is (then_done mid event re
 pub rebuild_advances : (member : ℕ) (events : List Event) (acks : List ℕ) (old new : StoreView)
     → RebuildsBy member events acks old new
     → steps_in events < steps_to_do old.array.table
-    → IsRebuildingOn member (MOST_ROWS * steps_in events) old.array.table new.array.table
+    → IsRebuildingOn member (REBUILD_ROWS * steps_in events) old.array.table new.array.table
 rebuild_advances member events acks old new by more =
     (ahead member events acks old new by.going by.rebuilding by.chain by.all_leave (omega (arith, more))).on
 
@@ -197,22 +197,22 @@ rebuilt_in_sync (state ∷ states) (suc slot) below there = rebuilt_in_sync stat
 
 -- the last step
 last_ends : (honest : Type 0) (member : ℕ) (old new : StoreView) (reply : Reply)
-    → GoesThrough honest (OnSet (RebuildStep MOST_ROWS)) old new reply → ¬ EndsStore reply
+    → GoesThrough honest (OnSet (RebuildStep REBUILD_ROWS)) old new reply → ¬ EndsStore reply
     → IsRebuilding old.array.table member → AllUp new → old.array.table.position ≤ row_count old.array.table
-    → row_count old.array.table ≤ old.array.table.position + MOST_ROWS
+    → row_count old.array.table ≤ old.array.table.position + REBUILD_ROWS
     → (reply ≡ Progressed Complete) × IsComplete new.array.table
 last_ends honest member old new reply through goes is up within near =
     (left.left.replied ∙ done.1, record { in_sync = in_sync })
   where
-    left : SetIsLeft honest (OnSet (RebuildStep MOST_ROWS)) old new reply
+    left : SetIsLeft honest (OnSet (RebuildStep REBUILD_ROWS)) old new reply
     left = through.set_left goes
 
     same : slots_of new.array.table ≡ slots_of old.array.table
     same = ap (λ (g : Geometry). g.members + 2) through.goes_on.not_older.same_geometry
 
-    done : (set_after left.devices (OnSet (RebuildStep MOST_ROWS)) (set_of old.array.table)
+    done : (set_after left.devices (OnSet (RebuildStep REBUILD_ROWS)) (set_of old.array.table)
         ≡ made (rebuilt (set_of old.array.table).states) 0)
-        × (set_reply left.devices (RebuildStep MOST_ROWS) (set_of old.array.table) ≡ Progressed Complete)
+        × (set_reply left.devices (RebuildStep REBUILD_ROWS) (set_of old.array.table) ≡ Progressed Complete)
     done = step_is_last left.devices (set_of old.array.table)
         (none_faults honest old new left.devices left.are same up) (set_rebuilds old.array.table member is)
         (omega (arith, within, left.are.rows)) (omega (arith, near, left.are.rows))
@@ -229,13 +229,13 @@ last_ends honest member old new reply through goes is up within near =
 
 pub rebuild_ends : (member : ℕ) (events : List Event) (acks : List ℕ) (old mid new : StoreView) (reply : Reply)
     → RebuildsBy member events acks old mid → steps_in events + 1 ≡ steps_to_do old.array.table
-    → Applies (Unit {0}) (OnSet (RebuildStep MOST_ROWS)) mid new reply → AllUp new → reply ≢ Refused Worn
+    → Applies (Unit {0}) (OnSet (RebuildStep REBUILD_ROWS)) mid new reply → AllUp new → reply ≢ Refused Worn
     → (reply ≡ Progressed Complete) × IsComplete new.array.table
 rebuild_ends member events acks old mid new reply by last applies up not_worn =
-    let less : old.array.table.position + MOST_ROWS * steps_in events < row_count old.array.table = omega (arith, last) in
+    let less : old.array.table.position + REBUILD_ROWS * steps_in events < row_count old.array.table = omega (arith, last) in
     let there = ahead member events acks old mid by.going by.rebuilding by.chain by.all_leave less in
     let through = applies.going there.going in
-    let on = not_ended (Unit {0}) (OnSet (RebuildStep MOST_ROWS)) mid new reply through up not_worn in
+    let on = not_ended (Unit {0}) (OnSet (RebuildStep REBUILD_ROWS)) mid new reply through up not_worn in
     last_ends (Unit {0}) member mid new reply through on there.on.still up
     (omega (arith, last, there.on.position, there.rows)) (omega (arith, last, there.on.position, there.rows))
 
@@ -259,21 +259,21 @@ answered_by_case true true position there is = absurd (cc)
 answered_by_case true false position there is = (refl, cc)
 
 -- a step that does not reach the last row leaves one step fewer
-one_step_fewer : (rows position was : ℕ) → was ≤ rows → position ≡ stepped rows MOST_ROWS was → position ≢ rows
+one_step_fewer : (rows position was : ℕ) → was ≤ rows → position ≡ stepped REBUILD_ROWS rows REBUILD_ROWS was → position ≢ rows
     → steps_left was rows ≡ steps_left position rows + 1
-one_step_fewer rows position was within is apart = by_order (cases_lt (was + MOST_ROWS) rows)
+one_step_fewer rows position was within is apart = by_order (cases_lt (was + REBUILD_ROWS) rows)
   where
-    by_order : (was + MOST_ROWS < rows) ⊎ (rows ≤ was + MOST_ROWS) → steps_left was rows ≡ steps_left position rows + 1
-    by_order (inl more) = let there : position ≡ was + MOST_ROWS = omega (arith, is, more) in omega (arith, there, more)
+    by_order : (was + REBUILD_ROWS < rows) ⊎ (rows ≤ was + REBUILD_ROWS) → steps_left was rows ≡ steps_left position rows + 1
+    by_order (inl more) = let there : position ≡ was + REBUILD_ROWS = omega (arith, is, more) in omega (arith, there, more)
     by_order (inr near) = absurd (apart (omega (arith, within, is, near)))
 
 step_counts : (honest : Type 0) (position : ℕ) (old new : StoreView)
-    → GoesThrough honest (OnSet (RebuildStep MOST_ROWS)) old new (Progressed (Position position))
+    → GoesThrough honest (OnSet (RebuildStep REBUILD_ROWS)) old new (Progressed (Position position))
     → steps_to_do old.array.table ≡ steps_left position (row_count old.array.table) + 1
 step_counts honest position old new through =
     let left = through.set_left (λ ends. ends) in
     let was = set_of old.array.table in
-    let there = stepped left.devices.rows MOST_ROWS was.position in
+    let there = stepped REBUILD_ROWS left.devices.rows REBUILD_ROWS was.position in
     let case = answered_by_case (has_rebuilding (with_faults left.devices.faults was.states)) (there == left.devices.rows) position there left.left.replied in
     let apart : there ≢ left.devices.rows = eqb-false there left.devices.rows case.0 in
     let within : old.array.table.position ≤ left.devices.rows = omega (arith, position_within old.array.table, left.are.rows) in
@@ -282,7 +282,7 @@ step_counts honest position old new through =
 
 -- a store that answered a step with a position was open
 pub rebuild_counts : (position : ℕ) (old new : StoreView)
-    → Applies (Unit {0}) (OnSet (RebuildStep MOST_ROWS)) old new (Progressed (Position position))
+    → Applies (Unit {0}) (OnSet (RebuildStep REBUILD_ROWS)) old new (Progressed (Position position))
     → steps_to_do old.array.table ≡ steps_left position (row_count old.array.table) + 1
 rebuild_counts position old new applies = by_end old.ended refl
   where

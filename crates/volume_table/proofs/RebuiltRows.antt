@@ -9,6 +9,9 @@ use Rattle.sector_model.specs.declared.refusal.Refusal.{Refusal}
 use Rattle.sector_model.specs.declared.refusal.Refusal.TheVariants.{NothingToRebuild, TwoLost, Worn}
 use Rattle.superblock.specs.declared.state.State.{State}
 use Rattle.superblock.specs.declared.state.State.TheVariants.{InSync, Missing, Rebuilding}
+use Rattle.layout_map.specs.declared.format.Format.{Format}
+use Rattle.layout_map.specs.declared.sizes.TheConstants.{REBUILD_ROWS}
+use Rattle.layout_map.specs.Formats.{rebuild_rows}
 use Rattle.superblock.specs.declared.table.Table.{Table}
 use Rattle.superblock.specs.NextTables.{IsNext, slots_of}
 use Rattle.superblock.specs.States.{has_rebuilding, position_in}
@@ -16,7 +19,7 @@ use Rattle.superblock.specs.Tables.{incarnation_at, state_at}
 use Rattle.array_io.specs.Believed.Holds.{row_count}
 use Rattle.array_io.specs.Believed.Views.{ArrayView, EndsIt, HasEnded, IsEndOf, KeepsItsState}
 use Rattle.rebuild.specs.declared.progress.Progress as declared
-use Rattle.rebuild.specs.Rebuilding.{Complete, IsAfterStep, IsNoStep, IsRebuilding, IsSteppedOrNot, Position, Progress, StepsRebuild, stepped}
+use Rattle.rebuild.specs.Rebuilding.{Complete, IsAfterStep, IsNoStep, IsRebuilding, IsSteppedOrNot, Position, Progress, StepsRebuild, end_of_step, stepped}
 use Rattle.rebuild.specs.Stepping.{answer_by, progress_by}
 use Rattle.volume_table.specs.SetReplies.{changed_set, rebuilt, set_answer, set_refusal, settled, with_faults}
 use Rattle.volume_table.specs.Stands.{StoreView}
@@ -103,7 +106,7 @@ rebuilt_is (Missing ∷ states) (suc member) is one =
     ap (λ (ss : List State). Missing ∷ ss) (rebuilt_is states member is (λ k below rebuilding. omega (arith, one (suc k) (omega (arith, below)) rebuilding)))
 
 -- a step of no rows stays
-no_step : (all rows position : ℕ) → rows ≡ 0 → stepped all rows position ≡ position
+no_step : (all rows position : ℕ) → rows ≡ 0 → stepped REBUILD_ROWS all rows position ≡ position
 no_step all rows position none = omega (arith, none)
 
 -- ---- the table after a step
@@ -191,8 +194,12 @@ step_is_no_scrub is = cc
 progressed_differs : (progress : Progress) (refusal : Refusal) → Progressed progress ≡ Refused refusal → ⊥
 progressed_differs progress refusal same = cc
 
+-- the position that a step comes to
 abbrev end_at : Table → ℕ → ℕ
-end_at table rows = stepped (row_count table) rows table.position
+end_at table rows = stepped REBUILD_ROWS (row_count table) rows table.position
+
+end_is : (table : Table) (rows : ℕ) → end_of_step table rows ≡ end_at table rows
+end_is table rows = ap (λ (format : Format). stepped (rebuild_rows format) (row_count table) rows table.position) table.allowed.of_format_one
 
 module _ (honest : Type 0) (rows : ℕ) (old new : StoreView) (answer : Result Progress Refusal) (is : TakesStep honest rows old new answer) where
   slots_same : slots_of new.array.table ≡ slots_of old.array.table
@@ -241,7 +248,8 @@ module _ (honest : Type 0) (rows : ℕ) (old new : StoreView) (answer : Result P
   -- the rows go on
   not_last : (q member : ℕ) → IsAfterStep old.array.table member rows (Position q) new.array.table
       → (end_at old.array.table rows == row_count old.array.table) ≡ false
-  not_last q member after = ne_eqb (end_at old.array.table rows) (row_count old.array.table) (λ same. absurd (omega (arith, after.0, after.1, same)))
+  not_last q member after = ne_eqb (end_at old.array.table rows) (row_count old.array.table) (λ same.
+      absurd (omega (arith, after.0, after.1, same, end_is old.array.table rows)))
 
   same_states : (q member : ℕ) → IsAfterStep old.array.table member rows (Position q) new.array.table
       → states_in old.array.table ≡ states_in new.array.table
@@ -254,7 +262,7 @@ module _ (honest : Type 0) (rows : ℕ) (old new : StoreView) (answer : Result P
       → end_at old.array.table rows ≡ new.array.table.position
   position_now q member after = elim after.2 [
     | inl (none, same) ↦ no_step (row_count old.array.table) rows old.array.table.position none ∙ ap (λ (t : Table). t.position) (sym same)
-    | inr (some, moved) ↦ sym after.0 ∙ sym moved.has_position
+    | inr (some, moved) ↦ sym (end_is old.array.table rows) ∙ sym after.0 ∙ sym moved.has_position
   ]
 
   position_counts : (q member : ℕ) → IsRebuilding old.array.table member
@@ -272,7 +280,7 @@ module _ (honest : Type 0) (rows : ℕ) (old new : StoreView) (answer : Result P
       set_left_by honest (RebuildStep rows) old new (Progressed (Position q)) (devices_in old.array new.array) None
       (are_devices honest old.array new.array (λ fair. is.steps.failure fair unended))
       (admits member rebuilding (step_table old.array.table new.array.table member rows (Position q) rebuilding after))
-      (ap (λ (p : ℕ). Progressed (Position p)) after.0 ∙ sym (answer_is false (not_last q member after)))
+      (ap (λ (p : ℕ). Progressed (Position p)) (after.0 ∙ end_is old.array.table rows) ∙ sym (answer_is false (not_last q member after)))
       (ap (settled (devices_in old.array new.array)) (changed_is false (not_last q member after))
       ∙ ap (λ states. settled (devices_in old.array new.array) (made states (end_at old.array.table rows))) (same_states q member after)
       ∙ devices_leave old.array new.array (end_at old.array.table rows) (position_counts q member rebuilding after))
@@ -300,7 +308,7 @@ module _ (honest : Type 0) (rows : ℕ) (old new : StoreView) (answer : Result P
       → IsAfterStep old.array.table member rows Complete new.array.table → ¬ HasEnded answer
       → SetIsLeft honest (OnSet (RebuildStep rows)) old new (Progressed Complete)
   left_complete member rebuilding after unended =
-      let last = eq-eqb (end_at old.array.table rows) (row_count old.array.table) after.0 in
+      let last = eq-eqb (end_at old.array.table rows) (row_count old.array.table) (sym (end_is old.array.table rows) ∙ after.0) in
       set_left_by honest (RebuildStep rows) old new (Progressed Complete) (devices_in old.array new.array) None
       (are_devices honest old.array new.array (λ fair. is.steps.failure fair unended))
       (admits member rebuilding (step_table old.array.table new.array.table member rows Complete rebuilding after))

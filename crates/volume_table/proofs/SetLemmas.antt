@@ -18,7 +18,7 @@ use Rattle.volume_table.specs.SetReplies.{SetState, Devices, is_member, with_fau
 use Rattle.volume_table.specs.SetReplies.{set_or_same, set_after}
 use Rattle.volume_table.specs.SetLaw.{NoFaults, IsZeroUnlessRebuilding, IsOneOut, Call, LetsRebuildGoOn, AllLetRebuildGoOn, after_calls, after_steps}
 use Rattle.volume_table.specs.SetLaw.{steps_among, steps_left, steps_of}
-use Rattle.rebuild.specs.declared.stepping.TheConstants.{MOST_ROWS}
+use Rattle.layout_map.specs.declared.sizes.TheConstants.{REBUILD_ROWS}
 
 -- as many slots with faults
 pub length-with_faults : (faults : ℕ → Bool) (states : List State) → length (with_faults faults states) ≡ length states
@@ -56,10 +56,10 @@ slots_of_joined slot was = by_case (is_member slot was.states)
 slots_of_changed : (all_rows : ℕ) (command : SetCommand) (was : SetState) → length (changed_set all_rows command was).states ≡ length was.states
 slots_of_changed all_rows (Fail slot) was = length-set was.states slot Missing
 slots_of_changed all_rows (Replace slot) was = slots_of_joined slot was
-slots_of_changed all_rows (RebuildStep rows) was = by_case (stepped all_rows rows was.position == all_rows)
+slots_of_changed all_rows (RebuildStep rows) was = by_case (stepped REBUILD_ROWS all_rows rows was.position == all_rows)
   where
     by_case : (b : Bool) → length (cond {A = SetState} b (record { states = rebuilt was.states; position = 0 })
-        (record { states = was.states; position = stepped all_rows rows was.position })).states ≡ length was.states
+        (record { states = was.states; position = stepped REBUILD_ROWS all_rows rows was.position })).states ≡ length was.states
     by_case true = length-rebuilt was.states
     by_case false = refl
 slots_of_changed all_rows Scrub was = refl
@@ -127,7 +127,7 @@ no_refusal_answered : (devices : Devices) (command : SetCommand) (was : SetState
 no_refusal_answered devices (Fail slot) was refusal e = absurd (grind arith)
 no_refusal_answered devices (Replace slot) was refusal e = absurd (grind arith)
 no_refusal_answered devices (RebuildStep rows) was refusal e =
-    step_answer_is_none (stepped devices.rows rows was.position == devices.rows) (stepped devices.rows rows was.position) refusal e
+    step_answer_is_none (stepped REBUILD_ROWS devices.rows rows was.position == devices.rows) (stepped REBUILD_ROWS devices.rows rows was.position) refusal e
 no_refusal_answered devices Scrub was refusal e = absurd (grind arith)
 
 pub refused_leaves_set : (devices : Devices) (command : SetCommand) (was : SetState) (refusal : Refusal) → NoFaults devices was → IsZeroUnlessRebuilding was
@@ -143,37 +143,39 @@ refused_leaves_set devices command was refusal none zero_else refused = ap (sett
 
 -- a rebuild step is not refused while a member is rebuilding
 step_not_refused : (devices : Devices) (was : SetState) → NoFaults devices was → has_rebuilding was.states ≡ true
-    → set_refusal devices (RebuildStep MOST_ROWS) was ≡ None
+    → set_refusal devices (RebuildStep REBUILD_ROWS) was ≡ None
 step_not_refused devices was none rebuilding =
     ap (λ states. cond (not (has_rebuilding states)) (Some NothingToRebuild) None) (without_faults devices.faults was.states none)
     ∙ ap (λ (b : Bool). cond (not b) (Some NothingToRebuild) None) rebuilding
 
 -- what a step leaves and answers, by whether it is the last
 step_leaves : (devices : Devices) (was : SetState) (last : Bool) → NoFaults devices was → has_rebuilding was.states ≡ true
-    → (stepped devices.rows MOST_ROWS was.position == devices.rows) ≡ last
-    → set_after devices (OnSet (RebuildStep MOST_ROWS)) was ≡ settled devices
-    (cond last (record { states = rebuilt was.states; position = 0 }) (record { states = was.states; position = stepped devices.rows MOST_ROWS was.position }))
+    → (stepped REBUILD_ROWS devices.rows REBUILD_ROWS was.position == devices.rows) ≡ last
+    → set_after devices (OnSet (RebuildStep REBUILD_ROWS)) was ≡ settled devices
+    (cond last (record { states = rebuilt was.states; position = 0 })
+    (record { states = was.states; position = stepped REBUILD_ROWS devices.rows REBUILD_ROWS was.position }))
 step_leaves devices was last none rebuilding is_last =
-    ap (λ o. settled devices (set_or_same o (changed_set devices.rows (RebuildStep MOST_ROWS) was) was)) (step_not_refused devices was none rebuilding)
+    ap (λ o. settled devices (set_or_same o (changed_set devices.rows (RebuildStep REBUILD_ROWS) was) was)) (step_not_refused devices was none rebuilding)
     ∙ ap (λ (b : Bool). settled devices (cond b (record { states = rebuilt was.states; position = 0 })
-    (record { states = was.states; position = stepped devices.rows MOST_ROWS was.position }))) is_last
+    (record { states = was.states; position = stepped REBUILD_ROWS devices.rows REBUILD_ROWS was.position }))) is_last
 
 step_answers : (devices : Devices) (was : SetState) (last : Bool) → NoFaults devices was → has_rebuilding was.states ≡ true
-    → (stepped devices.rows MOST_ROWS was.position == devices.rows) ≡ last
-    → set_reply devices (RebuildStep MOST_ROWS) was ≡ cond last (Progressed Complete) (Progressed (Position (stepped devices.rows MOST_ROWS was.position)))
+    → (stepped REBUILD_ROWS devices.rows REBUILD_ROWS was.position == devices.rows) ≡ last
+    → set_reply devices (RebuildStep REBUILD_ROWS) was
+    ≡ cond last (Progressed Complete) (Progressed (Position (stepped REBUILD_ROWS devices.rows REBUILD_ROWS was.position)))
 step_answers devices was last none rebuilding is_last =
-    ap (λ o. or_refused o (set_answer devices (RebuildStep MOST_ROWS) was)) (step_not_refused devices was none rebuilding)
-    ∙ ap (λ (b : Bool). cond b (Progressed Complete) (Progressed (Position (stepped devices.rows MOST_ROWS was.position)))) is_last
+    ap (λ o. or_refused o (set_answer devices (RebuildStep REBUILD_ROWS) was)) (step_not_refused devices was none rebuilding)
+    ∙ ap (λ (b : Bool). cond b (Progressed Complete) (Progressed (Position (stepped REBUILD_ROWS devices.rows REBUILD_ROWS was.position)))) is_last
 
 -- a step that is not the last
-step_goes_on : (devices : Devices) (was : SetState) → NoFaults devices was → has_rebuilding was.states ≡ true → was.position + MOST_ROWS < devices.rows
-    → (set_after devices (OnSet (RebuildStep MOST_ROWS)) was ≡ record { states = was.states; position = was.position + MOST_ROWS })
-    × (set_reply devices (RebuildStep MOST_ROWS) was ≡ Progressed (Position (was.position + MOST_ROWS)))
+step_goes_on : (devices : Devices) (was : SetState) → NoFaults devices was → has_rebuilding was.states ≡ true → was.position + REBUILD_ROWS < devices.rows
+    → (set_after devices (OnSet (RebuildStep REBUILD_ROWS)) was ≡ record { states = was.states; position = was.position + REBUILD_ROWS })
+    × (set_reply devices (RebuildStep REBUILD_ROWS) was ≡ Progressed (Position (was.position + REBUILD_ROWS)))
 step_goes_on devices was none rebuilding more =
-    let there : stepped devices.rows MOST_ROWS was.position ≡ was.position + MOST_ROWS = omega arith in
-    let not_last : (stepped devices.rows MOST_ROWS was.position == devices.rows) ≡ false =
-    ne_eqb (stepped devices.rows MOST_ROWS was.position) devices.rows (λ same. absurd (omega (arith, there, same))) in
-    let next : SetState = record { states = was.states; position = stepped devices.rows MOST_ROWS was.position } in (
+    let there : stepped REBUILD_ROWS devices.rows REBUILD_ROWS was.position ≡ was.position + REBUILD_ROWS = omega arith in
+    let not_last : (stepped REBUILD_ROWS devices.rows REBUILD_ROWS was.position == devices.rows) ≡ false =
+    ne_eqb (stepped REBUILD_ROWS devices.rows REBUILD_ROWS was.position) devices.rows (λ same. absurd (omega (arith, there, same))) in
+    let next : SetState = record { states = was.states; position = stepped REBUILD_ROWS devices.rows REBUILD_ROWS was.position } in (
       step_leaves devices was false none rebuilding not_last ∙ settled_stays devices next none (λ e. absurd (true≢false (sym rebuilding ∙ e)))
           ∙ ap (made was.states) there,
       step_answers devices was false none rebuilding not_last ∙ ap (λ q. Progressed (Position q)) there,
@@ -181,12 +183,13 @@ step_goes_on devices was none rebuilding more =
 
 -- the last step
 pub step_is_last : (devices : Devices) (was : SetState) → NoFaults devices was → has_rebuilding was.states ≡ true → was.position ≤ devices.rows
-    → devices.rows ≤ was.position + MOST_ROWS
-    → (set_after devices (OnSet (RebuildStep MOST_ROWS)) was ≡ record { states = rebuilt was.states; position = 0 })
-    × (set_reply devices (RebuildStep MOST_ROWS) was ≡ Progressed Complete)
+    → devices.rows ≤ was.position + REBUILD_ROWS
+    → (set_after devices (OnSet (RebuildStep REBUILD_ROWS)) was ≡ record { states = rebuilt was.states; position = 0 })
+    × (set_reply devices (RebuildStep REBUILD_ROWS) was ≡ Progressed Complete)
 step_is_last devices was none rebuilding within near =
-    let there : stepped devices.rows MOST_ROWS was.position ≡ devices.rows = omega arith in
-    let last : (stepped devices.rows MOST_ROWS was.position == devices.rows) ≡ true = eq-eqb (stepped devices.rows MOST_ROWS was.position) devices.rows there in
+    let there : stepped REBUILD_ROWS devices.rows REBUILD_ROWS was.position ≡ devices.rows = omega arith in
+    let last : (stepped REBUILD_ROWS devices.rows REBUILD_ROWS was.position == devices.rows) ≡ true =
+    eq-eqb (stepped REBUILD_ROWS devices.rows REBUILD_ROWS was.position) devices.rows there in
     let next : SetState = record { states = rebuilt was.states; position = 0 } in (
       step_leaves devices was true none rebuilding last
           ∙ settled_stays devices next (λ slot within. none slot (omega (arith, within, length-rebuilt was.states))) (λ e. refl),
@@ -195,37 +198,37 @@ step_is_last devices was none rebuilding within near =
 
 -- the set n steps on
 ahead : (devices : Devices) (was : SetState) (n : ℕ) → NoFaults devices was → has_rebuilding was.states ≡ true → n < steps_left devices was
-    → after_steps devices was n ≡ made was.states (was.position + MOST_ROWS * n)
+    → after_steps devices was n ≡ made was.states (was.position + REBUILD_ROWS * n)
 ahead devices was zero none rebuilding more = ap (made was.states) (omega arith)
 ahead devices was (suc n) none rebuilding more =
-    let here = made was.states (was.position + MOST_ROWS * n) in
-    ap (set_after devices (OnSet (RebuildStep MOST_ROWS))) (ahead devices was n none rebuilding (omega arith))
+    let here = made was.states (was.position + REBUILD_ROWS * n) in
+    ap (set_after devices (OnSet (RebuildStep REBUILD_ROWS))) (ahead devices was n none rebuilding (omega arith))
     ∙ (step_goes_on devices here none rebuilding (omega arith)).0
     ∙ ap (made was.states) (omega arith)
 
 pub rebuild_goes_on : (devices : Devices) (was : SetState) (n : ℕ) → NoFaults devices was → has_rebuilding was.states ≡ true → n + 1 < steps_left devices was
-    → (after_steps devices was (n + 1) ≡ record { states = was.states; position = was.position + MOST_ROWS * (n + 1) })
-    × (set_reply devices (RebuildStep MOST_ROWS) (after_steps devices was n) ≡ Progressed (Position (was.position + MOST_ROWS * (n + 1))))
+    → (after_steps devices was (n + 1) ≡ record { states = was.states; position = was.position + REBUILD_ROWS * (n + 1) })
+    × (set_reply devices (RebuildStep REBUILD_ROWS) (after_steps devices was n) ≡ Progressed (Position (was.position + REBUILD_ROWS * (n + 1))))
 rebuild_goes_on devices was n none rebuilding more =
-    let here = made was.states (was.position + MOST_ROWS * n) in
-    let far : was.position + MOST_ROWS * n + MOST_ROWS ≡ was.position + MOST_ROWS * (n + 1) = omega arith in (
+    let here = made was.states (was.position + REBUILD_ROWS * n) in
+    let far : was.position + REBUILD_ROWS * n + REBUILD_ROWS ≡ was.position + REBUILD_ROWS * (n + 1) = omega arith in (
       ahead devices was (n + 1) none rebuilding more,
-      ap (set_reply devices (RebuildStep MOST_ROWS)) (ahead devices was n none rebuilding (omega arith))
+      ap (set_reply devices (RebuildStep REBUILD_ROWS)) (ahead devices was n none rebuilding (omega arith))
           ∙ (step_goes_on devices here none rebuilding (omega arith)).1
           ∙ ap (λ q. Progressed (Position q)) far,
     )
 
 pub rebuild_is_counted : (devices : Devices) (was : SetState) (n : ℕ) → NoFaults devices was → has_rebuilding was.states ≡ true → n + 1 ≡ steps_left devices was
     → (after_steps devices was (n + 1) ≡ record { states = rebuilt was.states; position = 0 })
-    × (set_reply devices (RebuildStep MOST_ROWS) (after_steps devices was n) ≡ Progressed Complete)
+    × (set_reply devices (RebuildStep REBUILD_ROWS) (after_steps devices was n) ≡ Progressed Complete)
 rebuild_is_counted devices was n none rebuilding last =
-    let here = made was.states (was.position + MOST_ROWS * n) in
+    let here = made was.states (was.position + REBUILD_ROWS * n) in
     let at_n = ahead devices was n none rebuilding (omega arith) in
     let one_more : n + 1 ≡ suc n = omega arith in
     let done = step_is_last devices here none rebuilding (omega arith) (omega arith) in (
-      ap (after_steps devices was) one_more ∙ ap (set_after devices (OnSet (RebuildStep MOST_ROWS))) at_n
+      ap (after_steps devices was) one_more ∙ ap (set_after devices (OnSet (RebuildStep REBUILD_ROWS))) at_n
           ∙ done.0,
-      ap (set_reply devices (RebuildStep MOST_ROWS)) at_n ∙ done.1,
+      ap (set_reply devices (RebuildStep REBUILD_ROWS)) at_n ∙ done.1,
     )
 
 missing≢in_sync : Missing ≢ InSync
@@ -301,19 +304,19 @@ scrub_leaves devices was none zero_else = ap (settled devices) (by_case (set_ref
 
 -- what a call leaves that lets a rebuild go on and is not the last step
 pub call_leaves : (devices : Devices) (event : Event) (was : SetState) → IsOneOut was.states → has_rebuilding was.states ≡ true
-    → LetsRebuildGoOn devices.rows was (record { devices = devices; event = event }) → was.position + MOST_ROWS * steps_of event < devices.rows
-    → set_after devices event was ≡ made was.states (was.position + MOST_ROWS * steps_of event)
+    → LetsRebuildGoOn devices.rows was (record { devices = devices; event = event }) → was.position + REBUILD_ROWS * steps_of event < devices.rows
+    → set_after devices event was ≡ made was.states (was.position + REBUILD_ROWS * steps_of event)
 call_leaves devices event was one_out rebuilding goes_on more = by_case event goes_on more
   where
     zero_else : IsZeroUnlessRebuilding was
     zero_else e = absurd (true≢false (sym rebuilding ∙ e))
 
-    same : was ≡ made was.states (was.position + MOST_ROWS * 0)
+    same : was ≡ made was.states (was.position + REBUILD_ROWS * 0)
     same = ap (made was.states) (omega arith)
 
     by_case : (other : Event) → LetsRebuildGoOn devices.rows was (record { devices = devices; event = other })
-        → was.position + MOST_ROWS * steps_of other < devices.rows
-        → set_after devices other was ≡ made was.states (was.position + MOST_ROWS * steps_of other)
+        → was.position + REBUILD_ROWS * steps_of other < devices.rows
+        → set_after devices other was ≡ made was.states (was.position + REBUILD_ROWS * steps_of other)
     by_case (OnVolumes command) lets few = settled_stays devices was lets.no_faults zero_else ∙ same
     by_case (OnSet (Fail slot)) lets few = fail_leaves devices was slot lets.no_faults zero_else (lets.none_given_up slot refl) ∙ same
     by_case (OnSet (Replace slot)) lets few =
@@ -325,11 +328,11 @@ call_leaves devices event was one_out rebuilding goes_on more = by_case event go
 
 -- the set after calls that let a rebuild go on, while rows are left
 ahead_among : (calls : List Call) (all_rows : ℕ) (was : SetState) → IsOneOut was.states → has_rebuilding was.states ≡ true
-    → AllLetRebuildGoOn all_rows was calls → was.position + MOST_ROWS * steps_among calls < all_rows
-    → after_calls calls was ≡ made was.states (was.position + MOST_ROWS * steps_among calls)
+    → AllLetRebuildGoOn all_rows was calls → was.position + REBUILD_ROWS * steps_among calls < all_rows
+    → after_calls calls was ≡ made was.states (was.position + REBUILD_ROWS * steps_among calls)
 ahead_among [] all_rows was one_out rebuilding lets more = ap (made was.states) (omega arith)
 ahead_among (call ∷ calls) all_rows was one_out rebuilding lets more =
-    let here = made was.states (was.position + MOST_ROWS * steps_of call.event) in
+    let here = made was.states (was.position + REBUILD_ROWS * steps_of call.event) in
     let of_rows : call.devices.rows ≡ all_rows = lets.0.of_rows in
     let left : set_after call.devices call.event was ≡ here =
     call_leaves call.devices call.event was one_out rebuilding
@@ -342,25 +345,25 @@ ahead_among (call ∷ calls) all_rows was one_out rebuilding lets more =
 pub rebuild_goes_on_among_others : (devices : Devices) (calls : List Call) (was : SetState) → NoFaults devices was → IsOneOut was.states
     → has_rebuilding was.states ≡ true
     → AllLetRebuildGoOn devices.rows was calls → steps_among calls < steps_left devices was
-    → (after_calls calls was ≡ record { states = was.states; position = was.position + MOST_ROWS * steps_among calls })
+    → (after_calls calls was ≡ record { states = was.states; position = was.position + REBUILD_ROWS * steps_among calls })
     × (steps_among calls + 1 < steps_left devices was
-    → set_reply devices (RebuildStep MOST_ROWS) (after_calls calls was) ≡ Progressed (Position (was.position + MOST_ROWS * (steps_among calls + 1))))
+    → set_reply devices (RebuildStep REBUILD_ROWS) (after_calls calls was) ≡ Progressed (Position (was.position + REBUILD_ROWS * (steps_among calls + 1))))
 rebuild_goes_on_among_others devices calls was none one_out rebuilding lets more =
-    let here = made was.states (was.position + MOST_ROWS * steps_among calls) in
+    let here = made was.states (was.position + REBUILD_ROWS * steps_among calls) in
     let there : after_calls calls was ≡ here = ahead_among calls devices.rows was one_out rebuilding lets (omega (arith, more)) in
-    let far : was.position + MOST_ROWS * steps_among calls + MOST_ROWS ≡ was.position + MOST_ROWS * (steps_among calls + 1) = omega arith in (
+    let far : was.position + REBUILD_ROWS * steps_among calls + REBUILD_ROWS ≡ was.position + REBUILD_ROWS * (steps_among calls + 1) = omega arith in (
       there,
-      λ further. ap (set_reply devices (RebuildStep MOST_ROWS)) there ∙ (step_goes_on devices here none rebuilding (omega (arith, further))).1
+      λ further. ap (set_reply devices (RebuildStep REBUILD_ROWS)) there ∙ (step_goes_on devices here none rebuilding (omega (arith, further))).1
           ∙ ap (λ q. Progressed (Position q)) far,
     )
 
 pub rebuild_is_counted_among_others : (devices : Devices) (calls : List Call) (was : SetState) → NoFaults devices was → IsOneOut was.states
     → has_rebuilding was.states ≡ true
     → AllLetRebuildGoOn devices.rows was calls → steps_among calls + 1 ≡ steps_left devices was
-    → (set_after devices (OnSet (RebuildStep MOST_ROWS)) (after_calls calls was) ≡ record { states = rebuilt was.states; position = 0 })
-    × (set_reply devices (RebuildStep MOST_ROWS) (after_calls calls was) ≡ Progressed Complete)
+    → (set_after devices (OnSet (RebuildStep REBUILD_ROWS)) (after_calls calls was) ≡ record { states = rebuilt was.states; position = 0 })
+    × (set_reply devices (RebuildStep REBUILD_ROWS) (after_calls calls was) ≡ Progressed Complete)
 rebuild_is_counted_among_others devices calls was none one_out rebuilding lets last =
-    let here = made was.states (was.position + MOST_ROWS * steps_among calls) in
+    let here = made was.states (was.position + REBUILD_ROWS * steps_among calls) in
     let there : after_calls calls was ≡ here = ahead_among calls devices.rows was one_out rebuilding lets (omega (arith, last)) in
     let done = step_is_last devices here none rebuilding (omega (arith, last)) (omega (arith, last)) in
-    (ap (set_after devices (OnSet (RebuildStep MOST_ROWS))) there ∙ done.0, ap (set_reply devices (RebuildStep MOST_ROWS)) there ∙ done.1)
+    (ap (set_after devices (OnSet (RebuildStep REBUILD_ROWS))) there ∙ done.0, ap (set_reply devices (RebuildStep REBUILD_ROWS)) there ∙ done.1)

@@ -1,6 +1,15 @@
 -- What the limits of a version are at most, and what they grow to from version 1 to 2.
-use Rattle.std.proofs.Common.{◌≡◌, ℕ, ◌<◌, ◌≤◌, ◌==◌, Bool, true, false, cond, List, [], length, take, get_or, sym, ◌∙◌, arith}
+use Rattle.std.proofs.Common.{◌≡◌, ℕ, ◌+◌, ◌-◌, ◌*◌, ◌<◌, ◌≤◌, ◌==◌, Bool, true, false, cond, List, [], length, take, get_or, sym, ◌∙◌, arith}
 use Rattle.std.proofs.lemmas.List.{same_lists, length-take, get_or-take, get_or_default}
+use Rattle.std.proofs.lemmas.Nat.{mul-le}
+use Rattle.layout_map.specs.declared.format.Format.{Format}
+use Rattle.layout_map.specs.declared.format.Format.TheVariants.{One, Two}
+use Rattle.layout_map.specs.declared.geometry.Geometry.{Geometry}
+use Rattle.layout_map.specs.declared.sizes.TheConstants.{EXTENT_SECTORS, RESERVED_SECTORS}
+use Rattle.layout_map.specs.Placement.{data_sectors_of, extents_of, rows_of}
+use Rattle.layout_map.proofs.Places.{chunk_least, data_sectors_by_rows}
+use Rattle.superblock.specs.declared.table.Table.{Table}
+use Rattle.volume_table.specs.Stands.{extents_in}
 use Rattle.extents.specs.Versions.{by_version, most_volumes, most_name_bytes, record_sectors, table_length}
 use Rattle.volume_table.specs.Volumes.{Block, VolumeMap}
 use Rattle.extents.specs.declared.name.TheConstants.{MOST_NAME_BYTES}
@@ -25,7 +34,30 @@ pub table_short : (version : ℕ) → table_length version ≤ TABLE_SECTORS
 unfolding table_length record_sectors
 table_short version = omega (arith, by_version_most version 2 16 16 (omega arith) (omega arith))
 
--- it has 11 at least
+-- a set has more data sectors than a table
+pub has_table_sectors : (geometry : Geometry) → TABLE_SECTORS < data_sectors_of geometry.members geometry.chunk geometry.stripes
+has_table_sectors geometry =
+    let rows : 16 ≤ rows_of geometry.chunk geometry.stripes =
+    omega (arith, mul-le 2 8 geometry.stripes geometry.chunk geometry.limits.stripes_least (chunk_least geometry.limits)) in
+    omega (
+      arith,
+      mul-le 16 2 (rows_of geometry.chunk geometry.stripes) (geometry.members - 1) rows (omega (arith, geometry.limits.members_least)),
+      data_sectors_by_rows geometry.members geometry.chunk geometry.stripes,
+    )
+
+-- the extents of a set lie within its data sectors
+pub room_for : (table : Table) (count : ℕ) → count ≤ extents_in table.geometry
+    → RESERVED_SECTORS + EXTENT_SECTORS * count ≤ data_sectors_of table.geometry.members table.geometry.chunk table.geometry.stripes
+room_for table count few =
+    by_format table.geometry.format table.geometry.members table.geometry.chunk table.geometry.stripes table.allowed.of_format_one
+    table.geometry.limits.has_extent few
+  where
+    by_format : (format : Format) (members chunk stripes : ℕ) → format ≡ One → 1 ≤ extents_of format members chunk stripes
+        → count ≤ extents_of format members chunk stripes → RESERVED_SECTORS + EXTENT_SECTORS * count ≤ data_sectors_of members chunk stripes
+    by_format One members chunk stripes one has few = omega (arith, has, few)
+    by_format Two members chunk stripes one has few = absurd cc
+
+-- a table has 11 sectors at least
 pub table_long : (version : ℕ) → 11 ≤ table_length version
 unfolding table_length record_sectors
 table_long version = omega (arith, by_version_least version 2 16 2 (omega arith) (omega arith))

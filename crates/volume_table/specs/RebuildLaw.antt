@@ -19,7 +19,7 @@ use Rattle.volume_table.specs.Stands.{IsSettledOn, StoreView}
 use Rattle.volume_table.specs.StoreCalls.{Applies}
 use Rattle.volume_table.specs.StoreFunctions.{Chain, none_done, then_done}
 use Rattle.volume_table.specs.Runs.{begun_with}
-use Rattle.rebuild.specs.declared.stepping.TheConstants.{MOST_ROWS}
+use Rattle.layout_map.specs.declared.sizes.TheConstants.{REBUILD_ROWS}
 
 -- A store crashed, and its set is assembled from an image that the crash may leave, with one slot lost at most.
 pub record IsAssembledAgain (store : StoreView) (lost : Option Lost) (array : ArrayView) : Type 0 where
@@ -51,7 +51,7 @@ AllUp store = (slot : ℕ) → slot < slots_of store.array.table → store.array
 -- and each device is up at the return.
 pub record LeavesRebuilding (member : ℕ) (event : Event) (new : StoreView) : Type 0 where
   pub not_given_up : event ≢ OnSet (Fail member)
-  pub whole : (rows : ℕ) → event ≡ OnSet (RebuildStep rows) → rows ≡ MOST_ROWS
+  pub whole : (rows : ℕ) → event ≡ OnSet (RebuildStep rows) → rows ≡ REBUILD_ROWS
   pub all_up : AllUp new
 
 -- and so do all events of a chain
@@ -82,18 +82,18 @@ pub record RebuildsBy (member : ℕ) (events : List Event) (acks : List ℕ) (ol
 abbrev pub RebuildAdvances : Type 0
 RebuildAdvances = (member : ℕ) (events : List Event) (acks : List ℕ) (old new : StoreView)
     → RebuildsBy member events acks old new → steps_in events < steps_to_do old.array.table
-    → IsRebuildingOn member (MOST_ROWS * steps_in events) old.array.table new.array.table
+    → IsRebuildingOn member (REBUILD_ROWS * steps_in events) old.array.table new.array.table
 
 -- A rebuild ends: the last of the steps that were left at the start is answered with `Complete`, and the set is
 -- complete, unless the step is refused because a counter stands at 2^62.
 abbrev pub RebuildEnds : Type 0
 RebuildEnds = (member : ℕ) (events : List Event) (acks : List ℕ) (old mid new : StoreView) (reply : Reply)
     → RebuildsBy member events acks old mid → steps_in events + 1 ≡ steps_to_do old.array.table
-    → Applies (Unit {0}) (OnSet (RebuildStep MOST_ROWS)) mid new reply → AllUp new → reply ≢ Refused Worn
+    → Applies (Unit {0}) (OnSet (RebuildStep REBUILD_ROWS)) mid new reply → AllUp new → reply ≢ Refused Worn
     → (reply ≡ Progressed Complete) × IsComplete new.array.table
 
 -- Each step counts: one that is answered with a position leaves, from there on, one step fewer than there were.
 abbrev pub RebuildCounts : Type 0
 RebuildCounts = (position : ℕ) (old new : StoreView)
-    → Applies (Unit {0}) (OnSet (RebuildStep MOST_ROWS)) old new (Progressed (Position position))
+    → Applies (Unit {0}) (OnSet (RebuildStep REBUILD_ROWS)) old new (Progressed (Position position))
     → steps_to_do old.array.table ≡ steps_left position (row_count old.array.table) + 1

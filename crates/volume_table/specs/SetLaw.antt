@@ -9,7 +9,7 @@ use Rattle.rebuild.specs.Rebuilding.{Complete, Position, steps_left as left_from
 use Rattle.superblock.specs.States.{has_rebuilding}
 use Rattle.volume_table.specs.SetReplies.{SetState, Devices, rebuilt, set_reply, set_after}
 use Rattle.volume_table.specs.StoreCalls.{set_of}
-use Rattle.rebuild.specs.declared.stepping.TheConstants.{MOST_ROWS}
+use Rattle.layout_map.specs.declared.sizes.TheConstants.{REBUILD_ROWS}
 
 -- no device of the set answers a fault
 abbrev pub NoFaults : Devices → SetState → Type 0
@@ -45,7 +45,7 @@ RefusedLeavesSet = (devices : Devices) (command : SetCommand) (set : SetState) (
 -- the set after so many rebuild steps of 64 rows, one after another
 abbrev pub after_steps : Devices → SetState → ℕ → SetState
 after_steps devices set zero = set
-after_steps devices set (suc n) = set_after devices (OnSet (RebuildStep MOST_ROWS)) (after_steps devices set n)
+after_steps devices set (suc n) = set_after devices (OnSet (RebuildStep REBUILD_ROWS)) (after_steps devices set n)
 
 -- how many steps of 64 rows are left to do, from the set's position on
 abbrev pub steps_left : Devices → SetState → ℕ
@@ -54,14 +54,14 @@ steps_left devices set = left_from set.position devices.rows
 -- without a fault each step but the last brings the position 64 rows on and answers it
 abbrev pub RebuildGoesOn : Type 0
 RebuildGoesOn = (devices : Devices) (set : SetState) (n : ℕ) → NoFaults devices set → has_rebuilding set.states ≡ true → n + 1 < steps_left devices set
-    → (after_steps devices set (n + 1) ≡ record { states = set.states; position = set.position + MOST_ROWS * (n + 1) })
-    × (set_reply devices (RebuildStep MOST_ROWS) (after_steps devices set n) ≡ Progressed (Position (set.position + MOST_ROWS * (n + 1))))
+    → (after_steps devices set (n + 1) ≡ record { states = set.states; position = set.position + REBUILD_ROWS * (n + 1) })
+    × (set_reply devices (RebuildStep REBUILD_ROWS) (after_steps devices set n) ≡ Progressed (Position (set.position + REBUILD_ROWS * (n + 1))))
 
 -- the last leaves the member in sync and answers that the rebuild is complete
 abbrev pub RebuildIsCounted : Type 0
 RebuildIsCounted = (devices : Devices) (set : SetState) (n : ℕ) → NoFaults devices set → has_rebuilding set.states ≡ true → n + 1 ≡ steps_left devices set
     → (after_steps devices set (n + 1) ≡ record { states = rebuilt set.states; position = 0 })
-    × (set_reply devices (RebuildStep MOST_ROWS) (after_steps devices set n) ≡ Progressed Complete)
+    × (set_reply devices (RebuildStep REBUILD_ROWS) (after_steps devices set n) ≡ Progressed Complete)
 
 -- one slot at most is not in sync
 abbrev pub IsOneOut : List State → Type 0
@@ -86,7 +86,7 @@ pub record LetsRebuildGoOn (all_rows : ℕ) (set : SetState) (call : Call) : Typ
   pub of_rows : call.devices.rows ≡ all_rows
   pub no_faults : NoFaults call.devices set
   pub none_given_up : (slot : ℕ) → call.event ≡ OnSet (Fail slot) → set_reply call.devices (Fail slot) set ≢ Done
-  pub whole : (rows : ℕ) → call.event ≡ OnSet (RebuildStep rows) → rows ≡ MOST_ROWS
+  pub whole : (rows : ℕ) → call.event ≡ OnSet (RebuildStep rows) → rows ≡ REBUILD_ROWS
 
 -- and so do all of these calls, one after another
 abbrev pub AllLetRebuildGoOn : (all_rows : ℕ) → SetState → List Call → Type 0
@@ -109,14 +109,14 @@ abbrev pub RebuildGoesOnAmongOthers : Type 0
 RebuildGoesOnAmongOthers = (devices : Devices) (calls : List Call) (set : SetState) → NoFaults devices set → IsOneOut set.states
     → has_rebuilding set.states ≡ true
     → AllLetRebuildGoOn devices.rows set calls → steps_among calls < steps_left devices set
-    → (after_calls calls set ≡ record { states = set.states; position = set.position + MOST_ROWS * steps_among calls })
+    → (after_calls calls set ≡ record { states = set.states; position = set.position + REBUILD_ROWS * steps_among calls })
     × (steps_among calls + 1 < steps_left devices set
-    → set_reply devices (RebuildStep MOST_ROWS) (after_calls calls set) ≡ Progressed (Position (set.position + MOST_ROWS * (steps_among calls + 1))))
+    → set_reply devices (RebuildStep REBUILD_ROWS) (after_calls calls set) ≡ Progressed (Position (set.position + REBUILD_ROWS * (steps_among calls + 1))))
 
 -- and the rebuild is complete right after the last step that is left, whatever stood between
 abbrev pub RebuildIsCountedAmongOthers : Type 0
 RebuildIsCountedAmongOthers = (devices : Devices) (calls : List Call) (set : SetState) → NoFaults devices set → IsOneOut set.states
     → has_rebuilding set.states ≡ true
     → AllLetRebuildGoOn devices.rows set calls → steps_among calls + 1 ≡ steps_left devices set
-    → (set_after devices (OnSet (RebuildStep MOST_ROWS)) (after_calls calls set) ≡ record { states = rebuilt set.states; position = 0 })
-    × (set_reply devices (RebuildStep MOST_ROWS) (after_calls calls set) ≡ Progressed Complete)
+    → (set_after devices (OnSet (RebuildStep REBUILD_ROWS)) (after_calls calls set) ≡ record { states = rebuilt set.states; position = 0 })
+    × (set_reply devices (RebuildStep REBUILD_ROWS) (after_calls calls set) ≡ Progressed Complete)

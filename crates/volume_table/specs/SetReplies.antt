@@ -3,6 +3,7 @@ use Rattle.std.specs.Prelude.{◌≡◌, Option, Some, None, ℕ, ◌+◌, Bool,
 use Rattle.std.specs.Prelude.{slice_index_or, slice_set}
 use Rattle.sector_model.specs.declared.refusal.Refusal.{Refusal}
 use Rattle.sector_model.specs.declared.refusal.Refusal.TheVariants.{WouldLose, NotMissing, NotUsable, NothingToRebuild, Incomplete}
+use Rattle.layout_map.specs.declared.sizes.TheConstants.{REBUILD_ROWS}
 use Rattle.superblock.specs.declared.state.State.{State}
 use Rattle.superblock.specs.declared.state.State.TheVariants.{Missing, InSync, Rebuilding}
 use Rattle.superblock.specs.States.{has_rebuilding, is_complete, is_missing, is_rebuilding, position_in}
@@ -60,9 +61,9 @@ abbrev pub changed_set : ℕ → SetCommand → SetState → SetState
 changed_set all_rows (Fail slot) set = record { states = slice_set set.states slot Missing; position = set.position }
 changed_set all_rows (Replace slot) set = joined slot set
 changed_set all_rows (RebuildStep rows) set =
-    if stepped all_rows rows set.position == all_rows
+    if stepped REBUILD_ROWS all_rows rows set.position == all_rows
     then (record { states = rebuilt set.states; position = 0 })
-    else (record { states = set.states; position = stepped all_rows rows set.position })
+    else (record { states = set.states; position = stepped REBUILD_ROWS all_rows rows set.position })
 changed_set all_rows Scrub set = set
 
 -- the reply to a command on the set that is not refused
@@ -70,9 +71,9 @@ abbrev pub set_answer : Devices → SetCommand → SetState → Reply
 set_answer devices (Fail slot) set = Done
 set_answer devices (Replace slot) set = Done
 set_answer devices (RebuildStep rows) set =
-    if stepped devices.rows rows set.position == devices.rows
+    if stepped REBUILD_ROWS devices.rows rows set.position == devices.rows
     then Progressed Complete
-    else Progressed (Position (stepped devices.rows rows set.position))
+    else Progressed (Position (stepped REBUILD_ROWS devices.rows rows set.position))
 set_answer devices Scrub set = Scrubbed devices.rows (length devices.unsound) (slice_get devices.unsound 0)
 
 -- what a command on the set is refused with, in this order

@@ -21,7 +21,7 @@ use Rattle.volume_table.specs.Shows.{Shows}
 
 -- how many extents a set has
 abbrev pub extents_in : Geometry → ℕ
-extents_in geometry = extents_of geometry.members geometry.chunk geometry.stripes
+extents_in geometry = extents_of geometry.format geometry.members geometry.chunk geometry.stripes
 
 -- a logical list shows one of these maps of volumes
 pub record ShowsOneOf (geometry : Geometry) (maps : List VolumeMap) (logical : List Bytes) : Type 0 where

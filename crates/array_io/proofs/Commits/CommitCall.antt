@@ -2,7 +2,6 @@
 use Rattle.std.proofs.Common.{◌≡◌, ◌⊎◌, inl, inr, ℕ, ◌+◌, ◌<◌, ◌≤◌, true, false, List, [], ◌∷◌, Contains, length, Option, refl, sym, ◌∙◌, ap, subst, subst₂}
 use Rattle.std.proofs.Common.{arith}
 use Rattle.std.specs.Prelude.{Ok, Err, slice_index_or}
-use Rattle.std.proofs.lemmas.Bool.{cond_below}
 use Rattle.std.proofs.lemmas.Option.{none-some}
 use Rattle.std.proofs.lemmas.List.Elements.{Contains-append_left}
 use Rattle.sector_model.specs.declared.calls.TheConstants.{GREATEST_COUNT}
@@ -16,8 +15,9 @@ use Rattle.sector_model.proofs.Readable.{readable_left}
 use Rattle.sector_model.proofs.Panels.{later_same}
 use Rattle.sector_model.proofs.Steps.{throughout_more, throughout_on}
 use Rattle.layout_map.specs.declared.geometry.Geometry.{Geometry}
-use Rattle.layout_map.specs.declared.sizes.TheConstants.{FIRST_ROW, JOURNAL_SECTORS, MOST_MEMBERS}
+use Rattle.layout_map.specs.declared.sizes.TheConstants.{FIRST_ROW, MOST_MEMBERS}
 use Rattle.layout_map.proofs.Places.{place_member_below}
+use Rattle.superblock.proofs.LeastSectors.{member_least}
 use Rattle.superblock.specs.declared.table.Table.{Table}
 use Rattle.superblock.specs.Tables.{state_at}
 use Rattle.superblock.specs.Cases.{Lost}
@@ -25,7 +25,7 @@ use Rattle.stripe_journal.specs.declared.entry.Entry.{Entry}
 use Rattle.stripe_journal.specs.declared.seal.Seal.{Seal}
 use Rattle.stripe_journal.specs.declared.form.Form.{Form}
 use Rattle.stripe_journal.specs.Entries.{body_of, form_of, numbers_of}
-use Rattle.stripe_journal.specs.Forms.{holds, rank}
+use Rattle.stripe_journal.specs.Forms.{holds, rank, rows_in}
 use Rattle.stripe_journal.specs.LastSealed.{RowsHold}
 use Rattle.stripe_journal.specs.Seals.{row_at}
 use Rattle.stripe_journal.proofs.HeldEntries.{length_of_seal}
@@ -191,7 +191,7 @@ module _ (spellings : Spellings) (honest : Type 0) (number : ℕ) (sectors : Giv
   module _ (still : Type 0) (more : honest → still) (may : MayCommit table sectors) (seal : Seal) (entry : Entry)
       (steps : KeepsOn honest table table1 panel panel1 h h1 (Ok tt))
       (formed : (number : ℕ) (from : KeepsFrom) → honest → Between panel.devices number from table h → FormsListed table.geometry sectors from.logical entry)
-      (its_id : seal.id ≡ table1.id) (its_number : seal.number ≡ number + 1) (its_rows : seal.rows.items ≡ numbers_of entry)
+      (its_id : seal.id ≡ table1.id) (its_number : seal.number ≡ number + 1) (its_rows : rows_in seal.form ≡ numbers_of entry)
       (its_form : seal.form ≡ form_of entry) where
     abbrev members : ℕ
     members = table1.geometry.members
@@ -240,7 +240,7 @@ module _ (spellings : Spellings) (honest : Type 0) (number : ℕ) (sectors : Giv
       whole_values : (row member : ℕ) → row < row_count table1 → member < members → length (value base row member) ≡ 512
       whole_values row member below within = length-value base row member (λ sector is. absurd (none-some sector is)) (λ none trusted.
           let there = ((trusts_tells (state_at table1.states member) row table1.position).0 trusted).there in
-          let least = cond_below member members (FIRST_ROW + row_count table1) JOURNAL_SECTORS within in
+          let least = member_least table1.geometry member within in
           let live = mid.from.there member (omega (arith, within)) there in
           whole_left h1 (readable h1) leaves_mid (readable_left h1) member (FIRST_ROW + row) (omega (arith, below, least, live.long_enough)))
 
@@ -276,7 +276,7 @@ module _ (spellings : Spellings) (honest : Type 0) (number : ℕ) (sectors : Giv
         };
       }
         where
-          in_entry : (i : ℕ) → i < length seal.rows.items → i < length (numbers_of entry)
+          in_entry : (i : ℕ) → i < length (rows_in seal.form) → i < length (numbers_of entry)
           in_entry i = subst (λ (rows : List ℕ). i < length rows) its_rows
 
       coming : IsComing (Formed (written V sectors)) seal body (λ k. Awaited) (Putting lost V) table1 h1

@@ -1,21 +1,21 @@
 -- A commit begins from the rows that reads give, where the array may be written.
 use Rattle.std.proofs.Common.{◌≡◌, ℕ, ◌+◌, ◌%◌, ◌<◌, ◌≤◌, true, false, List, [], ◌∷◌, length, Option, Some, refl, sym, ◌∙◌, ap, subst, arith}
 use Rattle.std.specs.Prelude.{slice_index_or}
-use Rattle.std.proofs.lemmas.Bool.{cond_below}
 use Rattle.sector_model.specs.Bank.{Panel}
 use Rattle.sector_model.specs.History.{Bytes, History, disk_of, sector_of, seen}
 use Rattle.sector_model.specs.Readable.{readable}
 use Rattle.sector_model.proofs.Readable.{readable_left}
 use Rattle.layout_map.specs.declared.geometry.Geometry.{Geometry}
 use Rattle.layout_map.specs.Placement.{rows_of}
-use Rattle.layout_map.specs.declared.sizes.TheConstants.{FIRST_ROW, HALVES, JOURNAL_SECTORS}
+use Rattle.layout_map.specs.declared.sizes.TheConstants.{FIRST_ROW, HALVES}
+use Rattle.superblock.proofs.LeastSectors.{member_least}
 use Rattle.superblock.specs.declared.table.Table.{Table}
 use Rattle.superblock.specs.Tables.{state_at}
 use Rattle.superblock.specs.Cases.{Lost}
 use Rattle.superblock.specs.Counted.{Content}
 use Rattle.superblock.specs.NextTables.{IsNotOlder}
 use Rattle.stripe_journal.specs.declared.seal.Seal.{Seal}
-use Rattle.stripe_journal.specs.Forms.{holds}
+use Rattle.stripe_journal.specs.Forms.{holds, rows_in}
 use Rattle.stripe_journal.specs.LastSealed.{Belongs}
 use Rattle.stripe_journal.specs.Seals.{row_at}
 use Rattle.degraded.specs.RowValue.{logical_list, value}
@@ -45,12 +45,12 @@ commits_from devices base lost V sectors = record { devices = devices; base = ba
 -- Its entry is formed from what reads give, has the next number, and is one of the set.
 pub record IsFormedNext (number : ℕ) (table : Table) (h : History) (sectors : List (ℕ × Bytes)) (seal : Seal) (values : List (List Bytes))
     (body : List Bytes) : Type 0 where
-  pub formed : IsFormed table.geometry (rows_by table (readable h)) sectors seal.rows.items values
+  pub formed : IsFormed table.geometry (rows_by table (readable h)) sectors (rows_in seal.form) values
   pub long : IsBodyLong table.geometry.members seal body
-  pub body_is : (i member : ℕ) → i < length seal.rows.items → member < table.geometry.members → holds table.geometry.members seal.form i member ≡ true
+  pub body_is : (i member : ℕ) → i < length (rows_in seal.form) → member < table.geometry.members → holds table.geometry.members seal.form i member ≡ true
       → in_body table.geometry.members seal body i member ≡ slice_index_or (slice_index_or values i []) member []
-  pub kept : (i member : ℕ) → i < length seal.rows.items → member < table.geometry.members → holds table.geometry.members seal.form i member ≡ false
-      → slice_index_or (slice_index_or values i []) member [] ≡ value (rows_by table (readable h)) (row_at seal.rows.items i) member
+  pub kept : (i member : ℕ) → i < length (rows_in seal.form) → member < table.geometry.members → holds table.geometry.members seal.form i member ≡ false
+      → slice_index_or (slice_index_or values i []) member [] ≡ value (rows_by table (readable h)) (row_at (rows_in seal.form) i) member
   pub next : seal.number ≡ number + 1
   pub belongs : Belongs table.id table.geometry (seal.number % HALVES) seal
 
@@ -105,7 +105,7 @@ module _ (spellings : Spellings) (panel : Panel) (devices number : ℕ) (base ta
           (ap (λ (c : Content). sector_of (disk_of c) (FIRST_ROW + row)) (stands_there member (counts row member within trusted)));
       whole_sectors = λ row member below within trusted.
           let counted = counts row member within trusted in
-          let least = cond_below member table.geometry.members (FIRST_ROW + row_count table) JOURNAL_SECTORS within in
+          let least = member_least table.geometry member within in
           let live = is.from.there member counted.of_set counted.there in
           whole_left h (readable h) leaves (readable_left h) member (FIRST_ROW + row) (omega (arith, below, least, live.long_enough));
     }

@@ -13,7 +13,7 @@ use Rattle.superblock.specs.Counted.{Content, IsInFull}
 use Rattle.superblock.specs.NextTables.{slots_of}
 use Rattle.stripe_journal.specs.declared.seal.Seal.{Seal}
 use Rattle.stripe_journal.specs.Body.{place_by_seal, place_in}
-use Rattle.stripe_journal.specs.Forms.{holds, rank}
+use Rattle.stripe_journal.specs.Forms.{holds, rank, rows_in}
 use Rattle.stripe_journal.specs.Seals.{row_at}
 use Rattle.stripe_journal.specs.Entries.{body_start}
 use Rattle.stripe_journal.specs.LastEntry.{Entry, IsGreatest, IsLastEntry, IsLastSealed, number_of, sector_in, sector_of_last}
@@ -45,12 +45,12 @@ use Rattle.array_io.proofs.Images.SayingTheSame.{HaveLiveAlike, same_greatest, s
 -- journal has the entry before, or this one.
 pub record IsCommitted (table : Table) (base : Rows) (reads : Slots) (target : ℕ) (sectors : List (ℕ × Bytes)) (seal : Seal) (values : List (List Bytes))
     (body : List Bytes) : Type 0 where
-  pub formed : IsFormed table.geometry base sectors seal.rows.items values
+  pub formed : IsFormed table.geometry base sectors (rows_in seal.form) values
   pub long : IsBodyLong table.geometry.members seal body
-  pub body_is : (i member : ℕ) → i < length seal.rows.items → member < table.geometry.members → holds table.geometry.members seal.form i member ≡ true
+  pub body_is : (i member : ℕ) → i < length (rows_in seal.form) → member < table.geometry.members → holds table.geometry.members seal.form i member ≡ true
       → in_body table.geometry.members seal body i member ≡ slice_index_or (slice_index_or values i []) member []
-  pub kept : (i member : ℕ) → i < length seal.rows.items → member < table.geometry.members → holds table.geometry.members seal.form i member ≡ false
-      → slice_index_or (slice_index_or values i []) member [] ≡ value base (row_at seal.rows.items i) member
+  pub kept : (i member : ℕ) → i < length (rows_in seal.form) → member < table.geometry.members → holds table.geometry.members seal.form i member ≡ false
+      → slice_index_or (slice_index_or values i []) member [] ≡ value base (row_at (rows_in seal.form) i) member
   pub width : base.members ≡ table.geometry.members
   pub bare : (row member : ℕ) → base.entry row member ≡ None
   pub sound : AreSound base (row_count table)
@@ -146,19 +146,19 @@ module _ (devices : ℕ) (table : Table) (puts : Contents) (reads : Slots) (X : 
   -- its sectors are the formed ones
   in_rows : (journal : ℕ) → HasIt journal → (row member : ℕ) → member < table.geometry.members
       → sector_in table.geometry.members (image journal) seal row member ≡ formed_sector table.geometry.members seal values row member
-  in_rows journal has row member below = by_place (place_in seal.rows.items row) refl
+  in_rows journal has row member below = by_place (place_in (rows_in seal.form) row) refl
     where
-      formed_at : (i : ℕ) (b : Bool) → place_in seal.rows.items row ≡ Some i → holds table.geometry.members seal.form i member ≡ b
+      formed_at : (i : ℕ) (b : Bool) → place_in (rows_in seal.form) row ≡ Some i → holds table.geometry.members seal.form i member ≡ b
           → formed_sector table.geometry.members seal values row member ≡ (if b then Some (slice_index_or (slice_index_or values i []) member []) else None)
       formed_at i b there is =
           ap (option_and_then (λ n. if holds table.geometry.members seal.form n member then Some (slice_index_or (slice_index_or values n []) member []) else
           None)) there
           ∙ ap (λ (h : Bool). if h then Some (slice_index_or (slice_index_or values i []) member []) else None) is
 
-      by_held : (i : ℕ) (b : Bool) → place_in seal.rows.items row ≡ Some i → holds table.geometry.members seal.form i member ≡ b
+      by_held : (i : ℕ) (b : Bool) → place_in (rows_in seal.form) row ≡ Some i → holds table.geometry.members seal.form i member ≡ b
           → sector_in table.geometry.members (image journal) seal row member ≡ formed_sector table.geometry.members seal values row member
       by_held i true there is =
-          let within = (row_of_place seal.rows.items row i there).0 in
+          let within = (row_of_place (rows_in seal.form) row i there).0 in
           sector_held table.geometry.members (image journal) seal row i member there is
           ∙ ap Some (has.has_body (rank table.geometry.members seal.form i member)
           (in_the_body table.geometry.members seal body i member committed.long within below is)
@@ -166,7 +166,7 @@ module _ (devices : ℕ) (table : Table) (puts : Contents) (reads : Slots) (X : 
           ∙ sym (formed_at i true there is)
       by_held i false there is = sector_lacking table.geometry.members (image journal) seal row i member there is ∙ sym (formed_at i false there is)
 
-      by_place : (place : Option ℕ) → place_in seal.rows.items row ≡ place
+      by_place : (place : Option ℕ) → place_in (rows_in seal.form) row ≡ place
           → sector_in table.geometry.members (image journal) seal row member ≡ formed_sector table.geometry.members seal values row member
       by_place None none = sector_of_no_row table.geometry.members (image journal) seal row member none
           ∙ sym (ap (option_and_then (λ n. if holds table.geometry.members seal.form n member then Some
@@ -185,9 +185,9 @@ module _ (devices : ℕ) (table : Table) (puts : Contents) (reads : Slots) (X : 
   -- where it has no sector, the seal has no place
   not_placed : (row member : ℕ) → member < table.geometry.members → formed_sector table.geometry.members seal values row member ≡ None
       → place_by_seal table.geometry.members seal row member ≡ None
-  not_placed row member below none = by_place (place_in seal.rows.items row) refl
+  not_placed row member below none = by_place (place_in (rows_in seal.form) row) refl
     where
-      by_held : (i : ℕ) (b : Bool) → place_in seal.rows.items row ≡ Some i → holds table.geometry.members seal.form i member ≡ b
+      by_held : (i : ℕ) (b : Bool) → place_in (rows_in seal.form) row ≡ Some i → holds table.geometry.members seal.form i member ≡ b
           → place_by_seal table.geometry.members seal row member ≡ None
       by_held i true there is = absurd (none-some (slice_index_or (slice_index_or values i []) member []) (sym none
           ∙ ap (option_and_then (λ n. if holds table.geometry.members seal.form n member then Some (slice_index_or (slice_index_or values n []) member []) else
@@ -195,7 +195,7 @@ module _ (devices : ℕ) (table : Table) (puts : Contents) (reads : Slots) (X : 
           ∙ ap (λ (h : Bool). if h then Some (slice_index_or (slice_index_or values i []) member []) else None) is))
       by_held i false there is = place_lacking table.geometry.members seal row i member there is
 
-      by_place : (place : Option ℕ) → place_in seal.rows.items row ≡ place → place_by_seal table.geometry.members seal row member ≡ None
+      by_place : (place : Option ℕ) → place_in (rows_in seal.form) row ≡ place → place_by_seal table.geometry.members seal row member ≡ None
       by_place None no_row = place_of_no_row table.geometry.members seal row member no_row
       by_place (Some i) there = by_held i (holds table.geometry.members seal.form i member) there refl
 

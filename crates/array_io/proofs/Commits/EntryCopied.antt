@@ -11,7 +11,7 @@ use Rattle.superblock.specs.NextTables.{slots_of}
 use Rattle.stripe_journal.specs.declared.seal.Seal.{Seal}
 use Rattle.stripe_journal.specs.Body.{place_by_seal}
 use Rattle.stripe_journal.specs.Entries.{body_start}
-use Rattle.stripe_journal.specs.Forms.{holds, rank}
+use Rattle.stripe_journal.specs.Forms.{holds, rank, rows_in}
 use Rattle.stripe_journal.specs.LastEntry.{Entry, IsGreatest, IsLastEntry, IsLastSealed, number_of, sector_in, sector_of_last}
 use Rattle.stripe_journal.specs.OneEntry.{ACrashLeavesEither}
 use Rattle.stripe_journal.proofs.Bodies.{is_placed}
@@ -49,11 +49,12 @@ two_journals members journal first second least most least' most' least'' most''
 ]
 
 -- a sector that a seal's entry holds is one of its body
-pub in_the_body : (members : ℕ) (seal : Seal) (body : List Bytes) (i member : ℕ) → IsBodyLong members seal body → i < length seal.rows.items → member < members
+pub in_the_body : (members : ℕ) (seal : Seal) (body : List Bytes) (i member : ℕ) → IsBodyLong members seal body → i < length (rows_in seal.form)
+    → member < members
     → holds members seal.form i member ≡ true
     → rank members seal.form i member < length body
 in_the_body members seal body i member long within below held =
-    omega (arith, long, rank_before members seal.form i member (length seal.rows.items) held below within)
+    omega (arith, long, rank_before members seal.form i member (length (rows_in seal.form)) held below within)
 
 -- where a journal has the sectors of its body
 record HasPart (seal : Seal) (body : List Bytes) (place : ℕ) : Type 0 where

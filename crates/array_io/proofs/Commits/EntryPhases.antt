@@ -11,7 +11,7 @@ use Rattle.superblock.specs.Counted.{Content, IsLive}
 use Rattle.superblock.specs.NextTables.{slots_of}
 use Rattle.stripe_journal.specs.declared.seal.Seal.{Seal}
 use Rattle.stripe_journal.specs.Body.{place_in}
-use Rattle.stripe_journal.specs.Forms.{holds}
+use Rattle.stripe_journal.specs.Forms.{holds, rows_in}
 use Rattle.stripe_journal.specs.LastEntry.{Entry, IsGreatest, IsLastEntry, sector_of_last}
 use Rattle.stripe_journal.specs.OneEntry.{IsInHalf}
 use Rattle.stripe_journal.specs.Seals.{row_at}
@@ -29,7 +29,7 @@ use Rattle.array_io.proofs.Images.SayingTheSame.{HaveLiveAlike, SayTheSame, says
 -- a sector on a member, in a row of which the entry of a seal holds the member's sector
 abbrev pub IsRowSector : (members : ℕ) → Seal → (device at : ℕ) → Type 0
 IsRowSector members seal device at = (device < members)
-    × ((i : ℕ) × (i < length seal.rows.items) × (holds members seal.form i device ≡ true) × (at ≡ FIRST_ROW + row_at seal.rows.items i))
+    × ((i : ℕ) × (i < length (rows_in seal.form)) × (holds members seal.form i device ≡ true) × (at ≡ FIRST_ROW + row_at (rows_in seal.form) i))
 
 -- a live journal is a slot that the table counts on
 pub journal_counts : (devices : ℕ) (table : Table) (image : Slots) (journal : ℕ) → IsLiveJournal devices table image journal → CountsOn table journal
@@ -146,17 +146,17 @@ module _ (devices : ℕ) (table : Table) (puts : Contents) (reads : Slots) (X : 
       -- the last entry has each of these sectors
       not_in_entry : (last : Option Entry) → IsLastEntry table.id table.geometry (IsLiveJournal devices table before) before last → (row member : ℕ)
           → sector_of_last table.geometry.members before last row member ≡ None
-          → ¬ ((i : ℕ) × (i < length seal.rows.items) × (holds table.geometry.members seal.form i member ≡ true)
-          × (FIRST_ROW + row ≡ FIRST_ROW + row_at seal.rows.items i))
+          → ¬ ((i : ℕ) × (i < length (rows_in seal.form)) × (holds table.geometry.members seal.form i member ≡ true)
+          × (FIRST_ROW + row ≡ FIRST_ROW + row_at (rows_in seal.form) i))
       not_in_entry None none row member is_none found =
           let its = its_seal some_journal.0 some_journal.1 in
           absurd (none some_journal.0 its.place seal some_journal.1 its.counted)
       not_in_entry (Some entry) latest row member is_none (i, within, held, is) =
           let one : entry.seal ≡ seal = greatest_is_one table.id table.geometry (before entry.journal) entry.seal seal table.id_long latest.sealed
           (its_seal entry.journal latest.on_live) in
-          let place : place_in entry.seal.rows.items row ≡ Some i =
-          ap (λ (s : Seal). place_in s.rows.items row) one ∙ ap (λ (r : ℕ). place_in seal.rows.items r) (same_row row (row_at seal.rows.items i) is)
-          ∙ place_of_row seal.rows.items i seal.allowed.rising within in
+          let place : place_in (rows_in entry.seal.form) row ≡ Some i =
+          ap (λ (s : Seal). place_in (rows_in s.form) row) one ∙ ap (λ (r : ℕ). place_in (rows_in seal.form) r) (same_row row (row_at (rows_in seal.form) i) is)
+          ∙ place_of_row (rows_in seal.form) i seal.allowed.rising within in
           let its_held : holds table.geometry.members entry.seal.form i member ≡ true = ap (λ (s : Seal). holds table.geometry.members s.form i member) one
           ∙ held in
           absurd (none-some _ (sym is_none ∙ sector_held table.geometry.members (before entry.journal) entry.seal row i member place its_held))

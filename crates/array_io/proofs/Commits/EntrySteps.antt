@@ -1,15 +1,15 @@
 -- The steps by which an entry comes onto one journal: its body, and then its seal; each from a state in which nothing is pending, and to one.
 use Rattle.std.proofs.Common.{◌≡◌, ◌≢◌, inr, ℕ, ◌+◌, ◌<◌, ◌≤◌, Bool, true, false, List, [], ◌∷◌, ◌++◌, length, Option, Some, refl, ◌∙◌, ap, subst, arith}
-use Rattle.std.specs.Prelude.{nat_lt, slice_index_or, if◌then◌else◌}
-use Rattle.std.proofs.lemmas.Bool.Decides.{nat_tests}
+use Rattle.std.specs.Prelude.{slice_index_or}
 use Rattle.sector_model.specs.Calls.{Flush, Made, Write, writes_from}
 use Rattle.sector_model.specs.History.{Bytes, History, MayHold, is_down, seen, sector_of}
 use Rattle.sector_model.specs.Moments.{Contents, Throughout}
 use Rattle.sector_model.specs.Readable.{readable}
 use Rattle.sector_model.proofs.Readable.{readable_up}
 use Rattle.sector_model.proofs.Steps.{throughout_last, up_seen}
-use Rattle.layout_map.specs.Placement.{rows_of}
-use Rattle.layout_map.specs.declared.sizes.TheConstants.{BODY_SECTORS, FIRST_ROW, JOURNAL_SECTORS}
+use Rattle.layout_map.specs.Formats.{journal_sectors}
+use Rattle.layout_map.specs.declared.sizes.TheConstants.{BODY_SECTORS}
+use Rattle.superblock.proofs.LeastSectors.{journal_least}
 use Rattle.superblock.specs.declared.table.Table.{Table}
 use Rattle.superblock.specs.Cases.{Lost}
 use Rattle.superblock.specs.Counted.{Content, IsLive}
@@ -67,22 +67,14 @@ read_is_seen spellings devices base table lost X h from slot counted =
 
 -- a journal has room for its bodies
 journal_long : (table : Table) (journal : ℕ) (disk : List Bytes) (devices : ℕ) → table.geometry.members ≤ journal → IsLive devices table journal (Some disk)
-    → JOURNAL_SECTORS ≤ length disk
-journal_long table journal disk devices beyond live = by_test (nat_lt journal table.geometry.members) refl
-  where
-    by_test : (b : Bool) → nat_lt journal table.geometry.members ≡ b → JOURNAL_SECTORS ≤ length disk
-    by_test true is = absurd (below_not is)
-      where
-        below_not : ¬ (nat_lt journal table.geometry.members ≡ true)
-        below_not below = grind (arith, nat_tests, below, beyond)
-    by_test false is = subst (λ (b : Bool). (if b then FIRST_ROW + rows_of table.geometry.chunk table.geometry.stripes else JOURNAL_SECTORS) ≤ length disk) is
-        live.long_enough
+    → journal_sectors table.geometry.format ≤ length disk
+journal_long table journal disk devices beyond live = omega (arith, journal_least table.geometry journal beyond, live.long_enough)
 
 module _ (law : ACrashLeavesEither) (spellings : Spellings) (devices : ℕ) (base table : Table) (lost : Option Lost) (X : List (List Bytes)) (journal : ℕ)
     (seal : Seal) (body : List Bytes)
     (beyond : table.geometry.members ≤ journal) (counted : CountsOn table journal) (few : length body ≤ BODY_SECTORS) (answered : Bool) (old new : History)
     (from : WritesFrom devices base table lost X old) where
-  room : is_down old journal ≡ false → JOURNAL_SECTORS ≤ length (seen old journal)
+  room : is_down old journal ≡ false → journal_sectors table.geometry.format ≤ length (seen old journal)
   room up = journal_long table journal (seen old journal) devices beyond
       (subst (IsLive devices table journal) (read_is_seen spellings devices base table lost X old from journal counted)
       (from.there journal counted.of_set counted.there))
@@ -124,7 +116,7 @@ module _ (law : ACrashLeavesEither) (spellings : Spellings) (devices : ℕ) (bas
   pub body_failed : MayPut table old journal seal → Made (writes_from journal (body_start seal.number) body ++ Flush journal ∷ []) answered old new
       → is_down new journal ≡ true → HasFailedOnce devices base table lost X journal new
   body_failed next made failed =
-      let put = body_put journal (seen old journal) seal body old new few room (writing_before journal seal body old single) made in
+      let put = body_put journal (seen old journal) seal body table.geometry.format old new few room (writing_before journal seal body old single) made in
       (failed_in_step spellings devices base table lost X X PutsBody journal old new from (body_keeps next) (body_writes made) (throughout_last new put.0).1
       counted failed).0
 
@@ -142,7 +134,7 @@ module _ (law : ACrashLeavesEither) (spellings : Spellings) (devices : ℕ) (bas
 
       put : Throughout (λ h. IsOn journal (seen old journal) seal body Writing h × StaysOff (λ d. d ≡ journal) old h) old new
           × (answered ≡ true → IsPutOn journal (seen old journal) seal body Staged new)
-      put = body_put journal (seen old journal) seal body old new few room (writing_before journal seal body old single) made
+      put = body_put journal (seen old journal) seal body table.geometry.format old new few room (writing_before journal seal body old single) made
 
       down : answered ≡ true → (d : ℕ) → is_down new d ≡ is_down old d
       down all = made_down (subst (λ (b : Bool). Made (writes_from journal (body_start seal.number) body ++ Flush journal ∷ []) b old new) all made)
@@ -204,7 +196,7 @@ module _ (law : ACrashLeavesEither) (spellings : Spellings) (devices : ℕ) (bas
       → Made (Write journal (seal_place seal.number) (seal_sector seal) ∷ Flush journal ∷ []) answered old new → is_down new journal ≡ true
       → HasFailedOnce devices base table lost X' journal new
   seal_failed X' has keeps made failed =
-      let put = seal_put journal (seen old journal) seal body old new room (staged_on has) made in
+      let put = seal_put journal (seen old journal) seal body table.geometry.format old new room (staged_on has) made in
       (failed_in_step spellings devices base table lost X X' PutsSeal journal old new from keeps (seal_writes made) (throughout_last new put.0).1 counted
       failed).0
 
@@ -223,7 +215,7 @@ module _ (law : ACrashLeavesEither) (spellings : Spellings) (devices : ℕ) (bas
 
       put : Throughout (λ h. IsOn journal (seen old journal) seal body Sealing h × StaysOff (λ d. d ≡ journal) old h) old new
           × (answered ≡ true → IsPutOn journal (seen old journal) seal body Sealed new)
-      put = seal_put journal (seen old journal) seal body old new room (staged_on has) made
+      put = seal_put journal (seen old journal) seal body table.geometry.format old new room (staged_on has) made
 
       down : answered ≡ true → (d : ℕ) → is_down new d ≡ is_down old d
       down all = made_down (subst (λ (b : Bool). Made (Write journal (seal_place seal.number) (seal_sector seal) ∷ Flush journal ∷ []) b old new) all made)

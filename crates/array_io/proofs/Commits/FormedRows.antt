@@ -11,7 +11,7 @@ use Rattle.layout_map.proofs.Places.{place_member_below, place_row_below}
 use Rattle.parity.specs.Xor.{xor_of_all, zero_sector, IsSoundRow}
 use Rattle.stripe_journal.specs.declared.seal.Seal.{Seal}
 use Rattle.stripe_journal.specs.Body.{place_in}
-use Rattle.stripe_journal.specs.Forms.{holds}
+use Rattle.stripe_journal.specs.Forms.{holds, rows_in}
 use Rattle.stripe_journal.specs.Seals.{row_at}
 use Rattle.stripe_journal.proofs.Places.{no_row_without_place, row_of_place}
 use Rattle.degraded.specs.RowValue.{Rows, others, direct_of, direct, value, row_values, AreSound, logical_value, logical_list}
@@ -114,7 +114,7 @@ value_counted_less row members after base less sound member within = by_trust (a
 -- the sector that an entry of a seal with these new rows has for a member in a row, if it holds one
 abbrev pub formed_sector : (members : ℕ) → Seal → (values : List (List Bytes)) → (row member : ℕ) → Option Bytes
 formed_sector members seal values row member = option_and_then
-    (λ i. if holds members seal.form i member then Some (slice_index_or (slice_index_or values i []) member []) else None) (place_in seal.rows.items row)
+    (λ i. if holds members seal.form i member then Some (slice_index_or (slice_index_or values i []) member []) else None) (place_in (rows_in seal.form) row)
 
 -- The second way to the rows is the first, with an entry of a seal: the entry has what it holds of the new rows, whose other sectors are as they
 -- were; and the second does without one member's own sector of a row at most.
@@ -124,8 +124,8 @@ pub record TakesEntry (geometry : Geometry) (base after : Rows) (seal : Seal) (v
   pub bare : (row member : ℕ) → base.entry row member ≡ None
   pub entry : (row member : ℕ) → row < rows_of geometry.chunk geometry.stripes → member < geometry.members
       → after.entry row member ≡ formed_sector geometry.members seal values row member
-  pub kept : (i member : ℕ) → i < length seal.rows.items → member < geometry.members → holds geometry.members seal.form i member ≡ false
-      → slice_index_or (slice_index_or values i []) member [] ≡ value base (row_at seal.rows.items i) member
+  pub kept : (i member : ℕ) → i < length (rows_in seal.form) → member < geometry.members → holds geometry.members seal.form i member ≡ false
+      → slice_index_or (slice_index_or values i []) member [] ≡ value base (row_at (rows_in seal.form) i) member
   pub trust : (row member : ℕ) → row < rows_of geometry.chunk geometry.stripes → member < geometry.members → after.trusted row member ≡ true
       → base.trusted row member ≡ true
   pub own : (row member : ℕ) → row < rows_of geometry.chunk geometry.stripes → member < geometry.members → after.entry row member ≡ None
@@ -137,13 +137,13 @@ pub record TakesEntry (geometry : Geometry) (base after : Rows) (seal : Seal) (v
       → after.trusted row first ≡ false → after.trusted row second ≡ false → first ≡ second
 
 module _ (geometry : Geometry) (base after : Rows) (sectors : List (ℕ × Bytes)) (seal : Seal) (values : List (List Bytes))
-    (formed : IsFormed geometry base sectors seal.rows.items values) (takes : TakesEntry geometry base after seal values)
-    (row i : ℕ) (below : row < rows_of geometry.chunk geometry.stripes) (found : place_in seal.rows.items row ≡ Some i) where
+    (formed : IsFormed geometry base sectors (rows_in seal.form) values) (takes : TakesEntry geometry base after seal values)
+    (row i : ℕ) (below : row < rows_of geometry.chunk geometry.stripes) (found : place_in (rows_in seal.form) row ≡ Some i) where
   abbrev new : ℕ → Bytes
   new member = slice_index_or (slice_index_or values i []) member []
 
-  inside : i < length seal.rows.items
-  inside = (row_of_place seal.rows.items row i found).0
+  inside : i < length (rows_in seal.form)
+  inside = (row_of_place (rows_in seal.form) row i found).0
 
   -- the entry has a sector that it holds, and no other
   entry_held : (member : ℕ) → member < geometry.members → (b : Bool) → holds geometry.members seal.form i member ≡ b
@@ -156,7 +156,7 @@ module _ (geometry : Geometry) (base after : Rows) (sectors : List (ℕ × Bytes
   -- what it doesn't hold is as it was
   as_it_was : (member : ℕ) → member < geometry.members → holds geometry.members seal.form i member ≡ false → new member ≡ value base row member
   as_it_was member within lacking = takes.kept i member inside within lacking
-      ∙ ap (λ (r : ℕ). value base r member) (row_of_place seal.rows.items row i found).1
+      ∙ ap (λ (r : ℕ). value base r member) (row_of_place (rows_in seal.form) row i found).1
 
   -- a member that it holds, or that is trusted, is known, with the new sector
   is_known : (member : ℕ) → member < geometry.members → (holds geometry.members seal.form i member ≡ false → after.trusted row member ≡ true)
@@ -235,7 +235,7 @@ module _ (geometry : Geometry) (base after : Rows) (sectors : List (ℕ × Bytes
 -- in another row it stays
 pub value_beside : (geometry : Geometry) (base after : Rows) (seal : Seal) (values : List (List Bytes)) → TakesEntry geometry base after seal values
     → AreSound base (rows_of geometry.chunk geometry.stripes) → (row member : ℕ) → row < rows_of geometry.chunk geometry.stripes → member < geometry.members
-    → place_in seal.rows.items row ≡ None → value after row member ≡ value base row member
+    → place_in (rows_in seal.form) row ≡ None → value after row member ≡ value base row member
 value_beside geometry base after seal values takes sound row member below within none = value_counted_less row geometry.members after base (record {
   width_after = takes.width_after;
   width = takes.width;
@@ -253,15 +253,15 @@ value_beside geometry base after seal values takes sound row member below within
 
 -- the rows with the entry are sound
 sound_formed : (geometry : Geometry) (base after : Rows) (sectors : List (ℕ × Bytes)) (seal : Seal) (values : List (List Bytes))
-    → IsFormed geometry base sectors seal.rows.items values
+    → IsFormed geometry base sectors (rows_in seal.form) values
     → TakesEntry geometry base after seal values → AreSound base (rows_of geometry.chunk geometry.stripes)
     → AreSound after (rows_of geometry.chunk geometry.stripes)
-sound_formed geometry base after sectors seal values formed takes sound = λ row below. by_place row below (place_in seal.rows.items row) refl
+sound_formed geometry base after sectors seal values formed takes sound = λ row below. by_place row below (place_in (rows_in seal.form) row) refl
   where
-    by_place : (row : ℕ) → row < rows_of geometry.chunk geometry.stripes → (place : Option ℕ) → place_in seal.rows.items row ≡ place
+    by_place : (row : ℕ) → row < rows_of geometry.chunk geometry.stripes → (place : Option ℕ) → place_in (rows_in seal.form) row ≡ place
         → IsSoundRow (row_values after row)
     by_place row below (Some i) found =
-        let within = (row_of_place seal.rows.items row i found).0 in
+        let within = (row_of_place (rows_in seal.form) row i found).0 in
         subst (λ (sectors_of_row : List Bytes). IsSoundRow sectors_of_row) (row_formed geometry base after sectors seal values formed takes row i below found)
         (formed.sound i within)
     by_place row below None none =
@@ -272,11 +272,11 @@ sound_formed geometry base after sectors seal values formed takes sound = λ row
 
 -- a logical sector's value with the entry is that of the list with the sectors written
 logical_formed : (geometry : Geometry) (base after : Rows) (sectors : List (ℕ × Bytes)) (seal : Seal) (values : List (List Bytes))
-    → IsFormed geometry base sectors seal.rows.items values
+    → IsFormed geometry base sectors (rows_in seal.form) values
     → TakesEntry geometry base after seal values → AreSound base (rows_of geometry.chunk geometry.stripes)
     → (logical : ℕ) → logical < data_sectors_of geometry.members geometry.chunk geometry.stripes
     → logical_value geometry after logical ≡ slice_index_or (written (logical_list geometry base) sectors) logical []
-logical_formed geometry base after sectors seal values formed takes sound logical below = by_place (place_in seal.rows.items row) refl
+logical_formed geometry base after sectors seal values formed takes sound logical below = by_place (place_in (rows_in seal.form) row) refl
   where
     row : ℕ
     row = row_of_logical geometry logical
@@ -293,15 +293,15 @@ logical_formed geometry base after sectors seal values formed takes sound logica
     within : member < geometry.members
     within = place_member_below geometry.limits placed
 
-    untouched : place_in seal.rows.items row ≡ None → (k : ℕ) → k < length sectors → (slice_index_or sectors k (0, [])).0 ≢ logical
+    untouched : place_in (rows_in seal.form) row ≡ None → (k : ℕ) → k < length sectors → (slice_index_or sectors k (0, [])).0 ≢ logical
     untouched none k k_within is =
-        let among : IsAmong seal.rows.items (row_of_logical geometry (slice_index_or sectors k (0, [])).0) = formed.among k k_within in
-        no_row_without_place seal.rows.items row among.place none among.within (among.is ∙ ap (row_of_logical geometry) is)
+        let among : IsAmong (rows_in seal.form) (row_of_logical geometry (slice_index_or sectors k (0, [])).0) = formed.among k k_within in
+        no_row_without_place (rows_in seal.form) row among.place none among.within (among.is ∙ ap (row_of_logical geometry) is)
 
-    by_place : (place : Option ℕ) → place_in seal.rows.items row ≡ place
+    by_place : (place : Option ℕ) → place_in (rows_in seal.form) row ≡ place
         → value after row member ≡ slice_index_or (written (logical_list geometry base) sectors) logical []
     by_place (Some i) found =
-        let at = row_of_place seal.rows.items row i found in
+        let at = row_of_place (rows_in seal.form) row i found in
         value_formed geometry base after sectors seal values formed takes row i row_below found member within
         ∙ formed.data_sectors i member logical at.0 below (subst (IsPlace geometry.members geometry.chunk logical member) (sym at.1) placed)
     by_place None none =
@@ -311,7 +311,7 @@ logical_formed geometry base after sectors seal values formed takes sound logica
 
 -- The rows with the entry are sound, and their logical list is that of the rows before, with the sectors written.
 pub takes_formed : (geometry : Geometry) (base after : Rows) (sectors : List (ℕ × Bytes)) (seal : Seal) (values : List (List Bytes))
-    → IsFormed geometry base sectors seal.rows.items values
+    → IsFormed geometry base sectors (rows_in seal.form) values
     → TakesEntry geometry base after seal values → AreSound base (rows_of geometry.chunk geometry.stripes)
     → AreSound after (rows_of geometry.chunk geometry.stripes) × (logical_list geometry after ≡ written (logical_list geometry base) sectors)
 takes_formed geometry base after sectors seal values formed takes sound = (

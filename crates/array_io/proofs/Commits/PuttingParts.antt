@@ -16,7 +16,7 @@ use Rattle.superblock.specs.Counted.{Content}
 use Rattle.stripe_journal.specs.declared.seal.Seal.{Seal}
 use Rattle.stripe_journal.specs.Body.{seal_place}
 use Rattle.stripe_journal.specs.Entries.{body_start}
-use Rattle.stripe_journal.specs.Forms.{holds}
+use Rattle.stripe_journal.specs.Forms.{holds, rows_in}
 use Rattle.stripe_journal.specs.LastEntry.{IsGreatest}
 use Rattle.stripe_journal.specs.OneEntry.{ACrashLeavesEither, HasThisEntry, IsNextOn, StaysOff}
 use Rattle.stripe_journal.specs.Seals.{row_at}
@@ -117,7 +117,11 @@ module _ (spellings : Spellings) (seal : Seal) (body : List Bytes) (from : PutsF
       (is : IsComing origin seal body journals from table old) where
     -- the body is one of a journal
     few : length body ≤ BODY_SECTORS
-    few = omega (arith, is.long, before_few table.geometry.members seal.form (length seal.rows.items) table.geometry.limits.members_most seal.allowed.rows_most)
+    few = omega (
+      arith,
+      is.long,
+      before_few table.geometry.members seal.form (length (rows_in seal.form)) table.geometry.limits.members_most seal.allowed.rows_most,
+    )
 
     read : (k : ℕ) → CountsOn table k → readable old k ≡ Some (seen old k)
     read = read_there spellings seal body from table old origin journals is
@@ -219,16 +223,16 @@ module _ (spellings : Spellings) (seal : Seal) (body : List Bytes) (from : PutsF
 
   -- the rows
 
-  module _ (within : slot < table.geometry.members) (of : HeldRows) (rows_are : of.rows ≡ seal.rows.items)
-      (held_are : (i : ℕ) → i < length seal.rows.items → of.held i slot ≡ holds table.geometry.members seal.form i slot)
-      (values_are : (i : ℕ) → i < length seal.rows.items → holds table.geometry.members seal.form i slot ≡ true
+  module _ (within : slot < table.geometry.members) (of : HeldRows) (rows_are : of.rows ≡ rows_in seal.form)
+      (held_are : (i : ℕ) → i < length (rows_in seal.form) → of.held i slot ≡ holds table.geometry.members seal.form i slot)
+      (values_are : (i : ℕ) → i < length (rows_in seal.form) → holds table.geometry.members seal.form i slot ≡ true
       → of.values i slot ≡ in_body table.geometry.members seal body i slot)
       (is : IsPutBefore slot seal body from table old) (honest : Type 0) (fair : honest) (old_panel mid_panel : Panel) (result : Result (Unit {0}) Stop)
       (puts : PutsMember honest table of slot old_panel mid_panel old mid result) where
     abbrev PutsRows : Contents
     PutsRows = IsRowOn table of slot
 
-    inside : (i : ℕ) → i < length of.rows → i < length seal.rows.items
+    inside : (i : ℕ) → i < length of.rows → i < length (rows_in seal.form)
     inside i = subst (λ (rows : List ℕ). i < length rows) rows_are
 
     only : (device at : ℕ) (value : Bytes) → PutsRows device at value → IsRowSector table.geometry.members seal device at

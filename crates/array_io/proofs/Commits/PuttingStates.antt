@@ -13,7 +13,7 @@ use Rattle.superblock.specs.Tables.{state_at}
 use Rattle.stripe_journal.specs.declared.seal.Seal.{Seal}
 use Rattle.stripe_journal.specs.Body.{place_by_seal}
 use Rattle.stripe_journal.specs.Entries.{body_start}
-use Rattle.stripe_journal.specs.Forms.{holds}
+use Rattle.stripe_journal.specs.Forms.{holds, rows_in}
 use Rattle.stripe_journal.specs.OneEntry.{HasThisEntry, IsNextOn}
 use Rattle.stripe_journal.specs.Seals.{row_at}
 use Rattle.degraded.specs.RowValue.{AreSound, logical_list, value}
@@ -156,11 +156,11 @@ module _ (slot : ℕ) (seal : Seal) (body : List Bytes) (from : PutsFrom) (table
     values = is.values;
     gives = ap (λ (g : Geometry). written (logical_list g is.rows) is.sectors) beside.goes.same_geometry ∙ is.gives;
     among = is.among;
-    formed = subst (λ (g : Geometry). IsFormed g is.rows is.sectors seal.rows.items is.values) (sym beside.goes.same_geometry) is.formed;
-    body_is = subst (λ (n : ℕ). (i member : ℕ) → i < length seal.rows.items → member < n → holds n seal.form i member ≡ true
+    formed = subst (λ (g : Geometry). IsFormed g is.rows is.sectors (rows_in seal.form) is.values) (sym beside.goes.same_geometry) is.formed;
+    body_is = subst (λ (n : ℕ). (i member : ℕ) → i < length (rows_in seal.form) → member < n → holds n seal.form i member ≡ true
         → in_body n seal body i member ≡ slice_index_or (slice_index_or is.values i []) member []) (sym members_are) is.body_is;
-    kept = subst (λ (n : ℕ). (i member : ℕ) → i < length seal.rows.items → member < n → holds n seal.form i member ≡ false
-        → slice_index_or (slice_index_or is.values i []) member [] ≡ value is.rows (row_at seal.rows.items i) member) (sym members_are) is.kept;
+    kept = subst (λ (n : ℕ). (i member : ℕ) → i < length (rows_in seal.form) → member < n → holds n seal.form i member ≡ false
+        → slice_index_or (slice_index_or is.values i []) member [] ≡ value is.rows (row_at (rows_in seal.form) i) member) (sym members_are) is.kept;
     width = is.width ∙ sym members_are;
     bare = is.bare;
     sound = subst (AreSound is.rows) (sym rows_are) is.sound;
@@ -214,9 +214,9 @@ module _ (slot : ℕ) (seal : Seal) (body : List Bytes) (from : PutsFrom) (table
 
   -- The entry is put on members still, and on this one as told.
   pub put_still : (n n' : ℕ) → IsPutBefore n seal body from table old → slot < table.geometry.members → ((k : ℕ) → k ≢ slot → k < n' → k < n)
-      → (CountsOn new_table slot → (i : ℕ) → i < length seal.rows.items → holds new_table.geometry.members seal.form i slot ≡ true
-      → trusts (state_at new_table.states slot) (row_at seal.rows.items i) new_table.position ≡ true
-      → sector_of (seen new slot) (FIRST_ROW + row_at seal.rows.items i) ≡ in_body new_table.geometry.members seal body i slot)
+      → (CountsOn new_table slot → (i : ℕ) → i < length (rows_in seal.form) → holds new_table.geometry.members seal.form i slot ≡ true
+      → trusts (state_at new_table.states slot) (row_at (rows_in seal.form) i) new_table.position ≡ true
+      → sector_of (seen new slot) (FIRST_ROW + row_at (rows_in seal.form) i) ≡ in_body new_table.geometry.members seal body i slot)
       → IsPutBefore n' seal body from new_table new
   put_still n n' is is_member fewer here = record {
     writes = writes;
@@ -226,16 +226,17 @@ module _ (slot : ℕ) (seal : Seal) (body : List Bytes) (from : PutsFrom) (table
         (λ at. beside.same journal at (λ same. absurd (omega (arith, same, is_member, beyond_then journal beyond))) counted)
         (is.on_journals journal (beyond_then journal beyond) (beside.goes.counts journal counted));
     on_members = λ member i below within inside held trusted. elim (cases_eq member slot) [
-      | inl same ↦ subst (λ (k : ℕ). sector_of (seen new k) (FIRST_ROW + row_at seal.rows.items i) ≡ in_body new_table.geometry.members seal body i k)
+      | inl same ↦ subst (λ (k : ℕ). sector_of (seen new k) (FIRST_ROW + row_at (rows_in seal.form) i) ≡ in_body new_table.geometry.members seal body i k)
           (sym same)
-          (here (subst (CountsOn new_table) same (trusted_counts (row_at seal.rows.items i) member within trusted)) i inside
+          (here (subst (CountsOn new_table) same (trusted_counts (row_at (rows_in seal.form) i) member within trusted)) i inside
           (subst (λ (k : ℕ). holds new_table.geometry.members seal.form i k ≡ true) same held)
-          (subst (λ (k : ℕ). trusts (state_at new_table.states k) (row_at seal.rows.items i) new_table.position ≡ true) same trusted))
+          (subst (λ (k : ℕ). trusts (state_at new_table.states k) (row_at (rows_in seal.form) i) new_table.position ≡ true) same trusted))
       | inr apart ↦
-          beside.same member (FIRST_ROW + row_at seal.rows.items i) apart (trusted_counts (row_at seal.rows.items i) member within trusted) (omega arith)
+          beside.same member (FIRST_ROW + row_at (rows_in seal.form) i) apart (trusted_counts (row_at (rows_in seal.form) i) member within trusted)
+          (omega arith)
           ∙ is.on_members member i (fewer member apart below) (subst (λ (n : ℕ). member < n) members_are within) inside
           (subst (λ (n : ℕ). holds n seal.form i member ≡ true) members_are held)
-          (beside.goes.trusts_it (row_at seal.rows.items i) member within trusted)
+          (beside.goes.trusts_it (row_at (rows_in seal.form) i) member within trusted)
           ∙ ap (λ (m : ℕ). in_body m seal body i member) (sym members_are)
     ];
   }

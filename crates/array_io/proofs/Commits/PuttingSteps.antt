@@ -20,7 +20,7 @@ use Rattle.superblock.specs.NextTables.{slots_of}
 use Rattle.stripe_journal.specs.declared.entry.Entry.{Entry}
 use Rattle.stripe_journal.specs.declared.seal.Seal.{Seal}
 use Rattle.stripe_journal.specs.Entries.{body_of, sector_at}
-use Rattle.stripe_journal.specs.Forms.{holds}
+use Rattle.stripe_journal.specs.Forms.{holds, rows_in}
 use Rattle.stripe_journal.proofs.Entries.{body_at}
 use Rattle.stripe_journal.proofs.HeldEntries.{IsEntryOf, rank_of_seal}
 use Rattle.stripe_journal.proofs.OneEntry.{a_crash_leaves_either}
@@ -231,7 +231,7 @@ module _ (spellings : Spellings) (honest : Type 0) (slot number : ℕ) (table : 
   Was = view_of old_panel old table number
 
   -- what the entry holds of a row on a member is the body's sector there
-  sector_in_body : (i member : ℕ) → HasItsRows table seal entry → i < length seal.rows.items → member < table.geometry.members
+  sector_in_body : (i member : ℕ) → HasItsRows table seal entry → i < length (rows_in seal.form) → member < table.geometry.members
       → holds table.geometry.members seal.form i member ≡ true
       → sector_at entry i member ≡ in_body table.geometry.members seal body i member
   sector_in_body i member its inside within held =

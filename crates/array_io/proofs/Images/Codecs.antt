@@ -7,6 +7,7 @@ use Rattle.parity.proofs.Laws.{get_or-zero_sector}
 use Rattle.superblock.specs.declared.table.Superblock.{Superblock}
 use Rattle.superblock.specs.Spelling.{begin_mark, head_bytes, superblock_sector}
 use Rattle.superblock.proofs.Spelled.{length-superblock_sector, one_superblock}
+use Rattle.stripe_journal.specs.Forms.{rows_in}
 use Rattle.stripe_journal.specs.declared.form.Form.{Form}
 use Rattle.stripe_journal.specs.declared.seal.Seal.{Seal}
 use Rattle.stripe_journal.specs.Spelling.{first_mark, seal_bytes, seal_sector}
@@ -38,9 +39,9 @@ same_front a b r s lengths same = (
 -- a sector spells one seal at most, however long its id
 one_seal : (first second : Seal) → seal_sector first ≡ seal_sector second → first ≡ second
 one_seal first second same =
-    let first_says = sector_says id first.number first.rows.items first.form sector first.allowed first.formed long refl in
-    let second_says = sector_says id second.number second.rows.items second.form sector second.allowed second.formed long equal in
-    same_seal first second parts.0 (first_says.1 ∙ sym second_says.1) (first_says.2 ∙ sym second_says.2) (first_says.3 ∙ sym second_says.3)
+    let first_says = sector_says id first.number (rows_in first.form) first.form sector first.allowed first.formed long refl refl in
+    let second_says = sector_says id second.number (rows_in second.form) second.form sector second.allowed second.formed long equal refl in
+    same_seal first second parts.0 (first_says.1 ∙ sym second_says.1) (first_says.2 ∙ sym second_says.2)
   where
     lengths : length first.id ≡ length second.id
     lengths = omega (
@@ -51,10 +52,10 @@ one_seal first second same =
     )
 
     beyond : Seal → List ℕ
-    beyond seal = after_id seal.number seal.rows.items seal.form
+    beyond seal = after_id seal.number (rows_in seal.form) seal.form
 
     spelled : (seal : Seal) → seal_sector seal ≡ first_mark seal.form ++ (seal.id ++ beyond seal)
-    spelled seal = seal_bytes_are seal.id seal.number seal.rows.items seal.form
+    spelled seal = seal_bytes_are seal.id seal.number (rows_in seal.form) seal.form
 
     marks : (first_mark first.form ≡ first_mark second.form) × (first.id ++ beyond first ≡ second.id ++ beyond second)
     marks = same_front (first_mark first.form) (first_mark second.form) (first.id ++ beyond first) (second.id ++ beyond second)
@@ -68,17 +69,17 @@ one_seal first second same =
     id = replicate 16 0
 
     sector : List ℕ
-    sector = seal_bytes id first.number first.rows.items first.form
+    sector = seal_bytes id first.number (rows_in first.form) first.form
 
     long : length sector ≡ 512
-    long = omega (arith, length-seal_bytes id first.number first.rows.items first.form first.allowed.rows_most first.formed, length-replicate {A = ℕ} 16 0)
+    long = omega (arith, length-seal_bytes id first.number (rows_in first.form) first.form first.allowed.rows_most first.formed, length-replicate {A = ℕ} 16 0)
 
-    equal : sector ≡ seal_bytes id second.number second.rows.items second.form
+    equal : sector ≡ seal_bytes id second.number (rows_in second.form) second.form
     equal =
-        seal_bytes_are id first.number first.rows.items first.form
+        seal_bytes_are id first.number (rows_in first.form) first.form
         ∙ ap (λ (mark : List ℕ). mark ++ (id ++ beyond first)) marks.0
         ∙ ap (λ (r : List ℕ). first_mark second.form ++ (id ++ r)) parts.1
-        ∙ sym (seal_bytes_are id second.number second.rows.items second.form)
+        ∙ sym (seal_bytes_are id second.number (rows_in second.form) second.form)
 
 -- a spelling begins with the mark, and no sector of zeros does
 superblock_begins : (superblock : Superblock) → get_or (superblock_sector superblock) 0 0 ≡ 82

@@ -2,11 +2,12 @@
 use Rattle.std.proofs.Common.{◌≡◌, ◌⊎◌, inl, inr, ℕ, ◌+◌, ◌<◌, Bool, true, false, IsTrue, List, length, Option, Some, None, refl, sym, ◌∙◌, ap, subst, arith}
 use Rattle.std.specs.Prelude.{map, option_map, unwrap_or}
 use Rattle.std.specs.List.{range_with_len}
-use Rattle.std.proofs.lemmas.Bool.{cond_above}
 use Rattle.std.proofs.lemmas.Option.{none-some, same_Some}
 use Rattle.sector_model.specs.History.{Bytes, Slots, disk_of, sector_of}
-use Rattle.layout_map.specs.declared.sizes.TheConstants.{FIRST_ROW, JOURNAL_SECTORS}
+use Rattle.layout_map.specs.declared.sizes.TheConstants.{FIRST_ROW}
 use Rattle.parity.specs.Xor.{IsSoundRow, xor_of_all, zero_sector}
+use Rattle.layout_map.proofs.Places.{journal_least as bodies_least}
+use Rattle.superblock.proofs.LeastSectors.{journal_least}
 use Rattle.superblock.specs.declared.table.Table.{Table}
 use Rattle.superblock.specs.Tables.{state_at}
 use Rattle.superblock.specs.Cases.{HasWholeSectors}
@@ -45,8 +46,8 @@ pub sector_whole : (devices : ℕ) (table : Table) (image : Slots) → HasWholeS
 sector_whole devices table image whole journal seal live row member sector within has =
     let at = in_its_place (sector_of (disk_of (image journal))) (place_by_seal table.geometry.members seal row member) sector has in
     let body = bodies_within table.geometry.members seal row member at.0 table.geometry.limits.members_most within at.1 in
-    let least = cond_above journal table.geometry.members (FIRST_ROW + row_count table) JOURNAL_SECTORS JOURNAL_SECTORS live.beyond_members refl in
-    ap length (sym at.2) ∙ whole journal at.0 (omega (arith, body.1, least, live.live.long_enough))
+    let least = journal_least table.geometry journal live.beyond_members in
+    ap length (sym at.2) ∙ whole journal at.0 (omega (arith, body.1, least, live.live.long_enough, bodies_least table.geometry.format))
 
 -- In an image that holds, with one last seal on all live journals, the rows by its last entry are sound.
 module _ (spellings : Spellings) (devices : ℕ) (table : Table) (X : List (List Bytes)) (image : Slots) (holds : HoldsIn devices table X image)

@@ -1,9 +1,10 @@
 -- The loss of one member.
-use Rattle.std.proofs.Common.{◌≡◌, ◌≢◌, ℕ, ◌+◌, ◌<◌, ◌≤◌, Bool, true, nat_lt, length, Option, Some, None, IsSome, refl, sym, ◌∙◌, ap, subst, arith}
-use Rattle.std.proofs.lemmas.Bool.{cond-true, false_from_ne_true, lt-ltb}
+use Rattle.std.proofs.Common.{◌≡◌, ◌≢◌, ℕ, ◌+◌, ◌<◌, ◌≤◌, Bool, true, length, Option, Some, None, IsSome, refl, sym, ◌∙◌, ap, subst, arith}
+use Rattle.std.proofs.lemmas.Bool.{false_from_ne_true}
 use Rattle.sector_model.specs.History.{Bytes, Slots, disk_of, sector_of}
 use Rattle.layout_map.specs.Placement.{rows_of}
-use Rattle.layout_map.specs.declared.sizes.TheConstants.{FIRST_ROW, JOURNAL_SECTORS}
+use Rattle.layout_map.specs.declared.sizes.TheConstants.{FIRST_ROW}
+use Rattle.superblock.proofs.LeastSectors.{member_least}
 use Rattle.superblock.specs.declared.state.State.TheVariants.{InSync, Rebuilding}
 use Rattle.superblock.specs.declared.table.Table.{Table}
 use Rattle.superblock.specs.Counted.{Content, IsInFull, IsLive, least_sectors}
@@ -77,8 +78,7 @@ own_is_whole : (devices : ℕ) (table : Table) (image : Slots) (member row : ℕ
 own_is_whole devices table image member row whole within below live = whole member (FIRST_ROW + row) reached
   where
     least : least_sectors table.geometry member ≡ FIRST_ROW + rows_of table.geometry.chunk table.geometry.stripes
-    least = cond-true (nat_lt member table.geometry.members) (FIRST_ROW + rows_of table.geometry.chunk table.geometry.stripes) JOURNAL_SECTORS
-        (lt-ltb member table.geometry.members within)
+    least = member_least table.geometry member within
 
     reached : FIRST_ROW + row < length (disk_of (image member))
     reached = omega (arith, least, live.long_enough, below)

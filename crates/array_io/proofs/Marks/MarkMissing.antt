@@ -1,5 +1,5 @@
 -- What `mark_missing` promises, by what it did.
-use Rattle.std.proofs.Common.{◌≡◌, ◌≢◌, inl, inr, ℕ, ◌+◌, ◌<◌, ◌≤◌, Bool, true, false, cond, nat_lt, List, [], ◌∷◌, Option, Some, None, Result, Ok, Err, refl}
+use Rattle.std.proofs.Common.{◌≡◌, ◌≢◌, inl, inr, ℕ, ◌+◌, ◌<◌, ◌≤◌, Bool, true, false, List, [], ◌∷◌, Option, Some, None, Result, Ok, Err, refl}
 use Rattle.std.proofs.Common.{sym, ◌∙◌, ap, subst, subst₂, arith}
 use Rattle.std.specs.Prelude.{IfErr, is_ok}
 use Rattle.sector_model.specs.declared.calls.TheConstants.{GREATEST_COUNT}
@@ -14,8 +14,8 @@ use Rattle.sector_model.specs.Moments.{here}
 use Rattle.sector_model.proofs.Panels.{later_same}
 use Rattle.sector_model.proofs.Steps.{throughout_last}
 use Rattle.layout_map.specs.declared.geometry.Geometry.{Geometry}
-use Rattle.layout_map.specs.Placement.{rows_of}
-use Rattle.layout_map.specs.declared.sizes.TheConstants.{FIRST_ROW, JOURNAL_SECTORS, SUPERBLOCK_PLACES}
+use Rattle.layout_map.specs.declared.sizes.TheConstants.{SUPERBLOCK_PLACES}
+use Rattle.superblock.proofs.LeastSectors.{four_least}
 use Rattle.superblock.specs.declared.state.State.TheVariants.{InSync, Missing}
 use Rattle.superblock.specs.declared.table.Table.{Table}
 use Rattle.superblock.specs.Tables.{state_at}
@@ -259,11 +259,7 @@ module _ (spellings : Spellings) (honest : Type 0) (slot number : ℕ) (old_pane
 
 -- a device of a set has both places of a superblock
 pub least_two : (geometry : Geometry) (slot : ℕ) → SUPERBLOCK_PLACES ≤ least_sectors geometry slot
-least_two geometry slot = by_case (nat_lt slot geometry.members)
-  where
-    by_case : (is_member : Bool) → SUPERBLOCK_PLACES ≤ cond is_member (FIRST_ROW + rows_of geometry.chunk geometry.stripes) JOURNAL_SECTORS
-    by_case true = omega arith
-    by_case false = omega arith
+least_two geometry slot = omega (arith, four_least geometry slot)
 
 -- the marked table may be published
 pub can_publish : (panel : Panel) (old_table new_table : Table) (slot : ℕ) → slot < slots_of old_table → IsMarked old_table slot new_table

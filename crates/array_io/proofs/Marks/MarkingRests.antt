@@ -1,8 +1,8 @@
 -- A settled array of which a slot is marked missing is settled again.
-use Rattle.std.proofs.Common.{◌≡◌, ◌≢◌, inl, inr, ℕ, ◌+◌, ◌%◌, ◌<◌, ◌≤◌, Bool, true, false, cond, nat_lt, List, [], ◌∷◌, length, Option, Some, None, refl, sym}
+use Rattle.std.proofs.Common.{◌≡◌, ◌≢◌, inl, inr, ℕ, ◌+◌, ◌%◌, ◌<◌, ◌≤◌, Bool, true, false, cond, List, [], ◌∷◌, length, Option, Some, None, refl, sym}
 use Rattle.std.proofs.Common.{◌∙◌, ap, subst, subst₂, arith}
 use Rattle.std.specs.Prelude.{IsSome}
-use Rattle.std.proofs.lemmas.Bool.{cases_eq, cases_lt, cond-true, lt-ltb}
+use Rattle.std.proofs.lemmas.Bool.{cases_eq, cases_lt}
 use Rattle.sector_model.specs.Bank.{IsTrueTo, Panel}
 use Rattle.sector_model.specs.History.{Bytes, History, IsSector, MayHold, MayLeave, SlotMayHold, Slots, disk_of, is_down, sector_of, seen}
 use Rattle.sector_model.specs.MemoryLaw.{length-seen}
@@ -11,7 +11,8 @@ use Rattle.sector_model.proofs.Readable.{readable_left, readable_up}
 use Rattle.sector_model.proofs.Steps.{is_there, up_seen}
 use Rattle.layout_map.specs.declared.geometry.Geometry.{Geometry}
 use Rattle.layout_map.specs.Placement.{rows_of}
-use Rattle.layout_map.specs.declared.sizes.TheConstants.{FIRST_ROW, JOURNAL_SECTORS, SUPERBLOCK_PLACES}
+use Rattle.layout_map.specs.declared.sizes.TheConstants.{FIRST_ROW, SUPERBLOCK_PLACES}
+use Rattle.superblock.proofs.LeastSectors.{member_least}
 use Rattle.superblock.specs.declared.state.State.{State}
 use Rattle.superblock.specs.declared.state.State.TheVariants.{InSync, Missing}
 use Rattle.superblock.specs.declared.table.Table.{Table}
@@ -216,8 +217,7 @@ module _ (devices : ℕ) (old_table new_table : Table) (slot number : ℕ) (lost
   own_whole within row below =
       let live = has.rests.there slot has.of_set has.counted in
       let least : least_sectors old_table.geometry slot ≡ FIRST_ROW + rows_of old_table.geometry.chunk old_table.geometry.stripes =
-      cond-true (nat_lt slot old_table.geometry.members) (FIRST_ROW + rows_of old_table.geometry.chunk old_table.geometry.stripes) JOURNAL_SECTORS
-      (lt-ltb slot old_table.geometry.members within) in
+      member_least old_table.geometry slot within in
       let reached : FIRST_ROW + row < length (disk_of (readable old slot)) = omega (arith, least, live.long_enough, below) in
       has.whole slot (FIRST_ROW + row) reached
 

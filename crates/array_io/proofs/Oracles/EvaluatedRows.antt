@@ -1,11 +1,13 @@
 -- What one row of a set has in an image in memory.
-use Rattle.std.proofs.Common.{Bool, IsTrue, List, None, Option, Some, [], ap, arith, false, inl, inr, length, refl, subst, sym, ℕ, ◌+◌, ◌<◌, ◌↔◌, ◌∙◌, ◌≡◌, ◌≤◌}
+use Rattle.std.proofs.Common.{Bool, IsTrue, List, None, Option, Some, [], ap, arith, false, inl, inr, length, subst, sym, ℕ, ◌+◌, ◌<◌, ◌↔◌, ◌∙◌, ◌≡◌, ◌≤◌}
 use Rattle.std.proofs.lemmas.Grind.{get_or-set_at}
 use Rattle.std.proofs.lemmas.List.{get_or-set_other, length-set}
 use Rattle.std.specs.Prelude.{slice_index_or, slice_set, option_map}
-use Rattle.std.proofs.lemmas.Bool.{cases_eq, cond_above, cond_below}
+use Rattle.std.proofs.lemmas.Bool.{cases_eq}
 use Rattle.sector_model.specs.History.{Bytes, Slots, disk_of, sector_of}
-use Rattle.layout_map.specs.declared.sizes.TheConstants.{FIRST_ROW, JOURNAL_SECTORS, MOST_MEMBERS}
+use Rattle.layout_map.specs.declared.sizes.TheConstants.{FIRST_ROW, MOST_MEMBERS}
+use Rattle.layout_map.proofs.Places.{journal_least as bodies_least}
+use Rattle.superblock.proofs.LeastSectors.{journal_least, member_least}
 use Rattle.superblock.specs.declared.table.Table.{Table}
 use Rattle.superblock.specs.Counted.{least_sectors}
 use Rattle.stripe_journal.specs.Body.{place_by_seal}
@@ -77,7 +79,7 @@ rows_with members entry trusted own = record {
 
 member_long : (table : Table) (member n : ℕ) → member < table.geometry.members → least_sectors table.geometry member ≤ n → FIRST_ROW + row_count table ≤ n
 member_long table member n within long =
-    let least = cond_below member table.geometry.members (FIRST_ROW + row_count table) JOURNAL_SECTORS within in omega arith
+    let least = member_least table.geometry member within in omega arith
 
 pub same_values : (devices : ℕ) (table : Table) (image : Slots) (last : Option Entry) (row n : ℕ) (entry : List (Option Bytes)) (trusted : List Bool)
     (own : List Bytes)
@@ -112,10 +114,9 @@ pub entry_sector : (devices : ℕ) (table : Table) (image : Slots) (found : Opti
 entry_sector devices table image found last row member at sector is has within there reads =
     let latest : HasLastEntry devices table image (Some last) = subst (λ (o : Option LastEntry). HasLastEntry devices table image o) is has in
     let long = latest.on_live.live.long_enough in
-    let least = cond_above last.journal table.geometry.members (FIRST_ROW + row_count table) JOURNAL_SECTORS JOURNAL_SECTORS latest.on_live.beyond_members
-    refl in
+    let least = journal_least table.geometry last.journal latest.on_live.beyond_members in
     let body = bodies_within table.geometry.members last.seal row member at table.geometry.limits.members_most within (sym there) in
-    let read : sector ≡ sector_of (disk_of (image last.journal)) at = reads (omega (arith, body.1)) in
+    let read : sector ≡ sector_of (disk_of (image last.journal)) at = reads (omega (arith, body.1, bodies_least table.geometry.format)) in
     ap Some read
     ∙ ap (option_map (sector_of (disk_of (image last.journal)))) there
     ∙ ap (λ (o : Option LastEntry). sector_of_last table.geometry.members image (entry_of o) row member) (sym is)

@@ -1,12 +1,12 @@
 -- Rows read by what a table says of the members are those of an open array.
 use Rattle.std.proofs.Common.{◌≡◌, ◌≢◌, inl, inr, ℕ, ◌+◌, ◌<◌, Bool, true, false, List, length, Option, Some, None, refl, sym, ◌∙◌, ap, subst, arith}
 use Rattle.std.specs.Prelude.{◌&&◌, ◌||◌, not, nat_lt, slice_index_or, slice_set}
-use Rattle.std.proofs.lemmas.Bool.{cases_eq, cond_below, eq-eqb, ne_eqb}
+use Rattle.std.proofs.lemmas.Bool.{cases_eq, eq-eqb, ne_eqb}
 use Rattle.std.proofs.lemmas.List.{get_or-set_same, get_or-set_other, length-set}
 use Rattle.sector_model.specs.Bank.{Panel}
 use Rattle.sector_model.specs.History.{Slots}
 use Rattle.layout_map.proofs.Places.{rows_most}
-use Rattle.layout_map.specs.declared.sizes.TheConstants.{FIRST_ROW, JOURNAL_SECTORS}
+use Rattle.superblock.proofs.LeastSectors.{member_least}
 use Rattle.superblock.specs.declared.state.State.{State}
 use Rattle.superblock.specs.declared.state.State.TheVariants.{Missing, InSync, Rebuilding}
 use Rattle.superblock.specs.declared.table.Table.{Table}
@@ -115,7 +115,7 @@ can_read table slots row panel its_slots width there one_out below = record {
   within = λ member in_set live up.
       let within : member < table.geometry.members = omega (arith, width, in_set) in
       let fit = its_slots.fit member (omega (arith, within)) (not_missing member within live) up in
-      omega (arith, below, fit, cond_below member table.geometry.members (FIRST_ROW + row_count table) JOURNAL_SECTORS within);
+      omega (arith, below, fit, member_least table.geometry member within);
   one_out = one_out;
 }
   where

@@ -1,7 +1,6 @@
 -- What the reads of a call give is the list's, and steps that keep the list, one row after another, keep it.
 use Rattle.std.proofs.Common.{◌≡◌, inl, ℕ, ◌+◌, ◌<◌, true, false, List, refl, sym, ◌∙◌, subst, arith}
 use Rattle.std.specs.Prelude.{Ok}
-use Rattle.std.proofs.lemmas.Bool.{cond_below}
 use Rattle.std.proofs.lemmas.Option.{none-some}
 use Rattle.sector_model.specs.Bank.{IsTrueTo, Panel}
 use Rattle.sector_model.specs.Moments.{here}
@@ -12,13 +11,13 @@ use Rattle.sector_model.proofs.Readable.{readable_left}
 use Rattle.sector_model.proofs.Reading.{read_none}
 use Rattle.layout_map.specs.declared.geometry.Geometry.{Geometry}
 use Rattle.layout_map.specs.Placement.{rows_of}
-use Rattle.layout_map.specs.declared.sizes.TheConstants.{FIRST_ROW, JOURNAL_SECTORS}
+use Rattle.layout_map.specs.declared.sizes.TheConstants.{FIRST_ROW}
+use Rattle.superblock.proofs.LeastSectors.{member_least}
 use Rattle.superblock.specs.declared.table.Table.{Table}
 use Rattle.superblock.specs.Cases.{HasWholeSectors}
 use Rattle.degraded.specs.RowValue.{Rows, AreSound, logical_list, row_values, value}
 use Rattle.degraded.proofs.Values.{length-value}
 use Rattle.array_io.specs.Believed.ArrayCalls.{Answer}
-use Rattle.array_io.specs.Believed.Holds.{row_count}
 use Rattle.array_io.specs.Steps.FormingRows.{IsListed, IsListedRow}
 use Rattle.array_io.specs.Steps.ReadingOn.{Between, KeepsFrom, KeepsList, KeepsOn}
 use Rattle.array_io.specs.Believed.Settled.{IsAllThere, rows_by}
@@ -64,7 +63,7 @@ members_whole devices table h there whole row member below within = length-value
     (λ sector is. absurd (none-some sector is))
     (λ none counts.
     let live = ((table_tells devices table (readable h) there row member within).0 counts).live in
-    let least = cond_below member table.geometry.members (FIRST_ROW + row_count table) JOURNAL_SECTORS within in
+    let least = member_least table.geometry member within in
     whole member (FIRST_ROW + row) (omega (arith, below, least, live.long_enough)))
 
 -- so are the rows of an array between the steps of a call that keeps the list

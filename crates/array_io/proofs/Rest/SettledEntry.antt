@@ -1,12 +1,12 @@
 -- A settled array has its last entry at rest.
 use Rattle.std.proofs.Common.{◌≡◌, ◌⊎◌, inl, inr, ℕ, ◌+◌, ◌<◌, List, [], ◌∷◌, length, Option, Some, None, refl, sym, ◌∙◌, ap, subst, arith}
-use Rattle.std.proofs.lemmas.Bool.{cond_below}
 use Rattle.std.proofs.lemmas.List.Elements.{Contains-push_cases}
 use Rattle.std.proofs.lemmas.Option.{none-some}
 use Rattle.sector_model.specs.History.{Bytes, History, disk_of, sector_of}
 use Rattle.sector_model.specs.Readable.{readable}
 use Rattle.sector_model.proofs.Readable.{readable_left}
-use Rattle.layout_map.specs.declared.sizes.TheConstants.{FIRST_ROW, JOURNAL_SECTORS}
+use Rattle.layout_map.specs.declared.sizes.TheConstants.{FIRST_ROW}
+use Rattle.superblock.proofs.LeastSectors.{member_least}
 use Rattle.superblock.specs.declared.table.Table.{Table}
 use Rattle.superblock.specs.Tables.{state_at}
 use Rattle.superblock.specs.Cases.{HasWholeSectors, Lost}
@@ -103,7 +103,7 @@ module _ (spellings : Spellings) (devices : ℕ) (table : Table) (number : ℕ) 
     own_whole : (row member : ℕ) → row < row_count table → member < table.geometry.members → IsTrusted devices table (readable h) row member
         → length (sector_of (disk_of (readable h member)) (FIRST_ROW + row)) ≡ 512
     own_whole row member below within trusted =
-        let least = cond_below member table.geometry.members (FIRST_ROW + row_count table) JOURNAL_SECTORS within in
+        let least = member_least table.geometry member within in
         whole member (FIRST_ROW + row) (omega (arith, below, least, trusted.live.long_enough))
 
     -- and so has a sector of the last entry

@@ -11,7 +11,7 @@ use Rattle.superblock.specs.NextTables.{slots_of}
 use Rattle.stripe_journal.specs.declared.seal.Seal.{Seal}
 use Rattle.stripe_journal.specs.Body.{place_by_seal}
 use Rattle.stripe_journal.specs.Entries.{body_start}
-use Rattle.stripe_journal.specs.Forms.{held_before, holds, rank}
+use Rattle.stripe_journal.specs.Forms.{held_before, holds, rank, rows_in}
 use Rattle.stripe_journal.specs.OneEntry.{HasThisEntry, IsNextOn}
 use Rattle.stripe_journal.specs.Seals.{row_at}
 use Rattle.degraded.specs.RowValue.{AreSound, Rows, logical_list, value}
@@ -65,7 +65,7 @@ IsAt HasSeal table h journal seal body = HasThisEntry table.id table.geometry (s
 
 -- an entry of a seal has as many sectors as its rows hold, in a set with so many members
 abbrev pub IsBodyLong : (members : ℕ) → Seal → (body : List Bytes) → Type 0
-IsBodyLong members seal body = length body ≡ held_before members seal.form (length seal.rows.items)
+IsBodyLong members seal body = length body ≡ held_before members seal.form (length (rows_in seal.form))
 
 -- the sector that a body has for a member in the i-th row, where that holds it
 abbrev pub in_body : (members : ℕ) → Seal → (body : List Bytes) → (i member : ℕ) → Bytes
@@ -80,11 +80,11 @@ pub record IsFormedOn (list_then : List Bytes) (seal : Seal) (body : List Bytes)
   pub values : List (List Bytes)
   pub gives : written (logical_list table.geometry rows) sectors ≡ list_then
   pub among : Contains from.lists list_then
-  pub formed : IsFormed table.geometry rows sectors seal.rows.items values
-  pub body_is : (i member : ℕ) → i < length seal.rows.items → member < table.geometry.members → holds table.geometry.members seal.form i member ≡ true
+  pub formed : IsFormed table.geometry rows sectors (rows_in seal.form) values
+  pub body_is : (i member : ℕ) → i < length (rows_in seal.form) → member < table.geometry.members → holds table.geometry.members seal.form i member ≡ true
       → in_body table.geometry.members seal body i member ≡ slice_index_or (slice_index_or values i []) member []
-  pub kept : (i member : ℕ) → i < length seal.rows.items → member < table.geometry.members → holds table.geometry.members seal.form i member ≡ false
-      → slice_index_or (slice_index_or values i []) member [] ≡ value rows (row_at seal.rows.items i) member
+  pub kept : (i member : ℕ) → i < length (rows_in seal.form) → member < table.geometry.members → holds table.geometry.members seal.form i member ≡ false
+      → slice_index_or (slice_index_or values i []) member [] ≡ value rows (row_at (rows_in seal.form) i) member
   pub width : rows.members ≡ table.geometry.members
   pub bare : (row member : ℕ) → rows.entry row member ≡ None
   pub sound : AreSound rows (row_count table)
@@ -124,10 +124,10 @@ pub record IsPutBefore (n : ℕ) (seal : Seal) (body : List Bytes) (from : PutsF
   pub writes : MayWrite from table h
   pub long : IsBodyLong table.geometry.members seal body
   pub on_journals : (journal : ℕ) → table.geometry.members ≤ journal → CountsOn table journal → HasThisEntry table.id table.geometry (seen h journal) seal body
-  pub on_members : (member i : ℕ) → member < n → member < table.geometry.members → i < length seal.rows.items
+  pub on_members : (member i : ℕ) → member < n → member < table.geometry.members → i < length (rows_in seal.form)
       → holds table.geometry.members seal.form i member ≡ true
-      → trusts (state_at table.states member) (row_at seal.rows.items i) table.position ≡ true
-      → sector_of (seen h member) (FIRST_ROW + row_at seal.rows.items i) ≡ in_body table.geometry.members seal body i member
+      → trusts (state_at table.states member) (row_at (rows_in seal.form) i) table.position ≡ true
+      → sector_of (seen h member) (FIRST_ROW + row_at (rows_in seal.form) i) ≡ in_body table.geometry.members seal body i member
 
 -- The last entry, whose number this is (0 for none), says what the members hold.
 pub record IsPut (number : ℕ) (from : PutsFrom) (table : Table) (h : History) : Type 0 where

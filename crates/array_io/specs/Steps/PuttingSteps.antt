@@ -11,7 +11,7 @@ use Rattle.stripe_journal.specs.declared.entry.Entry.{Entry}
 use Rattle.stripe_journal.specs.declared.seal.Seal.{Seal}
 use Rattle.stripe_journal.specs.Body.{seal_place}
 use Rattle.stripe_journal.specs.Entries.{body_of, body_start, form_of, numbers_of, row_mask, sector_at}
-use Rattle.stripe_journal.specs.Forms.{has_bit, holds}
+use Rattle.stripe_journal.specs.Forms.{has_bit, holds, rows_in}
 use Rattle.stripe_journal.specs.Seals.{row_at}
 use Rattle.stripe_journal.specs.Spelling.{seal_sector}
 use Rattle.array_io.specs.declared.array.put.Part.{Part}
@@ -54,10 +54,10 @@ rows_held entry = record { rows = numbers_of entry; held = λ i member. has_bit 
 
 -- the entry has the rows of the seal, and holds of them what the seal says, and they are rows of the set
 pub record HasItsRows (table : Table) (seal : Seal) (entry : Entry) : Type 0 where
-  pub same : numbers_of entry ≡ seal.rows.items
-  pub held : (i member : ℕ) → i < length seal.rows.items → member < table.geometry.members
+  pub same : numbers_of entry ≡ rows_in seal.form
+  pub held : (i member : ℕ) → i < length (rows_in seal.form) → member < table.geometry.members
       → holds table.geometry.members (form_of entry) i member ≡ holds table.geometry.members seal.form i member
-  pub below : (i : ℕ) → i < length seal.rows.items → row_at seal.rows.items i < row_count table
+  pub below : (i : ℕ) → i < length (rows_in seal.form) → row_at (rows_in seal.form) i < row_count table
 
 -- what the slot is: a journal, or for the rows a member
 abbrev pub FitsPart : Part → Table → Seal → Entry → (slot : ℕ) → Type 0

@@ -3,13 +3,13 @@ ghost use Rattle.std.specs.Prelude.{◌≡◌, ◌≤◌, ◌<◌, ◌+◌, ◌^
 ghost use Rattle.std.specs.List.Sorted.{IsStrictlyIncreasing};
 ghost use Rattle.sector_model.specs.declared.calls.TheConstants.{GREATEST_COUNT};
 ghost use Rattle.stripe_journal.specs.Entries.{form_of, numbers_of, row_mask};
+ghost use Rattle.stripe_journal.specs.Forms.{rows_in};
 ghost use Rattle.array_io.specs.Believed.ArrayCalls.{Commits, MayCommit};
 ghost use Rattle.array_io.specs.Believed.OpenArray.{IsHonest, array_view};
 
 use super::put::{put_on_journals, put_on_members};
 use crate::Array;
 use crate::forming::form_rows;
-use arrayvec::ArrayVec;
 use sector_model::{Bank, GREATEST_COUNT, Refusal, Sector};
 use stripe_journal::{Entry, Seal};
 use superblock::Table;
@@ -50,17 +50,12 @@ fn next_seal(table: &Table, number: u64, entry: &Entry) -> Seal
     requires held { (i : ℕ) → i < length (numbers_of entry.now) → 2 ≤ count_ones (row_mask entry.now i) }
     ensures id { result.id ≡ table.now.id }
     ensures number { result.number ≡ number + 1 }
-    ensures rows { result.rows.items ≡ numbers_of entry.now }
+    ensures rows { rows_in result.form ≡ numbers_of entry.now }
     ensures form { result.form ≡ form_of entry.now }
 {
-    let mut rows = ArrayVec::new();
-    for i in 0..entry.len() {
-        rows.push(entry.row(i));
-    }
     Seal {
         id: table.id,
         number: number + 1,
-        rows,
         form: entry.form(),
     }
 }

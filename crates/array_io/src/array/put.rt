@@ -2,7 +2,8 @@
 ghost use Rattle.std.specs.Prelude.{◌≡◌, ◌≢◌, ◌<◌, ◌≤◌, ◌+◌, ◌++◌, ◌↔◌, ℕ, [], ◌∷◌, false, length};
 ghost use Rattle.sector_model.specs.Bank.{IsLater};
 ghost use Rattle.sector_model.specs.Calls.{Flush, Write, writes_from};
-ghost use Rattle.layout_map.specs.declared.sizes.TheConstants.{JOURNAL_SECTORS};
+ghost use Rattle.layout_map.specs.Formats.{journal_sectors};
+ghost use Rattle.layout_map.specs.declared.sizes.TheConstants.{FIRST_BODY};
 ghost use Rattle.stripe_journal.specs.Body.{seal_place};
 ghost use Rattle.stripe_journal.specs.Entries.{body_of, body_start, numbers_of};
 ghost use Rattle.stripe_journal.specs.Spelling.{seal_sector};
@@ -193,9 +194,9 @@ pub fn done_or_fail_slot<B: Bank>(
     }
 }
 
-// Writes the body of an entry to a journal, a slot of the bank with 520 sectors at least where its device is up
-// (conditions), sector after sector, and makes it safe by one flush. `Stop::Down` names the journal, `Stop::Worn` says
-// that the count of device calls stands at 2^62.
+// Writes the body of an entry to a journal, a slot of the bank with as many sectors as a journal of the set's format
+// has at least where its device is up (conditions), sector after sector, and makes it safe by one flush. `Stop::Down`
+// names the journal, `Stop::Worn` says that the count of device calls stands at 2^62.
 fn put_body<B: Bank>(
     bank: &mut B,
     journal: u8,
@@ -204,7 +205,8 @@ fn put_body<B: Bank>(
     geometry: &Geometry,
 ) -> Result<(), Stop>
     requires device { journal < (B.panel bank.old).devices }
-    requires within { (B.panel bank.old).down journal ≡ false → JOURNAL_SECTORS ≤ (B.panel bank.old).sectors journal }
+    requires within { (B.panel bank.old).down journal ≡ false
+        → journal_sectors geometry.now.format ≤ (B.panel bank.old).sectors journal }
     ensures honest { B.honest bank.old ↔ B.honest bank.new }
     ensures puts { PutsCalls (B.honest bank.old) journal
         (writes_from journal (body_start seal.now.number) (body_of geometry.now.members entry.now) ++ Flush journal
@@ -215,10 +217,11 @@ fn put_body<B: Bank>(
     flush_device(bank, journal)
 }
 
-// Writes a seal to a journal and makes it safe by one flush. Conditions and errors as of `put_body`.
+// Writes a seal to a journal, a slot of the bank with more sectors than its seals' where its device is up (conditions),
+// and makes it safe by one flush. Errors as of `put_body`.
 fn put_seal<B: Bank>(bank: &mut B, journal: u8, seal: &Seal) -> Result<(), Stop>
     requires device { journal < (B.panel bank.old).devices }
-    requires within { (B.panel bank.old).down journal ≡ false → JOURNAL_SECTORS ≤ (B.panel bank.old).sectors journal }
+    requires within { (B.panel bank.old).down journal ≡ false → FIRST_BODY ≤ (B.panel bank.old).sectors journal }
     ensures honest { B.honest bank.old ↔ B.honest bank.new }
     ensures puts { PutsCalls (B.honest bank.old) journal
         (Write journal (seal_place seal.now.number) (seal_sector seal.now) ∷ Flush journal ∷ [])

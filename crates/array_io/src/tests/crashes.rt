@@ -221,7 +221,7 @@ fn have_equal_entries(image: &Image, seal: &Seal) -> bool {
     if sector_in(image, 3, 2 + half) != sector_in(image, 4, 2 + half) {
         return false;
     }
-    for i in 0..3 * seal.rows.len() {
+    for i in 0..3 * seal.form.rows().len() {
         let at = 8 + 256 * half + i;
         if sector_in(image, 3, at) != sector_in(image, 4, at) {
             return false;

@@ -13,7 +13,7 @@ ghost use Rattle.set_commands.specs.Serving.{IsEarly};
 
 use crate::script::run_script;
 use array_io::Array;
-use layout_map::{FIRST_ROW, Geometry, JOURNAL_SECTORS};
+use layout_map::{FIRST_ROW, Format, Geometry};
 use recovery::make;
 use sector_model::{Bank, Image, MemBank, Plan, Refusal, Sector};
 use std::alloc::{AllocError, Global};
@@ -89,12 +89,13 @@ fn fresh_image(alloc: Global) -> Result<Image, AllocError>
     ensures slots { IfOk result (λ image. vec_len image.slots ≡ 5) }
     ensures devices { IfOk result (λ image. map sectors_in image.slots.items ≡ fresh_devices) }
 {
+    let journal = Format::One.journal_sectors();
     let slots = vec![in alloc;
         Some(zero_device(alloc, MEMBER_SECTORS)?),
         Some(zero_device(alloc, MEMBER_SECTORS)?),
         Some(zero_device(alloc, MEMBER_SECTORS)?),
-        Some(zero_device(alloc, JOURNAL_SECTORS)?),
-        Some(zero_device(alloc, JOURNAL_SECTORS)?),
+        Some(zero_device(alloc, journal)?),
+        Some(zero_device(alloc, journal)?),
     ]?;
     Ok(Image { slots })
 }

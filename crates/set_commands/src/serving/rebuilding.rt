@@ -13,15 +13,13 @@ ghost use Rattle.set_commands.specs.Steps.{Rebuilds};
 
 use super::open_on;
 use crate::{Meter, ProgressBank};
+use layout_map::REBUILD_ROWS;
 use rebuild::Progress;
 use report::replies::write_progress;
 use sector_model::{Bank, Refusal};
 use std::io::Write;
 use stripe_journal::Entry;
 use volume_table::Store;
-
-// How many rows a step of a rebuild does.
-const STEP_ROWS: u64 = 64;
 
 /// Makes steps of 64 rows of the rebuild of the set of this id, and writes how far the last one came: so many steps,
 /// but one at least, or where no number is given as many as it takes, and none once the rebuild is complete.
@@ -82,22 +80,23 @@ fn rebuild_rows<B: Bank>(store: &mut Store<B>, steps: Option<u64>) -> Result<Pro
 {
     // Each step does a row at least, so that no rebuild takes more steps than rows.
     let most = steps.unwrap_or(store.array.table.geometry.rows());
+    let rows = store.array.table.geometry.format.rebuild_rows();
     for _ in 1..most {
-        let progress = store.rebuild_step(STEP_ROWS)?;
+        let progress = store.rebuild_step(rows)?;
         match progress {
             Progress::Position(_) => {}
             Progress::Complete => return Ok(progress),
         }
     }
-    store.rebuild_step(STEP_ROWS)
+    store.rebuild_step(rows)
 }
 
-/// The most rows that so many steps of a rebuild do; where no number is given, 2^64 - 1.
+/// The most rows that so many steps of a rebuild of a set of format 1 do; where no number is given, 2^64 - 1.
 pub fn most_rows(steps: Option<u64>) -> u64
     ensures { result ≡ most_rows_of steps }
 {
     match steps {
-        Some(steps) => steps.max(1).saturating_mul(STEP_ROWS),
+        Some(steps) => steps.max(1).saturating_mul(REBUILD_ROWS),
         None => u64::MAX,
     }
 }

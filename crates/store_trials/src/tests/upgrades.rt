@@ -103,12 +103,12 @@ fn check_entry(rt: &impl Abort, image: &Image, slot: usize) {
     let seal = last_sealed_in(&image.slots[slot], &ID, &geometry).expect(rt, "an entry is sealed");
     same(
         rt,
-        (slot, seal.rows.as_slice() == ROWS.as_slice()),
+        (slot, seal.form.rows().as_slice() == ROWS.as_slice()),
         (slot, true),
     );
-    match seal.form {
-        Form::Whole => same(rt, (slot, false), (slot, true)),
-        Form::Held(masks) => same(rt, (slot, masks), (slot, MASKS)),
+    match &seal.form {
+        Form::Whole(_) => same(rt, (slot, false), (slot, true)),
+        Form::Held(_, masks) => same(rt, (slot, *masks), (slot, MASKS)),
     }
 }
 

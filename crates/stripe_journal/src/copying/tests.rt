@@ -21,9 +21,10 @@ const CALLS: u64 = 15;
 
 // Copies the entry of the seal that a sector spells from the first journal to the second.
 fn copy(rt: &impl Abort, bank: &mut MemBank, sector: &Sector) -> Result<(), Stop> {
-    check_room(rt, bank, FROM);
-    check_room(rt, bank, TO);
-    copy_entry(bank, FROM, TO, &read_seal(rt, sector), &set(rt))
+    let geometry = set(rt);
+    check_room(rt, bank, FROM, geometry.format.journal_sectors());
+    check_room(rt, bank, TO, geometry.format.journal_sectors());
+    copy_entry(bank, FROM, TO, &read_seal(rt, sector), &geometry)
 }
 
 // Two journals, of which the first has the entry of this number, once the entry was copied to the second: the copy

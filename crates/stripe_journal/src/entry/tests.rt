@@ -27,8 +27,8 @@ fn is_full(sector: Option<&Sector>, byte: Option<u8>) -> bool {
 // The first masks of an entry.
 fn first_masks(entry: &Entry) -> Option<[u8; 3]> {
     match entry.form() {
-        Form::Whole => None,
-        Form::Held(masks) => Some([masks[0], masks[1], masks[2]]),
+        Form::Whole(_) => None,
+        Form::Held(_, masks) => Some([masks[0], masks[1], masks[2]]),
     }
 }
 

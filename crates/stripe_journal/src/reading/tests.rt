@@ -59,8 +59,8 @@ fn seals_stand_in_two_places(rt: HostRuntime) {
 }
 
 fn put(rt: &impl Abort, bank: &mut MemBank, at: u32, place: Place) -> Result<(), Stop> {
-    check_room(rt, bank, FROM);
     assert!(rt; at < 520);
+    check_room(rt, bank, FROM, at + 1);
     write_sector(bank, FROM, at, &sector_of(place))
 }
 

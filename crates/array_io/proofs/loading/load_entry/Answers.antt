@@ -5,8 +5,9 @@ use Rattle.std.proofs.lemmas.Result.{err_from_is_err_and}
 use Rattle.sector_model.proofs.Panels.{later_same, later_both}
 use Rattle.sector_model.proofs.Reading.{read_none, read_both}
 use Rattle.layout_map.specs.declared.sizes.TheConstants.{ENTRY_ROWS, MOST_MEMBERS}
+use Rattle.layout_map.proofs.Places.{journal_least}
 use Rattle.stripe_journal.specs.Entries.{body_start, row_mask}
-use Rattle.stripe_journal.specs.Forms.{count_held, has_bit, holds, rank}
+use Rattle.stripe_journal.specs.Forms.{count_held, has_bit, holds, rank, rows_in}
 use Rattle.stripe_journal.proofs.Masks.{before_few, before_on}
 use Rattle.degraded.proofs.Members.{up_before}
 use Rattle.array_io.proofs.Commits.LoadingEntries.{held_more, numbers_more, read_before, sector_kept}
@@ -32,8 +33,8 @@ returns-in_err-at-clause-read g c = λ honest. read_both (c.loop-i.invariant.rea
 pub loop-i-preserved : goal.loop-i-preserved
 loop-i-preserved g c =
     let now = c.loop-i in
-    let rows = c.args.seal.now.rows.items in
-    let deref = c.deref-row-items.ensures.0 in
+    let rows = rows_in c.args.seal.now.form in
+    let deref = c.deref-row-items.ensures.0 ∙ c.rows.ensures in
     let members = c.args.geometry.now.members in
     let form = c.args.seal.now.form in
     let few : members ≤ MOST_MEMBERS = omega (arith, c.args.geometry.now.limits.members_most) in
@@ -63,13 +64,10 @@ loop-i-preserved g c =
     }
 
 pub push-requires : goal.push-requires
-push-requires g c = omega (arith, c.loop-i.invariant.count, ap length c.deref-row-items.ensures.0, c.loop-i-test.true)
+push-requires g c = omega (arith, c.loop-i.invariant.count, ap length (c.deref-row-items.ensures.0 ∙ c.rows.ensures), c.loop-i-test.true)
 
 pub load_row-requires-clause-slot : goal.load_row-requires-clause-slot
 load_row-requires-clause-slot g c = omega (arith, c.loop-i.invariant.panel.devices, c.requires.slot)
-
-pub load_row-requires-clause-members : goal.load_row-requires-clause-members
-load_row-requires-clause-members g c = c.args.geometry.now.limits.members_most
 
 pub load_row-requires-clause-row : goal.load_row-requires-clause-row
 load_row-requires-clause-row g c = omega (arith, ap length c.push.ensures.numbers, length-append {A = ℕ}, c.loop-i.invariant.count)
@@ -84,7 +82,7 @@ returns-in_err-at-clause-held g c = λ i member below within. rw (err_from_is_er
 
 pub returns-clause-held : goal.returns-clause-held
 returns-clause-held g c = λ k member below within.
-    c.loop-i.invariant.held k member (omega (arith, below, ap length c.deref-row-items.ensures.0, c.loop-i-test.false)) within
+    c.loop-i.invariant.held k member (omega (arith, below, ap length (c.deref-row-items.ensures.0 ∙ c.rows.ensures), c.loop-i-test.false)) within
 
 pub load_row-requires-clause-within : goal.load_row-requires-clause-within
 load_row-requires-clause-within g c = λ up.
@@ -129,11 +127,11 @@ returns-clause-read g c = c.loop-i.invariant.read
 
 pub returns-clause-numbers : goal.returns-clause-numbers
 returns-clause-numbers g c = c.loop-i.invariant.numbers
-    ∙ take_all c.loop-i.i c.args.seal.now.rows.items (omega (arith, ap length c.deref-row-items.ensures.0, c.loop-i-test.false))
+    ∙ take_all c.loop-i.i (rows_in c.args.seal.now.form) (omega (arith, ap length (c.deref-row-items.ensures.0 ∙ c.rows.ensures), c.loop-i-test.false))
 
 pub returns-clause-loaded : goal.returns-clause-loaded
 returns-clause-loaded g c = λ k member honest below within on.
-    c.loop-i.invariant.loaded k member honest (omega (arith, below, ap length c.deref-row-items.ensures.0, c.loop-i-test.false)) within on
+    c.loop-i.invariant.loaded k member honest (omega (arith, below, ap length (c.deref-row-items.ensures.0 ∙ c.rows.ensures), c.loop-i-test.false)) within on
 
 pub returns-clause-others_stay : goal.returns-clause-others_stay
 returns-clause-others_stay g c = λ other honest apart. c.loop-i.invariant.stays other honest
@@ -151,11 +149,13 @@ pub load_row-requires-clause-end : goal.load_row-requires-clause-end
 load_row-requires-clause-end g c =
     let members = c.args.geometry.now.members in
     let form = c.args.seal.now.form in
-    let below : c.loop-i.i + 1 ≤ ENTRY_ROWS = omega (arith, ap length c.deref-row-items.ensures.0, c.loop-i-test.true, c.args.seal.now.allowed.rows_most) in
+    let below : c.loop-i.i + 1 ≤ ENTRY_ROWS =
+    omega (arith, ap length (c.deref-row-items.ensures.0 ∙ c.rows.ensures), c.loop-i-test.true, c.args.seal.now.allowed.rows_most) in
     omega (
       arith,
       c.loop-i.invariant.place,
       before_on members form c.loop-i.i,
       before_few members form (c.loop-i.i + 1) c.args.geometry.now.limits.members_most
           below,
+      journal_least c.args.geometry.now.format,
     )

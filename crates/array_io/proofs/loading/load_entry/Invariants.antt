@@ -3,21 +3,22 @@ use Rattle.sector_model.specs.Bank.{IsLater}
 use Rattle.sector_model.specs.History.{is_down, seen, sector_of}
 use Rattle.sector_model.specs.Reads.{HasRead}
 use Rattle.stripe_journal.specs.Entries.{body_start, form_of, numbers_of, sector_at}
-use Rattle.stripe_journal.specs.Forms.{held_before, holds, rank}
+use Rattle.stripe_journal.specs.Forms.{held_before, holds, rank, rows_in}
 use Rattle.array_io.proofs.loading.load_entry.Given as goal
 
 abbrev pub invariant-loop-i : goal.invariant-loop-i
 invariant-loop-i g l = record {
-  place : l.at ≡ body_start l.seal.number + held_before l.members l.seal.form l.i;
-  numbers : numbers_of l.entry ≡ take l.i l.seal.rows.items;
+  place : l.at ≡ body_start l.seal.number + held_before l.geometry.members l.seal.form l.i;
+  numbers : numbers_of l.entry ≡ take l.i (rows_in l.seal.form);
   count : length (numbers_of l.entry) ≡ l.i;
   panel : IsLater (g.B.Bank.panel l.initial.bank) (g.B.Bank.panel l.bank);
   honest : g.B.Bank.honest l.initial.bank → g.B.Bank.honest l.bank;
   still : g.B.Bank.honest l.bank → g.B.Bank.honest l.initial.bank;
   read : g.B.Bank.honest l.initial.bank → HasRead (g.B.Bank.history l.initial.bank) (g.B.Bank.history l.bank);
   stays : (device : ℕ) → g.B.Bank.honest l.initial.bank → is_down (g.B.Bank.history l.bank) device ≡ is_down (g.B.Bank.history l.initial.bank) device;
-  held : (k member : ℕ) → k < l.i → member < l.members → holds l.members (form_of l.entry) k member ≡ holds l.members l.seal.form k member;
-  loaded : (k member : ℕ) → g.B.Bank.honest l.initial.bank → k < l.i → member < l.members → holds l.members l.seal.form k member ≡ true
+  held : (k member : ℕ) → k < l.i → member < l.geometry.members
+      → holds l.geometry.members (form_of l.entry) k member ≡ holds l.geometry.members l.seal.form k member;
+  loaded : (k member : ℕ) → g.B.Bank.honest l.initial.bank → k < l.i → member < l.geometry.members → holds l.geometry.members l.seal.form k member ≡ true
       → sector_at l.entry k member
-      ≡ sector_of (seen (g.B.Bank.history l.initial.bank) l.journal) (body_start l.seal.number + rank l.members l.seal.form k member);
+      ≡ sector_of (seen (g.B.Bank.history l.initial.bank) l.journal) (body_start l.seal.number + rank l.geometry.members l.seal.form k member);
 }

@@ -3,6 +3,7 @@ use Rattle.std.proofs.lemmas.Result.{err_from_is_err_and}
 use Rattle.sector_model.proofs.Panels.{later_same, later_both}
 use Rattle.sector_model.proofs.Reading.{read_none, read_one, read_both}
 use Rattle.layout_map.specs.declared.sizes.TheConstants.{ENTRY_ROWS, MOST_MEMBERS}
+use Rattle.layout_map.proofs.Places.{journal_most}
 use Rattle.stripe_journal.specs.declared.form.Form.{Form}
 use Rattle.stripe_journal.specs.Forms.{count_held, holds}
 use Rattle.stripe_journal.proofs.Entries.{sector_elsewhere}
@@ -34,7 +35,7 @@ loop-member-preserved g c =
     let few = c.args.entry.now.few in
     let below : c.args.i < ENTRY_ROWS = omega arith in
     let within : c.loop-member.member < MOST_MEMBERS = omega arith in
-    let in_row = holds c.args.members c.args.seal.now.form c.args.i in
+    let in_row = holds c.args.geometry.now.members c.args.seal.now.form c.args.i in
     elim c.if-holds.branch [
       | then-holds+in_ok-read_sector w ↦
           let held : in_row c.loop-member.member ≡ true = sym c.holds.ensures ∙ w.if-holds.true in
@@ -75,7 +76,7 @@ pub sector_mut-requires-clause-row : goal.sector_mut-requires-clause-row
 sector_mut-requires-clause-row g c = omega (arith, ap length c.loop-member.invariant.numbers, c.requires.row)
 
 pub sector_mut-requires-clause-member : goal.sector_mut-requires-clause-member
-sector_mut-requires-clause-member g c = omega (arith, c.requires.members, c.loop-member-test.true)
+sector_mut-requires-clause-member g c = omega (arith, c.args.geometry.now.limits.members_most, c.loop-member-test.true)
 
 pub read_sector-requires-clause-device : goal.read_sector-requires-clause-device
 read_sector-requires-clause-device g c = omega (arith, c.loop-member.invariant.panel.devices, c.requires.slot)
@@ -83,7 +84,7 @@ read_sector-requires-clause-device g c = omega (arith, c.loop-member.invariant.p
 pub read_sector-requires-clause-within : goal.read_sector-requires-clause-within
 read_sector-requires-clause-within g c = λ up.
     let was = c.requires.within (up_before c.args.journal c.loop-member.invariant.panel up) in
-    let in_row = holds c.args.members c.args.seal.now.form c.args.i in
+    let in_row = holds c.args.geometry.now.members c.args.seal.now.form c.args.i in
     let held : in_row c.loop-member.member ≡ true = sym c.holds.ensures ∙ c.if-holds.true in
     omega (
       arith,
@@ -91,20 +92,26 @@ read_sector-requires-clause-within g c = λ up.
       c.loop-member.invariant.panel.sectors c.args.journal,
       c.loop-member.invariant.place,
       c.requires.end,
-      count_beyond in_row c.loop-member.member c.args.members held c.loop-member-test.true,
+      count_beyond in_row c.loop-member.member c.args.geometry.now.members held c.loop-member-test.true,
     )
 
 pub sector_mut-requires-clause-held : goal.sector_mut-requires-clause-held
 sector_mut-requires-clause-held g c =
-    let within : c.loop-member.member < MOST_MEMBERS = omega (arith, c.requires.members, c.loop-member-test.true) in
-    ap (λ (f : Form). holds c.args.members f c.args.i c.loop-member.member) c.loop-member.invariant.form
+    let within : c.loop-member.member < MOST_MEMBERS = omega (arith, c.args.geometry.now.limits.members_most, c.loop-member-test.true) in
+    ap (λ (f : Form). holds c.args.geometry.now.members f c.args.i c.loop-member.member) c.loop-member.invariant.form
     ∙ c.requires.masked c.loop-member.member within ∙ sym c.holds.ensures ∙ c.if-holds.true
 
 pub overflow_add-at : goal.overflow_add-at
 overflow_add-at g c =
-    let in_row = holds c.args.members c.args.seal.now.form c.args.i in
+    let in_row = holds c.args.geometry.now.members c.args.seal.now.form c.args.i in
     let held : in_row c.loop-member.member ≡ true = sym c.holds.ensures ∙ c.if-holds.true in
-    omega (arith, c.loop-member.invariant.place, c.requires.end, count_beyond in_row c.loop-member.member c.args.members held c.loop-member-test.true)
+    omega (
+      arith,
+      c.loop-member.invariant.place,
+      c.requires.end,
+      count_beyond in_row c.loop-member.member c.args.geometry.now.members held c.loop-member-test.true,
+      journal_most c.args.geometry.now.format,
+    )
 
 pub returns-in_err-read_sector-clause-panel : goal.returns-in_err-read_sector-clause-panel
 returns-in_err-read_sector-clause-panel g c = later_both _ _ _ c.loop-member.invariant.panel c.read_sector.ensures.panel
@@ -127,7 +134,7 @@ returns-in_err-read_sector-clause-loaded g c = λ member honest within on. rw (e
 
 pub returns-in_err-read_sector-clause-others : goal.returns-in_err-read_sector-clause-others
 returns-in_err-read_sector-clause-others g c = λ other member apart wide.
-    let within : c.loop-member.member < MOST_MEMBERS = omega (arith, c.requires.members, c.loop-member-test.true) in
+    let within : c.loop-member.member < MOST_MEMBERS = omega (arith, c.args.geometry.now.limits.members_most, c.loop-member-test.true) in
     sector_elsewhere c.loop-member.entry c.args.i c.loop-member.member other member _ within wide (λ same. absurd (apart same))
     ∙ c.loop-member.invariant.others other member apart wide
 
@@ -156,8 +163,8 @@ returns-clause-loaded g c = λ member honest within on. c.loop-member.invariant.
 
 pub returns-clause-beyond : goal.returns-clause-beyond
 returns-clause-beyond g c =
-    let end : c.loop-member.member ≡ c.args.members = omega arith in
-    c.loop-member.invariant.place ∙ ap (λ (n : ℕ). c.args.first + count_held (holds c.args.members c.args.seal.now.form c.args.i) n) end
+    let end : c.loop-member.member ≡ c.args.geometry.now.members = omega arith in
+    c.loop-member.invariant.place ∙ ap (λ (n : ℕ). c.args.first + count_held (holds c.args.geometry.now.members c.args.seal.now.form c.args.i) n) end
 
 pub returns-clause-form : goal.returns-clause-form
 returns-clause-form g c = c.loop-member.invariant.form

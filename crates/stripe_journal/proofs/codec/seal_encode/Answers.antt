@@ -2,15 +2,16 @@ use Rattle.std.proofs.Common.{rules, ℕ, ◌≤◌, List, length, ap, ◌∙◌
 use Rattle.std.specs.List.{flat_map}
 use Rattle.layout_map.specs.declared.sizes.TheConstants.{ENTRY_ROWS}
 use Rattle.byteorder.specs.Endian.{little_bytes}
+use Rattle.stripe_journal.specs.Forms.{rows_in}
 use Rattle.stripe_journal.proofs.Spellings.{spelled, started_none, written, length-numbers}
 use Rattle.stripe_journal.proofs.codec.seal_encode.Goals as goal
 
 pub returns : goal.returns
 returns c =
     let seal = c.args.seal.now in
-    let rows = c.as_slice-rows.ensures.value in
-    let few : length seal.rows.items ≤ ENTRY_ROWS = omega (arith, c.as_slice-rows.ensures.fits, ap length rows) in
-    spelled seal.id seal.rows.items c.fill.new.self _ _ _ _ _ _ _ _ seal.number seal.form
+    let rows = c.as_slice-rows.ensures.value ∙ c.rows.ensures in
+    let few : length (rows_in seal.form) ≤ ENTRY_ROWS = omega (arith, c.as_slice-rows.ensures.fits, ap length rows) in
+    spelled seal.id (rows_in seal.form) c.fill.new.self _ _ _ _ _ _ _ _ seal.number seal.form
     (c.fill.ensures.after (λ y same. cc) ∙ started_none (length c.args.to.now) c.told-to)
     (search rules)
     few

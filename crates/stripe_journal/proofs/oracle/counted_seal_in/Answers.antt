@@ -1,5 +1,8 @@
-use Rattle.std.proofs.Common.{rules, length, ap, arith}
-use Rattle.stripe_journal.proofs.CountedSeals.{none_beyond_last, none_in_nothing}
+use Rattle.std.proofs.Common.{rules, ◌≡◌, ℕ, length, ap, arith, subst}
+use Rattle.stripe_journal.specs.declared.seal.Seal.{Seal}
+use Rattle.stripe_journal.specs.LastSealed.{Belongs}
+use Rattle.stripe_journal.specs.Spelling.{seal_sector}
+use Rattle.stripe_journal.proofs.CountedSeals.{none_beyond_last, none_counted_there, none_in_nothing}
 use Rattle.stripe_journal.proofs.oracle.counted_seal_in.Goals as goal
 
 pub returns-in-None-get-clause-none : goal.returns-in-None-get-clause-none
@@ -13,4 +16,7 @@ pub returns-in-Some-get-clause-some : goal.returns-in-Some-get-clause-some
 returns-in-Some-get-clause-some c = search rules
 
 pub returns-in-Some-get-clause-none : goal.returns-in-Some-get-clause-none
-returns-in-Some-get-clause-none c = search rules
+returns-in-Some-get-clause-none c = λ none.
+    none_counted_there _ _ _ _ c.in-Some-get.sector.now (search rules)
+    (subst (λ (place : ℕ). (seal : Seal) → c.in-Some-get.sector.now ≡ seal_sector seal → ¬ Belongs c.args.id.now c.args.geometry.now place seal)
+    c.from.ensures (c.counted.ensures.none none))

@@ -1,5 +1,6 @@
 use Rattle.std.proofs.Common.{arith, true, false, ◌≡◌, ◌+◌, ◌∙◌, ℕ, List, ap, subst}
 use Rattle.std.proofs.lemmas.Result.{err_from_is_err_and}
+use Rattle.layout_map.proofs.Places.{journal_least}
 use Rattle.sector_model.specs.Calls.{Made, writes_from}
 use Rattle.sector_model.specs.History.{Bytes}
 use Rattle.sector_model.proofs.Panels.{later_both}
@@ -14,7 +15,14 @@ write_row-requires-clause-end g c =
     let members = c.args.geometry.now.members in
     let form = form_of c.args.entry.now in
     let few = before_few members form (c.loop-i.i + 1) c.args.geometry.now.limits.members_most (omega (arith, c.args.entry.now.few)) in
-    omega (arith, c.loop-i.invariant.place, few, before_on members form c.loop-i.i, ap (λ (mask : ℕ). count_held (has_bit mask) members) c.view.ensures.mask)
+    omega (
+      arith,
+      c.loop-i.invariant.place,
+      few,
+      before_on members form c.loop-i.i,
+      ap (λ (mask : ℕ). count_held (has_bit mask) members) c.view.ensures.mask,
+      journal_least c.args.geometry.now.format,
+    )
 
 pub returns-in_err-at-clause-made : goal.returns-in_err-at-clause-made
 returns-in_err-at-clause-made g c = λ honest.

@@ -1,6 +1,8 @@
-use Rattle.std.proofs.Common.{arith, rules, ◌<◌, refl}
+use Rattle.std.proofs.Common.{arith, false, inl, inr, ◌≡◌, ◌<◌, refl}
+use Rattle.std.proofs.lemmas.Bool.{both_ways, cases_Bool}
 use Rattle.std.proofs.lemmas.Result.{err_from_is_err_and}
-use Rattle.layout_map.specs.declared.sizes.TheConstants.{JOURNAL_SECTORS}
+use Rattle.layout_map.proofs.Places.{journal_most}
+use Rattle.layout_map.specs.Formats.{journal_sectors}
 use Rattle.sector_model.proofs.Panels.{later_both}
 use Rattle.stripe_journal.specs.Forms.{has_bit}
 use Rattle.stripe_journal.proofs.Entries.{held_short, held_then, lacking_then}
@@ -11,9 +13,14 @@ use Rattle.stripe_journal.proofs.writing.write_row.Goals as goal
 pub write_sector-requires-clause-within : goal.write_sector-requires-clause-within
 write_sector-requires-clause-within g c = λ up.
     let held = c.in-Some.ensures.some.0 in
-    let below = count_beyond (has_bit c.args.row.now.mask) c.loop-member.member c.args.members held c.loop-member-test.true in
-    let at : c.loop-member.at < JOURNAL_SECTORS = omega (arith, c.loop-member.invariant.place, c.requires.end, below) in
-    search (rules, arith)
+    let below = count_beyond (has_bit c.args.row.now.mask) c.loop-member.member c.args.geometry.now.members held c.loop-member-test.true in
+    let at : c.loop-member.at < journal_sectors c.args.geometry.now.format = omega (arith, c.loop-member.invariant.place, c.requires.end, below) in
+    let was_up : (g.B.Bank.panel c.args.bank.now).down c.args.dev ≡ false =
+    elim (cases_Bool ((g.B.Bank.panel c.args.bank.now).down c.args.dev)) [
+      | inl was_down ↦ absurd (both_ways _ up (c.loop-member.invariant.panel.down c.args.dev was_down))
+      | inr was_up ↦ was_up
+    ] in
+    omega (arith, at, c.requires.within was_up, c.loop-member.invariant.panel.sectors c.args.dev)
 
 pub returns-in_err-write_sector-clause-made : goal.returns-in_err-write_sector-clause-made
 returns-in_err-write_sector-clause-made g c = λ honest.
@@ -29,7 +36,8 @@ overflow_add-at g c =
       arith,
       c.loop-member.invariant.place,
       c.requires.end,
-      count_beyond (has_bit c.args.row.now.mask) c.loop-member.member c.args.members held
+      journal_most c.args.geometry.now.format,
+      count_beyond (has_bit c.args.row.now.mask) c.loop-member.member c.args.geometry.now.members held
           c.loop-member-test.true,
     )
 

@@ -14,6 +14,6 @@ invariant-loop-member g l = record {
   honest : g.B.Bank.honest l.initial.bank → g.B.Bank.honest l.bank;
   still : g.B.Bank.honest l.bank → g.B.Bank.honest l.initial.bank;
   made : g.B.Bank.honest l.initial.bank → (answered : Bool) (new : History)
-      → Made (writes_from l.dev l.at (held_from l.members l.row.mask l.row.sectors.now l.member)) answered (g.B.Bank.history l.bank) new
-      → Made (writes_from l.dev l.first (held_of l.members l.row.mask l.row.sectors.now)) answered (g.B.Bank.history l.initial.bank) new;
+      → Made (writes_from l.dev l.at (held_from l.geometry.members l.row.mask l.row.sectors.now l.member)) answered (g.B.Bank.history l.bank) new
+      → Made (writes_from l.dev l.first (held_of l.geometry.members l.row.mask l.row.sectors.now)) answered (g.B.Bank.history l.initial.bank) new;
 }

@@ -18,4 +18,4 @@ pub returns-then-slot-geometry-clause-fits : goal.returns-then-slot-geometry-cla
 returns-then-slot-geometry-clause-fits c = omega (arith, c.rows.ensures, rows_most c.args.geometry.now.limits)
 
 pub returns-else-slot-geometry-clause-least : goal.returns-else-slot-geometry-clause-least
-returns-else-slot-geometry-clause-least c = sym (journal_least c.args.geometry.now c.args.slot c.if-slot-geometry.false)
+returns-else-slot-geometry-clause-least c = c.journal_sectors.ensures ∙ sym (journal_least c.args.geometry.now c.args.slot c.if-slot-geometry.false)

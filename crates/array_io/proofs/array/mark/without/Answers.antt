@@ -1,5 +1,5 @@
-use Rattle.std.proofs.Common.{rules, refl, sym, arith}
-use Rattle.array_io.proofs.Marks.MarkingTable.{no_position}
+use Rattle.std.proofs.Common.{refl, sym, arith}
+use Rattle.array_io.proofs.Marks.MarkingTable.{marked_is_table, no_position}
 use Rattle.array_io.proofs.array.mark.without.Goals as goal
 
 pub returns : goal.returns
@@ -19,4 +19,7 @@ pub overflow_add-result : goal.overflow_add-result
 overflow_add-result c = omega (arith, c.requires.generation)
 
 pub invariant_of-result : goal.invariant_of-result
-invariant_of-result c = search rules
+invariant_of-result c = record {
+  id_long = c.args.table.now.id_long;
+  allowed = marked_is_table c.args.table.now c.args.dev c.requires.of_set c.requires.generation c.requires.others;
+}

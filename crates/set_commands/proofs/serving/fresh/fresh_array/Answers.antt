@@ -10,5 +10,5 @@ returns-in-Ok-clause-fresh c = made_fresh _ c.in_ok-geometry.geometry _ _ refl c
 
 -- src/serving/fresh.rt:60:1
 pub returns-in-Err-clause-err : goal.returns-in-Err-clause-err
-returns-in-Err-clause-err c = make_refused _ c.in_ok-geometry.geometry _ _ c.in-Err.unmade.refusal c.in_ok-geometry.ensures.members c.in_ok-bank.ensures.devices
-    c.in-Err.ensures.refused
+returns-in-Err-clause-err c = make_refused _ c.in_ok-geometry.geometry _ _ c.in-Err.unmade.refusal c.in_ok-geometry.ensures.format
+    c.in_ok-geometry.ensures.members c.in_ok-bank.ensures.devices c.in-Err.ensures.refused

@@ -1,8 +1,8 @@
-use Rattle.std.proofs.Common.{◌+◌, ℕ, refl, ap, arith, Ok}
+use Rattle.std.proofs.Common.{◌+◌, ℕ, refl, ap, arith, Err, Ok}
 use Rattle.std.proofs.lemmas.Result.{err_from_is_err_and}
 use Rattle.rebuild.specs.Stepping.{progress_by}
 use Rattle.set_commands.specs.Steps.{none_made}
-use Rattle.set_commands.proofs.MadeSteps.{ends_early, ends_last, none_answered, none_refused, one_more}
+use Rattle.set_commands.proofs.MadeSteps.{ends_early, ends_last, none_answered, none_refused, of_its_step, one_more}
 use Rattle.set_commands.proofs.serving.rebuilding.rebuild_rows.Goals as goal
 
 pub loop-init : goal.loop-init
@@ -24,7 +24,9 @@ loop-preserved g c =
       within = omega (arith, was.counted, c.loop-test.true);
       honest = λ honest. c.in_ok-progress.ensures.honest.0 (was.honest honest);
       still = λ honest. was.still (c.in_ok-progress.ensures.honest.1 honest);
-      made = one_more _ _ was.before _ _ _ _ _ was.honest (ap (λ p. Ok (progress_by p)) c.in-Position.is) was.made c.in_ok-progress.ensures.rebuilds;
+      made = one_more _ _ was.before _ _ _ _ _ was.honest (ap (λ p. Ok (progress_by p)) c.in-Position.is) was.made
+          (of_its_step _ _ c.args.store.now.array.table _ _ (Ok (progress_by c.in_ok-progress.progress)) c.rebuild_rows-rows.ensures
+          c.in_ok-progress.ensures.rebuilds);
     }
 
 pub returns-in_err-progress-clause-honest : goal.returns-in_err-progress-clause-honest
@@ -39,7 +41,8 @@ returns-in_err-progress-clause-rebuilds g c =
     let was = c.loop.invariant in
     rw (p.1, p.2) (ends_early _ _ c.args.steps _ _ was.before _ _ _ _ c.unwrap_or-most.ensures was.honest (omega (arith, was.counted, c.loop-test.true))
     was.made
-    c.in_err-progress.ensures.rebuilds (none_refused _))
+    (of_its_step _ _ c.args.store.now.array.table _ _ (Err c.in_err-progress.field-0.0) c.rebuild_rows-rows.ensures c.in_err-progress.ensures.rebuilds)
+    (none_refused _))
 
 pub returns-in-Complete-clause-honest : goal.returns-in-Complete-clause-honest
 returns-in-Complete-clause-honest g c = (
@@ -51,7 +54,8 @@ pub returns-in-Complete-clause-rebuilds : goal.returns-in-Complete-clause-rebuil
 returns-in-Complete-clause-rebuilds g c =
     let was = c.loop.invariant in
     ends_early _ _ c.args.steps _ _ was.before _ _ _ _ c.unwrap_or-most.ensures was.honest (omega (arith, was.counted, c.loop-test.true)) was.made
-    c.in_ok-progress.ensures.rebuilds (none_answered _ c.in-Complete.is)
+    (of_its_step _ _ c.args.store.now.array.table _ _ (Ok (progress_by c.in_ok-progress.progress)) c.rebuild_rows-rows.ensures
+    c.in_ok-progress.ensures.rebuilds) (none_answered _ c.in-Complete.is)
 
 pub returns-clause-honest : goal.returns-clause-honest
 returns-clause-honest g c = (
@@ -64,4 +68,4 @@ returns-clause-rebuilds g c =
     let was = c.loop.invariant in
     ends_last _ _ c.args.steps _ _ was.before _ _ _ _ c.unwrap_or-most.ensures c.rows.ensures was.honest
     (omega (arith, was.counted, was.within, c.loop-test.false)) was.made
-    c.rebuild_step-2.ensures.rebuilds
+    (of_its_step _ _ c.args.store.now.array.table _ _ _ c.rebuild_rows-rows.ensures c.rebuild_step-2.ensures.rebuilds)

@@ -18,8 +18,8 @@ returns-in_err-growth-clause-extends g c =
     rw (p.1, p.2) (extend_is_refused (g.B.Bank.honest before.array.bank) c.args.name.now c.args.by
     (store_view before)
     c.in_err-growth.field-0.0 c.in_default.is c.in_err-growth.ensures.listed
-    (λ sectors volumes by. c.in_err-growth.ensures.decides (extents_in shape) sectors volumes (extents_most shape.members shape.chunk shape.stripes) before.kept
-    by))
+    (λ sectors volumes by. c.in_err-growth.ensures.decides (extents_in shape) sectors volumes
+    (extents_most shape.format shape.members shape.chunk shape.stripes) before.kept by))
 
 pub returns-clause-honest : goal.returns-clause-honest
 returns-clause-honest g c = rw c.end.ensures.array c.grow-answer.ensures.honest
@@ -47,8 +47,8 @@ returns-clause-extends g c =
       true_to = λ fair. g.met.B.Bank.true_to _ (c.grow-answer.ensures.honest.0 fair);
     }
     c.in_ok-growth.ensures.used c.in_ok-growth.ensures.named c.in_ok-growth.ensures.blocks c.in_ok-growth.growth.entry.most
-    (λ sectors volumes by. c.in_ok-growth.ensures.decides (extents_in shape) sectors volumes (extents_most shape.members shape.chunk shape.stripes) before.kept
-    by))
+    (λ sectors volumes by. c.in_ok-growth.ensures.decides (extents_in shape) sectors volumes (extents_most shape.format shape.members shape.chunk shape.stripes)
+    before.kept by))
 
 pub returns-in-Some-clause-honest : goal.returns-in-Some-clause-honest
 returns-in-Some-clause-honest g c = (λ fair. fair, λ fair. fair)

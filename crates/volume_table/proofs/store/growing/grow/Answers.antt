@@ -15,7 +15,7 @@ set-requires-clause-is_table g c =
     let growth = c.args.growth in
     grown_is_table (extents_in geometry) c.args.table.now c.args.map.now c.take.new.self growth.volume growth.first
     (c.extents_for.result - c.extents_for-2.result) growth.entry
-    (extents_most geometry.members geometry.chunk geometry.stripes) c.requires.kept c.requires.may
+    (extents_most geometry.format geometry.members geometry.chunk geometry.stripes) c.requires.kept c.requires.may
     (omega (arith, c.extents_for.ensures, c.extents_for-2.ensures)) c.take.ensures
 
 pub zero_blocks-requires-clause-placed : goal.zero_blocks-requires-clause-placed
@@ -24,7 +24,7 @@ zero_blocks-requires-clause-placed g c =
     let growth = c.args.growth in
     grown_is_placed (extents_in geometry) c.args.table.now c.args.map.now c.take.new.self growth.volume growth.first
     (c.extents_for.result - c.extents_for-2.result) growth.entry
-    (extents_most geometry.members geometry.chunk geometry.stripes) c.requires.kept c.requires.may
+    (extents_most geometry.format geometry.members geometry.chunk geometry.stripes) c.requires.kept c.requires.may
     (omega (arith, c.extents_for.ensures, c.extents_for-2.ensures)) c.take.ensures
 
 pub returns-in_err-zero_blocks-clause-kept : goal.returns-in_err-zero_blocks-clause-kept
@@ -80,7 +80,7 @@ set-requires-clause-most g c =
       arith,
       c.take.ensures.extents,
       kept_sized (extents_in c.args.array.now.table.geometry) c.args.table.now c.args.map.now c.requires.kept,
-      extents_most geometry.members geometry.chunk geometry.stripes,
+      extents_most geometry.format geometry.members geometry.chunk geometry.stripes,
     )
 
 pub zero_blocks-requires-clause-sized : goal.zero_blocks-requires-clause-sized

@@ -10,7 +10,7 @@ pub set-requires-clause-is_table : goal.set-requires-clause-is_table
 set-requires-clause-is_table g c =
     let geometry = c.args.array.now.table.geometry in
     shrunk_is_table (extents_in geometry) c.args.table.now c.args.map.now c.give_back.new.self c.args.volume
-    (extents_most geometry.members geometry.chunk geometry.stripes) c.requires.kept c.requires.of_table c.give_back.ensures
+    (extents_most geometry.format geometry.members geometry.chunk geometry.stripes) c.requires.kept c.requires.of_table c.give_back.ensures
 
 pub returns-clause-kept : goal.returns-clause-kept
 returns-clause-kept g c =
@@ -28,7 +28,7 @@ set-requires-clause-most g c =
       arith,
       c.give_back.ensures.extents,
       kept_sized (extents_in geometry) c.args.table.now c.args.map.now c.requires.kept,
-      extents_most geometry.members geometry.chunk geometry.stripes,
+      extents_most geometry.format geometry.members geometry.chunk geometry.stripes,
     )
 
 pub returns-clause-honest : goal.returns-clause-honest

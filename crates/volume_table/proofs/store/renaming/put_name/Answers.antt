@@ -11,7 +11,7 @@ pub set-requires-clause-is_table : goal.set-requires-clause-is_table
 set-requires-clause-is_table g c =
     let geometry = c.args.array.now.table.geometry in
     renamed_is_table (extents_in geometry) c.args.table.now c.args.map.now c.args.renaming.volume c.args.renaming.entry
-    (extents_most geometry.members geometry.chunk geometry.stripes) c.requires.kept c.requires.may
+    (extents_most geometry.format geometry.members geometry.chunk geometry.stripes) c.requires.kept c.requires.may
 
 pub returns-clause-kept : goal.returns-clause-kept
 returns-clause-kept g c =
@@ -28,7 +28,7 @@ set-requires-clause-most g c =
     omega (
       arith,
       kept_sized (extents_in geometry) c.args.table.now c.args.map.now c.requires.kept,
-      extents_most geometry.members geometry.chunk geometry.stripes,
+      extents_most geometry.format geometry.members geometry.chunk geometry.stripes,
     )
 
 pub returns-clause-honest : goal.returns-clause-honest

@@ -1,10 +1,11 @@
 -- What holds of the files of ten slots, as one after another is made safe, where that failed, and as one after another is passed over.
-use Rattle.std.proofs.Common.{◌≡◌, ◌≢◌, ◌<◌, ◌+◌, ℕ, Bool, List, Option, arith, below_more, subst, sym}
+use Rattle.std.proofs.Common.{◌≡◌, ◌≢◌, ◌<◌, ◌+◌, ℕ, Bool, List, Option, None, Some, IfSome, arith, below_more, subst, sym}
 use Rattle.std.specs.Prelude.{Result, suc}
 use Rattle.device_files.specs.declared.FolderFault.{FolderFault}
 use Rattle.device_files.specs.declared.FolderFault.TheVariants.{NotSafe}
 use Rattle.device_files.specs.declared.slot_files.OpenFault.{OpenFault}
-use Rattle.device_files.specs.DeviceFiles.{AreOtherFlagsKept, AreOthersKept, barred_in, file_in, flag_in}
+use Rattle.device_files.specs.BankFiles.{AreAllSafe}
+use Rattle.device_files.specs.DeviceFiles.{AreOtherFlagsKept, AreOthersKept, IsMadeSafe, WereMadeSafe, barred_in, file_in, flag_in}
 use Rattle.device_files.specs.Faults.{IsFailedOpening, IsOpenFault, IsUnsafe, PassesBelow, TellsPassed}
 use Rattle.device_files.specs.declared.Reason.{Reason}
 
@@ -36,3 +37,17 @@ pub passes_next : {E : Type 0} (contents : E → Option (List ℕ)) (barred : Li
 passes_next contents barred slot old mid new below here =
     let on : suc slot ≡ slot + 1 = omega arith in
     subst (λ (end : ℕ). PassesBelow contents barred end old new) on (mid, below, here)
+
+-- a file that was made safe, and is there, is safe
+safe_still : {F : Type 0} (tells : Bool) (told : F → List ℕ) (IsSafe HasFailed : F → Type 0) (old new : Option F) (flag : Bool)
+    → IsMadeSafe tells told IsSafe HasFailed old new flag → IfSome new IsSafe
+safe_still tells told IsSafe HasFailed None new flag is = rw is.0 tt
+safe_still tells told IsSafe HasFailed (Some old) (Some new) flag is = is.0.0
+safe_still tells told IsSafe HasFailed (Some old) None flag is = tt
+
+-- so each is that was opened
+pub all_safe : {F : Type 0} (tells : Bool) (told : F → List ℕ) (IsSafe HasFailed : F → Type 0) (Opens : (slot : ℕ) → Result (Option F) OpenFault → Type 0)
+    (files : List (Option F)) (unsynced : List Bool) (barred : List (Option Reason))
+    → WereMadeSafe tells told IsSafe HasFailed Opens files unsynced barred → AreAllSafe IsSafe files
+all_safe tells told IsSafe HasFailed Opens files unsynced barred made = λ slot under.
+    safe_still tells told IsSafe HasFailed (file_in made.opened slot) (file_in files slot) (flag_in unsynced slot) (made.made_safe slot under)

@@ -3,6 +3,7 @@ use Rattle.std.specs.Prelude.{◌≡◌, ◌≢◌, ◌⊎◌, ℕ, ◌-◌, ◌
 use Rattle.std.specs.Prelude.{if◌then◌else◌, replicate, slice_index_or, take, Option, Some, None, Result, Ok, Err}
 use Rattle.std.specs.declared.io.Error.{Error}
 use Rattle.sector_model.specs.declared.refusal.Refusal.{Refusal}
+use Rattle.sector_model.specs.History.{History}
 use Rattle.superblock.specs.declared.state.State.TheVariants.{Missing}
 use Rattle.superblock.specs.declared.table.Table.{Table}
 use Rattle.superblock.specs.NextTables.{slots_of}
@@ -173,13 +174,13 @@ slot_path folder slot = folder ++ codes "/dev" ++ decimal slot ++ codes ".img"
 abbrev pub IsLinkSynced : (IsNoLink : List ℕ → Type 0) (LeadsTo : (path folder : List ℕ) → Type 0) (IsSynced : List ℕ → Type 0) → (path : List ℕ) → Type 0
 IsLinkSynced IsNoLink LeadsTo IsSynced path = IsNoLink path ⊎ ((folder : List ℕ) × LeadsTo path folder × IsSynced folder)
 
--- by superblocks on a bank of files, which tell nothing, this is the table of the set of an id, or there is none
-abbrev pub IsTableIn : (id : List ℕ) → Option Table → Type 0
-IsTableIn id table = (old : BankView) × (new : BankView) × FindsTable (IsTrue false) id old new (Ok table)
+-- on a bank that is honest where this holds, and whose run began so, superblocks choose this table of the set of an id, or there is none
+abbrev pub IsTableIn : (honest : Type 0) (Begins : History → Type 0) (id : List ℕ) → Option Table → Type 0
+IsTableIn honest Begins id table = (old : BankView) × (new : BankView) × Begins old.history × FindsTable honest id old new (Ok table)
 
 -- what was sought so was refused for this
-abbrev pub IsNoTableIn : (id : List ℕ) → Refusal → Type 0
-IsNoTableIn id refusal = (old : BankView) × (new : BankView) × FindsTable (IsTrue false) id old new (Err refusal)
+abbrev pub IsNoTableIn : (honest : Type 0) (Begins : History → Type 0) (id : List ℕ) → Refusal → Type 0
+IsNoTableIn honest Begins id refusal = (old : BankView) × (new : BankView) × Begins old.history × FindsTable honest id old new (Err refusal)
 
 -- there is a table, of which this is a slot that it calls missing
 abbrev pub IsMissingBy : Option Table → ℕ → Type 0
@@ -187,5 +188,5 @@ IsMissingBy None slot = ⊥
 IsMissingBy (Some table) slot = (slot < slots_of table) × (state_at table.states slot ≡ Missing)
 
 -- a table that was found so calls a slot missing
-abbrev pub IsMissingIn : (id : List ℕ) → ℕ → Type 0
-IsMissingIn id slot = (table : Option Table) × IsTableIn id table × IsMissingBy table slot
+abbrev pub IsMissingIn : (honest : Type 0) (Begins : History → Type 0) (id : List ℕ) → ℕ → Type 0
+IsMissingIn honest Begins id slot = (table : Option Table) × IsTableIn honest Begins id table × IsMissingBy table slot

@@ -1,3 +1,5 @@
+pub mod BankFiles
 pub mod DeviceFiles
 pub mod Faults
+pub mod HeldFiles
 pub mod SlotCalls

@@ -8,23 +8,25 @@ ghost use Rattle.device_files.specs.DeviceFiles.{slot_path};
 ghost use Rattle.report.specs.Written.{WritesText};
 ghost use Rattle.device_files.specs.Faults.{IsFaultTold, fault_line, shortage_words, unsynced_line, words_for};
 
-mod file_refs;
 mod folders;
 mod growing;
 mod inspecting;
+mod lending;
 mod locked;
+mod memory;
 mod opening;
 mod passing;
 mod paths;
 mod reserving;
 mod slot_files;
 
-pub use file_refs::{FileRef, bank_over};
 pub use folders::{FolderSync, SystemFolders, sync_folders};
 pub use growing::Growing;
 pub use inspecting::{InspectFiles, ReadOnlyFile, bank_to_read, inspect_folder};
 use layout_map::Geometry;
+pub use lending::{BankFile, LentFile, SeenFile, bank_on, bank_to_look};
 pub use locked::{Before, DeviceFiles, Lock, Locked};
+pub use memory::HeldFile;
 pub use opening::{open_folder, refuse_unsynced};
 pub use passing::{pass_over, refuse_barred};
 use report::replies::{Answer, write_reply, write_slot_line, write_text};

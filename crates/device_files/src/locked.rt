@@ -6,7 +6,7 @@ use std::fs::{File, TryLockError};
 use std::io;
 
 /// A file that can be locked against other programs, and made safe.
-pub trait Lock {
+pub trait Lock: 'static {
     /// The file is locked to whoever opened it, until it is closed, or lies on a file system without locks.
     ghost is_ours: { Self → Type 0 };
 

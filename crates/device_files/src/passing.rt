@@ -1,22 +1,22 @@
 //! Files of a folder that are there and could not be opened: refused where they are needed, else passed over.
-ghost use Rattle.std.specs.Prelude.{◌≡◌, ◌≢◌, ◌<◌, ◌≤◌, ◌⊎◌, IfErr, IfOk, IsSome, None, OnErr, OnOk, false, true, ℕ};
+ghost use Rattle.std.specs.Prelude.{◌≡◌, ◌≢◌, ◌<◌, ◌≤◌, ◌⊎◌, IfErr, IfOk, IsSome, IsTrue, None, OnErr, OnOk};
+ghost use Rattle.std.specs.Prelude.{false, true, ℕ};
 ghost use Rattle.sector_model.specs.declared.refusal.Refusal.{Refusal};
 ghost use Rattle.sector_model.specs.declared.refusal.Refusal.TheVariants.{Memory, Worn};
 ghost use Rattle.superblock.specs.NextTables.{slots_of};
 ghost use Rattle.superblock.specs.Tables.{state_at};
 ghost use Rattle.superblock.specs.declared.state.State.TheVariants.{Missing};
+ghost use Rattle.device_files.specs.BankFiles.{AreAllSafe, BeginsWithFiles};
 ghost use Rattle.device_files.specs.DeviceFiles.{IsMissingBy, IsMissingIn, IsNoTableIn, IsTableIn, barred_in};
 ghost use Rattle.device_files.specs.declared.FolderFault.{FolderFault};
 ghost use Rattle.device_files.specs.Faults.{IsBarredIn, IsPassingFault, Passes};
 
-use super::{DeviceFiles, FolderFault, Lock, Locked, Reason, SLOTS, bank_over, words_of};
+use super::{BankFile, DeviceFiles, FolderFault, Reason, SLOTS, bank_to_look, words_of};
 use recovery::chosen_table;
 use report::replies::write_slot_line;
 use sector_model::Refusal;
 use std::alloc::Global;
-use std::fs::OpenFile;
 use std::io::Write;
-use std::os::unix::fs::FileExt;
 use superblock::{State, Table};
 
 /// Refuses the first slot from `first` on, below `end` and below 10, whose file is there and could not be opened, as
@@ -36,26 +36,25 @@ pub fn refuse_barred<G: Drop>(files: &DeviceFiles<G>, first: u8, end: u8) -> Res
 
 /// Passes over each file that is there and could not be opened, and tells that to `err` as
 /// `without dev1.img: read-only file system`: only where the set of this id, by the table that the other files choose,
-/// calls each of their slots missing.
+/// calls each of their slots missing. Those are safe (condition), and only read.
 ///
 /// `NotOpened` names the first of them of which that is not so, also where there is no such table; `Memory` where an
 /// allocation was refused, and `Worn` where the count of device calls stands at 2^62, as in `chosen_table`. Nothing is
 /// told then. A fault of `err` has no place to be told.
-pub fn pass_over<F, E: Write>(
+pub fn pass_over<F: BankFile, E: Write>(
     alloc: Global,
-    files: &DeviceFiles<Locked<F>>,
+    files: &DeviceFiles<F>,
     id: [u8; 16],
     err: &mut E,
 ) -> Result<(), FolderFault>
-where
-    F: OpenFile + FileExt + Lock + Drop,
+    requires safe { AreAllSafe F.is_safe files.now.files.items }
     ensures missing { OnOk result ((slot : ℕ) → slot < 10 → IsSome (barred_in files.now.barred slot)
-        → IsMissingIn id slot) }
+        → IsMissingIn (IsTrue F.tells) (BeginsWithFiles F.tells F.told F.left files.now.files.items) id slot) }
     ensures told { OnOk result (Passes E.contents files.now.barred err.old err.new) }
     ensures quiet { OnErr result (err.new ≡ err.old) }
     ensures fault { IfErr result (IsPassingFault files.now.barred) }
     ensures cause { IfErr result (λ fault. (refusal : Refusal) → fault ≡ FolderFault.Refused refusal → refusal ≢ Memory
-        → IsNoTableIn id refusal) }
+        → IsNoTableIn (IsTrue F.tells) (BeginsWithFiles F.tells F.told F.left files.now.files.items) id refusal) }
 {
     if refuse_barred(files, 0, SLOTS as u8).is_err() {
         let table = table_over(alloc, files, id)?;
@@ -66,18 +65,19 @@ where
 }
 
 // The table that the superblocks on the files of a folder choose for a set.
-fn table_over<F>(
+fn table_over<F: BankFile>(
     alloc: Global,
-    files: &DeviceFiles<Locked<F>>,
+    files: &DeviceFiles<F>,
     id: [u8; 16],
 ) -> Result<Option<Table>, Refusal>
-where
-    F: OpenFile + FileExt + Lock + Drop,
-    ensures found { IfOk result (IsTableIn id) }
+    requires safe { AreAllSafe F.is_safe files.now.files.items }
+    ensures found { IfOk result (IsTableIn (IsTrue F.tells)
+        (BeginsWithFiles F.tells F.told F.left files.now.files.items) id) }
     ensures err { IfErr result (λ refusal. (refusal ≡ Memory) ⊎ (refusal ≡ Worn)) }
-    ensures cause { IfErr result (λ refusal. refusal ≢ Memory → IsNoTableIn id refusal) }
+    ensures cause { IfErr result (λ refusal. refusal ≢ Memory
+        → IsNoTableIn (IsTrue F.tells) (BeginsWithFiles F.tells F.told F.left files.now.files.items) id refusal) }
 {
-    let mut bank = bank_over(alloc, files)?;
+    let mut bank = bank_to_look(alloc, files)?;
     chosen_table(&mut bank, id)
 }
 

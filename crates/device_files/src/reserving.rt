@@ -1,5 +1,5 @@
 //! Device files that a command makes, and takes back where it is not done.
-ghost use Rattle.std.specs.Prelude.{◌≡◌, ◌≢◌, ◌<◌, IfErr, IfOk, IsSome, IsSomeAnd, IsTrue, OnOk, Ok, map};
+ghost use Rattle.std.specs.Prelude.{◌≡◌, ◌≢◌, ◌<◌, IfErr, IfOk, IsSome, IsSomeAnd, IsTrue, None, OnOk, Ok, map};
 ghost use Rattle.std.specs.Prelude.{string_bytes, vec_len, ℕ};
 ghost use Rattle.device_files.specs.declared.FolderFault.{FolderFault};
 ghost use Rattle.device_files.specs.declared.locked.Before.{Before};
@@ -176,49 +176,66 @@ pub fn slot_paths(alloc: Global, folder: &str) -> Result<SlotPaths, AllocError>
     Ok(SlotPaths { paths })
 }
 
-/// Takes back what a command that was not done made of a folder's files, as it was noted: each that it created is
-/// removed and closed, and each that it lengthened is cut to the bytes that it had. Where that can't be done with one,
-/// it is done with the others all the same, and the error is the first one of the system's.
+/// Takes back what a command that was not done made of the files of a folder's slots, as it was noted: each that it
+/// created is removed and closed, and each that it lengthened is cut to the bytes that it had. Where that can't be done
+/// with one, it is done with the others all the same, and the error is the first one of the system's.
 pub fn undo<D: SlotFiles>(
     disk: &D,
     paths: &SlotPaths,
-    files: &mut DeviceFiles<D::File>,
+    before: &[Before; SLOTS],
+    files: &mut [Option<D::File>],
 ) -> io::Result<()>
-    ensures taken_back { TakesBack D.File.tells D.File.told D.File.has_failed (D.removes disk.now)
-        (map string_bytes paths.now.paths.items) files.old.files.items files.new.files.items files.old.before result }
-    ensures notes { files.new.before ≡ files.old.before }
+    ensures { TakesBack D.File.tells D.File.told D.File.has_failed (D.removes disk.now)
+        (map string_bytes paths.now.paths.items) files.old files.new before.now result }
 {
     let mut done = Ok(());
     for slot in 0..SLOTS {
-        done = done.and(undo_slot(disk, paths.paths[slot].as_str(), slot as u8, files));
+        let path = paths.paths[slot].as_str();
+        done = done.and(undo_slot(disk, path, slot, before[slot], files));
     }
     done
 }
 
-// The same of the file of a slot, which has this path.
+// The same of the file of a slot, which has this path, and of which this was noted.
 fn undo_slot<D: SlotFiles>(
     disk: &D,
     path: &str,
-    slot: u8,
-    files: &mut DeviceFiles<D::File>,
+    slot: usize,
+    before: Before,
+    files: &mut [Option<D::File>],
 ) -> io::Result<()>
-    requires { slot < 10 }
     ensures undone { IsTrue D.File.tells → OnOk result (IsTakenBack D.File.told
-        (D.removes disk.now path.now (Ok tt)) (before_in files.old.before slot)
-        (file_in files.old.files.items slot) (file_in files.new.files.items slot)) }
+        (D.removes disk.now path.now (Ok tt)) before (file_in files.old slot) (file_in files.new slot)) }
     ensures each { IsTakenBackOrFailed D.File.tells D.File.told D.File.has_failed (D.removes disk.now path.now)
-        (before_in files.old.before slot) (file_in files.old.files.items slot) (file_in files.new.files.items slot) }
-    ensures same { before_in files.old.before slot ≡ Before.Same
-        → file_in files.new.files.items slot ≡ file_in files.old.files.items slot }
-    ensures others { AreOthersKept files.old.files.items files.new.files.items slot }
-    ensures notes { files.new.before ≡ files.old.before }
+        before (file_in files.old slot) (file_in files.new slot) }
+    ensures same { before ≡ Before.Same → file_in files.new slot ≡ file_in files.old slot }
+    ensures others { AreOthersKept files.old files.new slot }
 {
-    let before = files.before[slot as usize];
+    if slot >= files.len() {
+        return undo_file(disk, path, before, &mut None);
+    }
+    undo_file(disk, path, before, &mut files[slot])
+}
+
+// The same of a file.
+fn undo_file<D: SlotFiles>(
+    disk: &D,
+    path: &str,
+    before: Before,
+    file: &mut Option<D::File>,
+) -> io::Result<()>
+    ensures undone { IsTrue D.File.tells → OnOk result (IsTakenBack D.File.told
+        (D.removes disk.now path.now (Ok tt)) before file.old file.new) }
+    ensures each { IsTakenBackOrFailed D.File.tells D.File.told D.File.has_failed (D.removes disk.now path.now)
+        before file.old file.new }
+    ensures same { before ≡ Before.Same → file.new ≡ file.old }
+    ensures none { file.old ≡ None → file.new ≡ None }
+{
     if before == Before::Absent {
-        files.files[slot as usize] = None;
+        *file = None;
         return disk.remove(path);
     }
-    cut_back(before, &mut files.files[slot as usize])
+    cut_back(before, file)
 }
 
 // Cuts a file that was lengthened to the bytes that it had.
@@ -226,6 +243,7 @@ fn cut_back<G: Growing>(before: Before, file: &mut Option<G>) -> io::Result<()>
     ensures cut { IsTrue G.tells → OnOk result (IsCutBack G.told before file.old file.new) }
     ensures each { IsCutOrFailed G.tells G.told G.has_failed before file.old file.new }
     ensures same { before ≡ Before.Same → file.new ≡ file.old }
+    ensures none { file.old ≡ None → file.new ≡ None }
 {
     match (before, file) {
         (Before::Shorter(bytes), Some(file)) => file.cut(bytes),

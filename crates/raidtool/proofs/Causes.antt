@@ -1,14 +1,19 @@
 -- Why a line was refused.
 use Rattle.std.proofs.Common.{◌≡◌, ◌≢◌, ◌⊎◌, ◌+◌, ◌<◌, ◌≤◌, inl, inr, refl, arith, ℕ, List, Result, Ok, Err, sym, subst}
-use Rattle.std.specs.Prelude.{IfErr}
+use Rattle.std.specs.Prelude.{IfErr, IsTrue, Option}
 use Rattle.std.proofs.lemmas.Result.{IfErr-weaker}
+use Rattle.sector_model.specs.Bank.{Panel}
 use Rattle.sector_model.specs.declared.refusal.Refusal.{Refusal}
 use Rattle.sector_model.specs.declared.refusal.Refusal.TheVariants.{BadGeometry, BadTable, Memory, NoSet, ReadFault, Worn, WriteFault}
+use Rattle.layout_map.specs.declared.format.Format.TheVariants.{One}
 use Rattle.layout_map.specs.declared.geometry.Geometry.{Geometry}
 use Rattle.layout_map.specs.Placement.{IsGeometry}
 use Rattle.array_io.specs.Believed.Views.{EndsIt}
+use Rattle.sector_model.specs.History.{History}
 use Rattle.recovery.specs.Making.{BankView, IsNoMake}
+use Rattle.device_files.specs.BankFiles.{AreAllSafe}
 use Rattle.device_files.specs.DeviceFiles.{IsNoTableIn}
+use Rattle.device_files.specs.declared.growing.Growing.{Ghosts}
 use Rattle.device_files.specs.declared.FolderFault.{FolderFault}
 use Rattle.device_files.specs.declared.FolderFault.TheVariants.{Refused}
 use Rattle.set_commands.specs.Run.{StoppedByStore, Streams}
@@ -16,8 +21,9 @@ use Rattle.set_commands.specs.Serving.{IsEnd, IsNotOpened, LosesOn, ServesOn}
 use Rattle.command_line.specs.declared.Invocation.{Invocation}
 use Rattle.command_line.specs.declared.Invocation.TheVariants.{Examine, Fail, Make, Rebuild, Replace, Run, Scrub, Status, Upgrade}
 use Rattle.command_line.proofs.Asked.{SameInvocation}
-use Rattle.raidtool.specs.Causes.{HasCause, IsCaused, IsCausedBy, IsCauseOfMake, IsCauseOn, IsPlainEnd, id_text}
-use Rattle.raidtool.specs.Done.{HasSizes, OfFiles}
+use Rattle.raidtool.specs.Begun.{BeginsOver, BeginsSafely, IsNoTableOver}
+use Rattle.raidtool.specs.Causes.{HasCause, IsCaused, IsCausedBy, IsCauseOfMake, IsCauseOver, IsPlainEnd}
+use Rattle.raidtool.specs.Done.{HasSizes}
 use Rattle.raidtool.specs.OtherSets.{IsRefusedMake, IsUntoldIn}
 use Rattle.raidtool.specs.Tool.{IsServed}
 
@@ -51,47 +57,61 @@ caused_as Cause Other fault so cause = λ refusal same other. so refusal (cause 
 -- ---- a set was not made
 
 -- a slot after its own could not be looked at
-pub untold_make : (id : List ℕ) (geometry : Geometry) (refusal : Refusal) → IsUntoldIn id (geometry.members + 2) refusal → IsRefusedMake id geometry refusal
-untold_make id geometry refusal is = (is.0, is.1, inl (is.2, is.3))
+pub untold_make : (honest : Type 0) (First Begins : History → Type 0) (id : List ℕ) (geometry : Geometry) (refusal : Refusal)
+    → ((history : History) → First history → Begins history)
+    → IsUntoldIn honest First id (geometry.members + 2) refusal → IsRefusedMake honest Begins id geometry refusal
+untold_make honest First Begins id geometry refusal so is = (is.0, so is.0.history is.1, is.2, inl (is.3, is.4))
+
+-- a set of format 1 has a bank that has its slots
+never_bad : (geometry : Geometry) (panel : Panel) → geometry.format ≡ One → geometry.members + 2 ≤ panel.devices → IsNoMake geometry panel BadGeometry → ⊥
+never_bad geometry panel one enough (inl other) = other one
+never_bad geometry panel one enough (inr few) = omega (arith, enough, few)
 
 -- no bank of ten devices is too small for a set
-not_too_small : (id : List ℕ) (members chunk stripes : ℕ) (geometry : Geometry) → HasSizes members chunk stripes geometry
-    → IsRefusedMake id geometry BadGeometry → ⊥
-not_too_small id members chunk stripes geometry sizes (bank, ten, inl (after, refuses)) = let never : BadGeometry ≡ Worn = refuses.0 in cc
-not_too_small id members chunk stripes geometry sizes (bank, ten, inr (refusal, same, alone)) =
+not_too_small : (honest : Type 0) (Begins : History → Type 0) (id : List ℕ) (members chunk stripes : ℕ) (geometry : Geometry)
+    → HasSizes members chunk stripes geometry → IsRefusedMake honest Begins id geometry BadGeometry → ⊥
+not_too_small honest Begins id members chunk stripes geometry sizes (bank, begins, ten, inl (after, refuses)) =
+    let never : BadGeometry ≡ Worn = refuses.0 in cc
+not_too_small honest Begins id members chunk stripes geometry sizes (bank, begins, ten, inr (refusal, same, alone)) =
     let its : refusal ≡ BadGeometry = cc in
     let cause = alone.refuses.makes.cause alone.refuses.back refusal refl in
-    let few : alone.refuses.back.panel.devices < geometry.members + 2 = subst (IsNoMake geometry alone.refuses.back.panel) its cause in
     let first : alone.inspected.panel.devices ≡ bank.panel.devices = alone.alone.later.devices in
     let second : alone.refuses.back.panel.devices ≡ alone.inspected.panel.devices = alone.refuses.makes.later.devices in
     let most : members ≤ 8 = sizes.within.members_most in
     let its_members : geometry.members ≡ members = sizes.members_is in
-    omega (arith, few, first, second, ten, most, its_members)
+    never_bad geometry alone.refuses.back.panel sizes.format_is (omega (arith, first, second, ten, most, its_members))
+    (subst (IsNoMake geometry alone.refuses.back.panel) its cause)
 
-pub sizes_make : (id : List ℕ) (members chunk stripes : ℕ) (geometry : Geometry) → HasSizes members chunk stripes geometry → (refusal : Refusal)
-    → IsRefusedMake id geometry refusal → IsCauseOfMake id members chunk stripes refusal
-sizes_make id members chunk stripes geometry sizes BadGeometry is = absurd (not_too_small id members chunk stripes geometry sizes is)
-sizes_make id members chunk stripes geometry sizes refusal is = (geometry, sizes, is)
+module _ {F : Type 0} (growing : Ghosts F) (left : F → List ℕ) where
+  pub sizes_make : (id : List ℕ) (members chunk stripes : ℕ) (geometry : Geometry) → HasSizes members chunk stripes geometry → (refusal : Refusal)
+      → IsRefusedMake (IsTrue growing.tells) (BeginsSafely growing left) id geometry refusal
+      → IsCauseOfMake growing left id members chunk stripes refusal
+  sizes_make id members chunk stripes geometry sizes BadGeometry is =
+      absurd (not_too_small (IsTrue growing.tells) (BeginsSafely growing left) id members chunk stripes geometry sizes is)
+  sizes_make id members chunk stripes geometry sizes refusal is = (geometry, sizes, is)
 
--- no set has these sizes
-pub no_sizes : (id : List ℕ) (members chunk stripes : ℕ) (refusal : Refusal) → refusal ≡ BadGeometry → ¬ IsGeometry members chunk stripes
-    → IsCauseOfMake id members chunk stripes refusal
-no_sizes id members chunk stripes refusal is none = subst (IsCauseOfMake id members chunk stripes) (sym is) none
+  -- no set has these sizes
+  pub no_sizes : (id : List ℕ) (members chunk stripes : ℕ) (refusal : Refusal) → refusal ≡ BadGeometry → ¬ IsGeometry One members chunk stripes
+      → IsCauseOfMake growing left id members chunk stripes refusal
+  no_sizes id members chunk stripes refusal is none = subst (IsCauseOfMake growing left id members chunk stripes) (sym is) none
 
--- ---- a line that needs no file to be made
+  -- ---- a line that needs no file to be made
 
-pub served_cause : (line : Invocation) (refusal : Refusal) → IsServed line
-    → ((bank : BankView) × IsCauseOn line OfFiles bank refusal) ⊎ IsNoTableIn (id_text line) refusal
-    → HasCause line refusal
-served_cause (Run folder id) refusal served cause = cause
-served_cause (Make folder id members chunk stripes) refusal served cause = absurd served
-served_cause (Status folder id json check) refusal served cause = cause
-served_cause (Fail folder id slot) refusal served cause = cause
-served_cause (Replace folder id slot) refusal served cause = absurd served
-served_cause (Rebuild folder id steps) refusal served cause = cause
-served_cause (Scrub folder id) refusal served cause = cause
-served_cause (Upgrade folder id) refusal served cause = cause
-served_cause (Examine folder id json check) refusal served cause = absurd served
+  pub served_cause : (line : Invocation) (refusal : Refusal) → IsServed line → IsCauseOver growing left line refusal → HasCause growing left line refusal
+  served_cause (Run folder id) refusal served cause = cause
+  served_cause (Make folder id members chunk stripes) refusal served cause = absurd served
+  served_cause (Status folder id json check) refusal served cause = cause
+  served_cause (Fail folder id slot) refusal served cause = cause
+  served_cause (Replace folder id slot) refusal served cause = absurd served
+  served_cause (Rebuild folder id steps) refusal served cause = cause
+  served_cause (Scrub folder id) refusal served cause = cause
+  served_cause (Upgrade folder id) refusal served cause = cause
+  served_cause (Examine folder id json check) refusal served cause = absurd served
+
+  -- a table that could not be sought over these files could not be over some that are safe
+  pub no_table_safely : (id : List ℕ) (files : List (Option F)) (refusal : Refusal) → AreAllSafe growing.is_safe files
+      → IsNoTableIn (IsTrue growing.tells) (BeginsOver growing left files) id refusal → IsNoTableOver growing left id refusal
+  no_table_safely id files refusal safe is = (is.0, is.1, (files, safe, is.2), is.3)
 
 -- a script
 module _ (honest : Type 0) (id : List ℕ) (bank : BankView) where
@@ -127,16 +147,17 @@ pub done_for : (result : Result (Unit {0}) Refusal) (Cause : Refusal → Type 0)
 done_for result Cause = IfErr-weaker result _ _ (λ refusal cause other. cause (not_cut refusal other))
 
 -- of two lines that the same words ask for, the cause is the same
-pub caused_too : (a b : Invocation) (refusal : Refusal) → SameInvocation a b → IsCaused b refusal → IsCaused a refusal
-caused_too (Run f i) (Run g j) refusal same cause = rw same.1 cause
-caused_too (Make f i members chunk stripes) (Make g j m c s) refusal same cause =
+pub caused_too : {F : Type 0} (growing : Ghosts F) (left : F → List ℕ) (a b : Invocation) (refusal : Refusal) → SameInvocation a b
+    → IsCaused growing left b refusal → IsCaused growing left a refusal
+caused_too growing left (Run f i) (Run g j) refusal same cause = rw same.1 cause
+caused_too growing left (Make f i members chunk stripes) (Make g j m c s) refusal same cause =
     let sizes = same.2 in
     rw (same.1, sizes.members_same, sizes.chunk_same, sizes.stripes_same) cause
-caused_too (Status f i json check) (Status g j as_json as_check) refusal same cause = rw same.1 cause
-caused_too (Fail f i slot) (Fail g j k) refusal same cause = rw (same.1, same.2) cause
-caused_too (Replace f i slot) (Replace g j k) refusal same cause = rw (same.1, same.2) cause
-caused_too (Rebuild f i steps) (Rebuild g j t) refusal same cause = rw (same.1, same.2) cause
-caused_too (Scrub f i) (Scrub g j) refusal same cause = rw same.1 cause
-caused_too (Upgrade f i) (Upgrade g j) refusal same cause = rw same.1 cause
-caused_too (Examine f i json check) (Examine g j as_json as_check) refusal same cause = rw (same.1, same.2) cause
-caused_too a b refusal same cause = absurd same
+caused_too growing left (Status f i json check) (Status g j as_json as_check) refusal same cause = rw same.1 cause
+caused_too growing left (Fail f i slot) (Fail g j k) refusal same cause = rw (same.1, same.2) cause
+caused_too growing left (Replace f i slot) (Replace g j k) refusal same cause = rw (same.1, same.2) cause
+caused_too growing left (Rebuild f i steps) (Rebuild g j t) refusal same cause = rw (same.1, same.2) cause
+caused_too growing left (Scrub f i) (Scrub g j) refusal same cause = rw same.1 cause
+caused_too growing left (Upgrade f i) (Upgrade g j) refusal same cause = rw same.1 cause
+caused_too growing left (Examine f i json check) (Examine g j as_json as_check) refusal same cause = rw (same.1, same.2) cause
+caused_too growing left a b refusal same cause = absurd same

@@ -9,7 +9,7 @@ use Rattle.device_files.specs.declared.FolderFault.{FolderFault}
 use Rattle.device_files.specs.declared.FolderFault.TheVariants.{Refused}
 use Rattle.set_commands.specs.declared.serving.health.Health.{Health}
 use Rattle.set_commands.specs.declared.serving.health.Health.TheVariants.{Complete, Incomplete, Unassembled}
-use Rattle.raidtool.specs.Tool.{HasHealth, IsChecked, IsMisshapen, IsNone, checked_status, status_by}
+use Rattle.raidtool.specs.Tool.{IsChecked, IsMisshapen, IsNone, checked_status, status_by}
 use Rattle.command_line.proofs.Asked.{SameInvocation}
 
 -- how a line ends: as the status without the question says, or with a set that is complete, not complete, not assembled, or refused
@@ -141,18 +141,6 @@ checked_too (Rebuild f i steps) (Rebuild g j others) same asks = absurd asks
 checked_too (Scrub f i) (Scrub g j) same asks = absurd asks
 checked_too (Upgrade f i) (Upgrade g j) same asks = absurd asks
 checked_too a b same asks = absurd same
-
-pub health_too : (a b : Invocation) (was is : Health) → SameInvocation a b → HasHealth b was is → HasHealth a was is
-health_too (Run f i) (Run g j) was is same has = has
-health_too (Make f i members chunk stripes) (Make g j m c s) was is same has = has
-health_too (Status f i json check) (Status g j as_json as_check) was is same has = rw same.1 has
-health_too (Fail f i slot) (Fail g j other) was is same has = has
-health_too (Replace f i slot) (Replace g j other) was is same has = has
-health_too (Rebuild f i steps) (Rebuild g j others) was is same has = has
-health_too (Scrub f i) (Scrub g j) was is same has = has
-health_too (Upgrade f i) (Upgrade g j) was is same has = has
-health_too (Examine f i json check) (Examine g j as_json as_check) was is same has = rw same.1 has
-health_too a b was is same has = absurd same
 
 -- ---- where none could be assembled
 

@@ -1,6 +1,6 @@
 -- What was done where a line ended well, and what stopped it.
 use Rattle.std.proofs.Common.{◌≡◌, ◌≢◌, ◌⊎◌, inl, inr, refl, subst, ℕ, Bool, List, Option}
-use Rattle.std.specs.Prelude.{Err, IfErr, Ok, OnOk, Result}
+use Rattle.std.specs.Prelude.{Err, IfErr, IsTrue, Ok, OnOk, Result}
 use Rattle.std.specs.Borrow.{Bor}
 use Rattle.std.specs.Io.KnownBytes.{Appends}
 use Rattle.clap.specs.Words.{Text}
@@ -16,72 +16,148 @@ use Rattle.device_files.specs.declared.FolderFault.{FolderFault}
 use Rattle.device_files.specs.declared.slot_files.CreateFault.{CreateFault}
 use Rattle.device_files.specs.declared.slot_files.OpenFault.{OpenFault}
 use Rattle.device_files.specs.declared.FolderFault.TheVariants.{InUse, NoFile, NotOpened, NotRegular, NotSafe, NotSynced, OtherSet, Refused}
-use Rattle.raidtool.specs.Done.{DoesOn, HasSizes, IsDone, IsReplacedSlot}
-use Rattle.raidtool.specs.OtherSets.{IsMadeAlone}
+use Rattle.device_files.specs.declared.growing.Growing.{Ghosts}
+use Rattle.device_files.specs.declared.locked.Before.{Before}
+use Rattle.raidtool.specs.Done.{DoesOn, HasSizes, IsExamined, OfFiles}
+use Rattle.raidtool.specs.DoneOver.{HealthOf, IsDone, IsMadeIn, IsReplacedIn, IsServedOver, folder_text}
 use Rattle.command_line.specs.Invocations.{AsksFor}
-use Rattle.device_files.specs.DeviceFiles.{IsMissingIn, slot_path}
-use Rattle.raidtool.specs.FolderFiles.{WereTaken}
+use Rattle.raidtool.specs.FolderFiles.{WereOpened}
+use Rattle.set_commands.specs.Healths.{InspectsHealth}
+use Rattle.set_commands.specs.declared.serving.health.Health.{Health}
 use Rattle.device_files.specs.Faults.{fault_line}
 use Rattle.raidtool.specs.Stops.{IsBlamed}
 use Rattle.set_commands.specs.Run.{Streams}
-use Rattle.raidtool.specs.Tool.{IsBlamedIn, IsChecked, IsCutOff, IsDoneIn, IsEndOf, IsEndOfLine, IsFirst, IsMisshapen, IsNone, IsPartWritten, IsStopOf}
-use Rattle.raidtool.specs.Tool.{IsWritten, PassesNone, WasRefused, WasStopped, folder_text}
-use Rattle.raidtool.specs.Causes.{IsCaused, id_text}
+use Rattle.raidtool.specs.Tool.{IsBlamedIn, IsChecked, IsCutOff, IsEndOf, IsEndOfLine, IsFirst, IsMisshapen, IsNone, IsPartWritten, IsStopOf}
+use Rattle.raidtool.specs.Tool.{IsWritten, PassesNone, WasRefused, WasStopped}
+use Rattle.raidtool.specs.Causes.{id_text}
 use Rattle.command_line.proofs.Asked.{SameInvocation}
 use Rattle.raidtool.proofs.InspectionsTold.{inspections_written}
 use Rattle.raidtool.proofs.Repaired.{told_progress, told_scrub}
 use Rattle.raidtool.proofs.Statuses.{told_status}
 
 -- what it writes was written
-pub written_of : (line : Invocation) (honest : Type 0) (bank : BankView) (was is : Streams) → DoesOn line honest bank was is
+written_by : (line : Invocation) (honest : Type 0) (bank : BankView) (was is : Streams) → DoesOn line honest bank was is
     → IsWritten line was.contents is.contents
-written_of (Run folder id) honest bank was is does = tt
-written_of (Make folder id members chunk stripes) honest bank was is does = (does.0.1.within, does.1)
-written_of (Status folder id json check) honest bank was is does = told_status honest id bank json was.contents is.contents does
-written_of (Fail folder id slot) honest bank was is does = does.1
-written_of (Replace folder id slot) honest bank was is does = does.1
-written_of (Rebuild folder id steps) honest bank was is does = told_progress honest id steps bank _ does
-written_of (Scrub folder id) honest bank was is does = told_scrub honest id bank _ does
-written_of (Upgrade folder id) honest bank was is does = does.1
-written_of (Examine folder id json check) honest bank was is does = inspections_written honest id json bank was.contents is.contents does
+written_by (Run folder id) honest bank was is does = tt
+written_by (Make folder id members chunk stripes) honest bank was is does = (does.0.1.within, does.1)
+written_by (Status folder id json check) honest bank was is does = told_status honest id bank json was.contents is.contents does
+written_by (Fail folder id slot) honest bank was is does = does.1
+written_by (Replace folder id slot) honest bank was is does = does.1
+written_by (Rebuild folder id steps) honest bank was is does = told_progress honest id steps bank _ does
+written_by (Scrub folder id) honest bank was is does = told_scrub honest id bank _ does
+written_by (Upgrade folder id) honest bank was is does = does.1
+written_by (Examine folder id json check) honest bank was is does = inspections_written honest id json bank was.contents is.contents does
 
 same_sizes : (a b c m n k : ℕ) (geometry : Geometry) → a ≡ m → b ≡ n → c ≡ k → HasSizes m n k geometry → HasSizes a b c geometry
 same_sizes a b c m n k geometry first second third has = rw (first, second, third) has
 
--- of two lines that the same words ask for, what was done is the same
-pub done_too : (a b : Invocation) (was is : Streams) → SameInvocation a b → IsDone b was is → IsDone a was is
-done_too (Run f i) (Run g j) was is same done = rw same.1 done
-done_too (Make f i members chunk stripes) (Make g j m c s) was is same done =
-    let sizes = same.2 in
-    rw same.1 (
-      done.0,
-      (
-        (done.1.0.0, same_sizes members chunk stripes m c s done.1.0.0 sizes.members_same sizes.chunk_same sizes.stripes_same done.1.0.1, done.1.0.2),
-        done.1.1,
-      ),
-    )
-done_too (Status f i json check) (Status g j as_json as_check) was is same done = rw (same.1, same.2) done
-done_too (Fail f i slot) (Fail g j other) was is same done = rw (same.1, same.2) done
-done_too (Replace f i slot) (Replace g j other) was is same done = rw (same.1, same.2) done
-done_too (Rebuild f i steps) (Rebuild g j others) was is same done = rw (same.1, same.2) done
-done_too (Scrub f i) (Scrub g j) was is same done = rw same.1 done
-done_too (Upgrade f i) (Upgrade g j) was is same done = rw same.1 done
-done_too (Examine f i json check) (Examine g j as_json as_check) was is same done = rw (same.1, same.2) done
-done_too a b was is same done = absurd same
+module _ {F L : Type 0} (growing : Ghosts F) (left : F → List ℕ) (Opens : (path : List ℕ) → Result (Option F) OpenFault → Type 0)
+    (Creates : (path : List ℕ) → Result (F × Before) CreateFault → Type 0) (Inspects : (path : List ℕ) → Result (Option L) OpenFault → Type 0)
+    (IsSynced : (folder : List ℕ) → Type 0) where
+  abbrev Does : Invocation → (was is : Streams) (before after : Health) → Type 0
+  Does = IsDone growing left Opens Creates Inspects IsSynced
 
--- a set was made
-pub made_done : (folder : Bor Text) (id : List ℕ) (members chunk stripes : ℕ) (geometry : Geometry) (done : Result (Unit {0}) FolderFault) (was is : Streams)
-    → HasSizes members chunk stripes geometry
-    → OnOk done (IsMadeAlone id geometry) → OnOk done (Appends was.contents is.contents made_line)
-    → OnOk done (IsDone (Make folder id members chunk stripes) was is)
-made_done folder id members chunk stripes geometry (Ok value) was is sizes made written = (made.1.inspected, ((geometry, sizes, made.1.makes), written))
-made_done folder id members chunk stripes geometry (Err fault) was is sizes made written = tt
+  pub written_of : (line : Invocation) (was is : Streams) (before after : Health) → Does line was is before after → IsWritten line was.contents is.contents
+  written_of (Make folder id members chunk stripes) was is before after done = (done.0.1.within, done.2)
+  written_of (Replace folder id slot) was is before after done = done.2
+  written_of (Examine folder id json check) was is before after done = inspections_written OfFiles id json done.1.0 was.contents is.contents done.1.1
+  written_of (Run folder id) was is before after done = tt
+  written_of (Status folder id json check) was is before after done = written_by (Status folder id json check) _ done.over.bank was is done.over.does
+  written_of (Fail folder id slot) was is before after done = written_by (Fail folder id slot) _ done.over.bank was is done.over.does
+  written_of (Rebuild folder id steps) was is before after done = written_by (Rebuild folder id steps) _ done.over.bank was is done.over.does
+  written_of (Scrub folder id) was is before after done = written_by (Scrub folder id) _ done.over.bank was is done.over.does
+  written_of (Upgrade folder id) was is before after done = written_by (Upgrade folder id) _ done.over.bank was is done.over.does
 
--- a slot was given a device
-pub replaced_done : (folder : Bor Text) (id : List ℕ) (slot : ℕ) (done : Result (Unit {0}) FolderFault) (was is : Streams) → OnOk done (IsReplacedSlot id slot)
-    → OnOk done (Appends was.contents is.contents (reply_text Done)) → OnOk done (IsDone (Replace folder id slot) was is)
-replaced_done folder id slot (Ok value) was is replaced written = (replaced.0, (replaced.1, written))
-replaced_done folder id slot (Err fault) was is replaced written = tt
+  -- what was done over the files of one folder was done over those of the same one
+  served_too : (a b : Invocation) (was is : Streams) (before after : Health) → folder_text a ≡ folder_text b → id_text a ≡ id_text b
+      → ((bank : BankView) → DoesOn b (IsTrue growing.tells) bank was is → DoesOn a (IsTrue growing.tells) bank was is)
+      → ((bank : BankView) → HealthOf b (IsTrue growing.tells) bank before after → HealthOf a (IsTrue growing.tells) bank before after)
+      → IsServedOver growing left Opens b was is before after → IsServedOver growing left Opens a was is before after
+  served_too a b was is before after folder id does health done = record {
+    taken = record {
+      opened = done.taken.opened;
+      files = done.taken.files;
+      barred = done.taken.barred;
+      opens = λ slot under. rw folder (done.taken.opens slot under);
+      passed = λ slot under some. rw id (done.taken.passed slot under some);
+      safe = done.taken.safe;
+      same = done.taken.same;
+      kept = done.taken.kept;
+    };
+    over = record {
+      bank = done.over.bank;
+      begins = done.over.begins;
+      does = does done.over.bank done.over.does;
+      health = health done.over.bank done.over.health;
+    };
+  }
+
+  -- of two lines that the same words ask for, what was done is the same
+  pub done_too : (a b : Invocation) (was is : Streams) (before after : Health) → SameInvocation a b → Does b was is before after → Does a was is before after
+  done_too (Run f i) (Run g j) was is before after same done = served_too (Run f i) (Run g j) was is before after same.0 same.1 (λ bank d. rw same.1 d)
+      (λ bank d. d) done
+  done_too (Make f i members chunk stripes) (Make g j m c s) was is before after same done =
+      let sizes = same.2 in (
+        (
+          done.0.0,
+          same_sizes members chunk stripes m c s done.0.0 sizes.members_same sizes.chunk_same sizes.stripes_same done.0.1,
+          rw (same.0, same.1) done.0.2,
+        ),
+        rw same.0 done.1,
+        done.2,
+        done.3,
+      )
+  done_too (Status f i json check) (Status g j as_json as_check) was is before after same done =
+      served_too (Status f i json check) (Status g j as_json as_check) was is before after same.0 same.1 (λ bank d. rw (same.1, same.2) d)
+      (λ bank d. rw same.1 d) done
+  done_too (Fail f i slot) (Fail g j other) was is before after same done =
+      served_too (Fail f i slot) (Fail g j other) was is before after same.0 same.1 (λ bank d. rw (same.1, same.2) d) (λ bank d. d) done
+  done_too (Replace f i slot) (Replace g j other) was is before after same done =
+      (rw (same.0, same.1, same.2) done.0, rw same.0 done.1, done.2, done.3)
+  done_too (Rebuild f i steps) (Rebuild g j others) was is before after same done =
+      served_too (Rebuild f i steps) (Rebuild g j others) was is before after same.0 same.1 (λ bank d. rw (same.1, same.2) d) (λ bank d. d) done
+  done_too (Scrub f i) (Scrub g j) was is before after same done =
+      served_too (Scrub f i) (Scrub g j) was is before after same.0 same.1 (λ bank d. rw same.1 d) (λ bank d. d) done
+  done_too (Upgrade f i) (Upgrade g j) was is before after same done =
+      served_too (Upgrade f i) (Upgrade g j) was is before after same.0 same.1 (λ bank d. rw same.1 d) (λ bank d. d) done
+  done_too (Examine f i json check) (Examine g j as_json as_check) was is before after same done =
+      (rw same.0 done.0, rw (same.1, same.2) done.1, rw same.1 done.2)
+  done_too a b was is before after same done = absurd same
+
+  -- a set was made
+  pub made_done : (folder : Bor Text) (id : List ℕ) (members chunk stripes : ℕ) (geometry : Geometry) (done : Result (Unit {0}) FolderFault) (was is : Streams)
+      (health : Health) → HasSizes members chunk stripes geometry
+      → OnOk done (IsMadeIn growing left Creates folder.now Opens id geometry) → OnOk done (IsSynced folder.now)
+      → OnOk done (Appends was.contents is.contents made_line) → OnOk done (Does (Make folder id members chunk stripes) was is health health)
+  made_done folder id members chunk stripes geometry (Ok value) was is health sizes made synced written = ((geometry, sizes, made), synced, written, refl)
+  made_done folder id members chunk stripes geometry (Err fault) was is health sizes made synced written = tt
+
+  -- a slot was given a device
+  pub replaced_done : (folder : Bor Text) (id : List ℕ) (slot : ℕ) (done : Result (Unit {0}) FolderFault) (was is : Streams) (health : Health)
+      → OnOk done (IsReplacedIn growing left Creates folder.now Opens id slot) → OnOk done (IsSynced folder.now)
+      → OnOk done (Appends was.contents is.contents (reply_text Done)) → OnOk done (Does (Replace folder id slot) was is health health)
+  replaced_done folder id slot (Ok value) was is health replaced synced written = (replaced, synced, written, refl)
+  replaced_done folder id slot (Err fault) was is health replaced synced written = tt
+
+  -- the sets of a folder were inspected
+  pub examined_done : (folder : Bor Text) (id : Option (List ℕ)) (json check : Bool) (done : Result (Unit {0}) FolderFault) (was is : Streams)
+      (before after : Health) → OnOk done (WereOpened Inspects folder.now) → OnOk done (IsExamined id json was.contents is.contents)
+      → OnOk done ((bank : BankView) × InspectsHealth OfFiles id bank before after) → OnOk done (Does (Examine folder id json check) was is before after)
+  examined_done folder id json check (Ok value) was is before after opened examined health = (opened, examined, health)
+  examined_done folder id json check (Err fault) was is before after opened examined health = tt
+
+  -- a line that needs no file to be made was done over the files of its folder
+  pub served_done : (line : Invocation) (done : Result (Unit {0}) FolderFault) (was is : Streams) (before after : Health)
+      → ((folder : Bor Text) (id : List ℕ) (members chunk stripes : ℕ) → line ≡ Make folder id members chunk stripes → ⊥)
+      → ((folder : Bor Text) (id : List ℕ) (slot : ℕ) → line ≡ Replace folder id slot → ⊥)
+      → ((folder : Bor Text) (id : Option (List ℕ)) (json check : Bool) → line ≡ Examine folder id json check → ⊥)
+      → OnOk done (IsServedOver growing left Opens line was is before after) → OnOk done (Does line was is before after)
+  served_done (Make folder id members chunk stripes) done was is before after no_make no_replace no_inspection served =
+      absurd (no_make folder id members chunk stripes refl)
+  served_done (Replace folder id slot) done was is before after no_make no_replace no_inspection served = absurd (no_replace folder id slot refl)
+  served_done (Examine folder id json check) done was is before after no_make no_replace no_inspection served =
+      absurd (no_inspection folder id json check refl)
+  served_done line done was is before after no_make no_replace no_inspection served = served
 
 -- a line that makes no set has no sizes that are none
 pub no_make : (line : Invocation) → ((folder : Bor Text) (id : List ℕ) (members chunk stripes : ℕ) → line ≡ Make folder id members chunk stripes → ⊥)
@@ -104,45 +180,7 @@ passes_none_too (Make f i members chunk stripes) b same none = absurd same
 passes_none_too (Examine f i json check) b same none = absurd same
 passes_none_too a b same none = absurd none
 
--- ---- where it was done
-
--- of two lines that the same words ask for, it was done in one folder
-pub done_in_too : {F L : Type 0} (Opens : (path : List ℕ) → Result (Option F) OpenFault → Type 0) (IsSafe : F → Type 0)
-    (Inspects : (path : List ℕ) → Result (Option L) OpenFault → Type 0) (IsSynced : (folder : List ℕ) → Type 0) (a b : Invocation)
-    → SameInvocation a b → IsDoneIn Opens IsSafe Inspects IsSynced b → IsDoneIn Opens IsSafe Inspects IsSynced a
-done_in_too Opens IsSafe Inspects IsSynced (Run f i) (Run g j) same done = rw (same.0, same.1) done
-done_in_too Opens IsSafe Inspects IsSynced (Make f i members chunk stripes) (Make g j m c s) same done = rw (same.0, same.2.members_same) done
-done_in_too Opens IsSafe Inspects IsSynced (Status f i json check) (Status g j as_json as_check) same done = rw (same.0, same.1) done
-done_in_too Opens IsSafe Inspects IsSynced (Fail f i slot) (Fail g j other) same done = rw (same.0, same.1) done
-done_in_too Opens IsSafe Inspects IsSynced (Replace f i slot) (Replace g j other) same done = rw (same.0, same.1, same.2) done
-done_in_too Opens IsSafe Inspects IsSynced (Rebuild f i steps) (Rebuild g j others) same done = rw (same.0, same.1) done
-done_in_too Opens IsSafe Inspects IsSynced (Scrub f i) (Scrub g j) same done = rw (same.0, same.1) done
-done_in_too Opens IsSafe Inspects IsSynced (Upgrade f i) (Upgrade g j) same done = rw (same.0, same.1) done
-done_in_too Opens IsSafe Inspects IsSynced (Examine f i json check) (Examine g j as_json as_check) same done = rw same.0 done
-done_in_too Opens IsSafe Inspects IsSynced a b same done = absurd same
-
--- both hold where it was done
-pub both_done : (P Q : Type 0) (done : Result (Unit {0}) FolderFault) → OnOk done P → OnOk done Q → OnOk done (P × Q)
-both_done P Q (Ok value) first second = (first, second)
-both_done P Q (Err fault) first second = tt
-
--- a line that needs no file to be made was done in the folder whose files were opened
-pub served_in : {F L : Type 0} (Opens : (path : List ℕ) → Result (Option F) OpenFault → Type 0) (IsSafe : F → Type 0)
-    (Inspects : (path : List ℕ) → Result (Option L) OpenFault → Type 0) (IsSynced : (folder : List ℕ) → Type 0) (line : Invocation)
-    (done : Result (Unit {0}) FolderFault)
-    → ((folder : Bor Text) (id : List ℕ) (members chunk stripes : ℕ) → line ≡ Make folder id members chunk stripes → ⊥)
-    → ((folder : Bor Text) (id : List ℕ) (slot : ℕ) → line ≡ Replace folder id slot → ⊥)
-    → ((folder : Bor Text) (id : Option (List ℕ)) (json check : Bool) → line ≡ Examine folder id json check → ⊥)
-    → OnOk done (WereTaken IsSafe (λ slot. Opens (slot_path (folder_text line) slot)) (λ _. ⊥) (IsMissingIn (id_text line)))
-    → OnOk done (IsDoneIn Opens IsSafe Inspects IsSynced line)
-served_in Opens IsSafe Inspects IsSynced (Make folder id members chunk stripes) done no_make no_replace no_inspection opened =
-    absurd (no_make folder id members chunk stripes refl)
-served_in Opens IsSafe Inspects IsSynced (Replace folder id slot) done no_make no_replace no_inspection opened = absurd (no_replace folder id slot refl)
-served_in Opens IsSafe Inspects IsSynced (Examine folder id json check) done no_make no_replace no_inspection opened =
-    absurd (no_inspection folder id json check refl)
-served_in Opens IsSafe Inspects IsSynced line done no_make no_replace no_inspection opened = opened
-
--- and what is blamed is what opening its files, or creating them, came to
+-- what is blamed of a line that needs no file to be made is what opening its files, or creating them, came to
 pub served_blamed : {F Made L : Type 0} (Opens : (path : List ℕ) → Result (Option F) OpenFault → Type 0)
     (Creates : (path : List ℕ) → Result Made CreateFault → Type 0)
     (HasFailed : F → Type 0) (Inspects : (path : List ℕ) → Result (Option L) OpenFault → Type 0) (line : Invocation) (done : Result (Unit {0}) FolderFault)
@@ -166,20 +204,20 @@ end_of_line (Upgrade folder id) refusal stops = stops
 end_of_line (Examine folder id json check) refusal stops = stops
 
 -- the program says what stopped a line
-pub was_stopped : (words : List Text) (Blamed : Invocation → FolderFault → Type 0) (line : Invocation) (folder : List ℕ) (Told : List ℕ → Type 0)
-    (Same : Type 0) (fault : FolderFault)
+pub was_stopped : (words : List Text) (Caused : Invocation → Refusal → Type 0) (Blamed : Invocation → FolderFault → Type 0)
+    (line : Invocation) (folder : List ℕ) (Told : List ℕ → Type 0) (Same : Type 0) (fault : FolderFault)
     → AsksFor words line → folder ≡ folder_text line → IsStopOf line fault → Blamed line fault → Told (fault_line folder fault) → (IsFirst fault → Same)
     → ((refusal : Refusal) → fault ≡ Refused refusal → IsChecked line → ¬ IsNone refusal)
-    → ((refusal : Refusal) → fault ≡ Refused refusal → IsCaused line refusal)
-    → WasRefused (IsEndOf words) Told Same ⊎ WasStopped words Blamed Told Same
-was_stopped words Blamed line folder Told Same (Refused refusal) asked is stops blamed told alone apart cause =
+    → ((refusal : Refusal) → fault ≡ Refused refusal → Caused line refusal)
+    → WasRefused (IsEndOf Caused words) Told Same ⊎ WasStopped words Blamed Told Same
+was_stopped words Caused Blamed line folder Told Same (Refused refusal) asked is stops blamed told alone apart cause =
     inl (record {
       refusal = refusal;
       ends = inr (inr (line, asked, end_of_line line refusal stops, apart refusal refl, cause refusal refl));
       told = told;
       alone = alone;
     })
-was_stopped words Blamed line folder Told Same (NoFile slot) asked is stops blamed told alone apart cause =
+was_stopped words Caused Blamed line folder Told Same (NoFile slot) asked is stops blamed told alone apart cause =
     inr (record {
       line = line;
       fault = NoFile slot;
@@ -191,7 +229,7 @@ was_stopped words Blamed line folder Told Same (NoFile slot) asked is stops blam
           subst (λ (f : List ℕ). Told (fault_line f (NoFile slot))) is told;
       same = alone tt;
     })
-was_stopped words Blamed line folder Told Same (InUse slot) asked is stops blamed told alone apart cause =
+was_stopped words Caused Blamed line folder Told Same (InUse slot) asked is stops blamed told alone apart cause =
     inr (record {
       line = line;
       fault = InUse slot;
@@ -203,7 +241,7 @@ was_stopped words Blamed line folder Told Same (InUse slot) asked is stops blame
           subst (λ (f : List ℕ). Told (fault_line f (InUse slot))) is told;
       same = alone tt;
     })
-was_stopped words Blamed line folder Told Same (NotOpened slot reason) asked is stops blamed told alone apart cause =
+was_stopped words Caused Blamed line folder Told Same (NotOpened slot reason) asked is stops blamed told alone apart cause =
     inr (record {
       line = line;
       fault = NotOpened slot reason;
@@ -214,7 +252,7 @@ was_stopped words Blamed line folder Told Same (NotOpened slot reason) asked is 
       told = subst (λ (f : List ℕ). Told (fault_line f (NotOpened slot reason))) is told;
       same = alone tt;
     })
-was_stopped words Blamed line folder Told Same (NotRegular slot) asked is stops blamed told alone apart cause =
+was_stopped words Caused Blamed line folder Told Same (NotRegular slot) asked is stops blamed told alone apart cause =
     inr (record {
       line = line;
       fault = NotRegular slot;
@@ -226,7 +264,7 @@ was_stopped words Blamed line folder Told Same (NotRegular slot) asked is stops 
           subst (λ (f : List ℕ). Told (fault_line f (NotRegular slot))) is told;
       same = alone tt;
     })
-was_stopped words Blamed line folder Told Same (NotSafe slot shortage) asked is stops blamed told alone apart cause =
+was_stopped words Caused Blamed line folder Told Same (NotSafe slot shortage) asked is stops blamed told alone apart cause =
     inr (record {
       line = line;
       fault = NotSafe slot shortage;
@@ -237,7 +275,7 @@ was_stopped words Blamed line folder Told Same (NotSafe slot shortage) asked is 
       told = subst (λ (f : List ℕ). Told (fault_line f (NotSafe slot shortage))) is told;
       same = alone tt;
     })
-was_stopped words Blamed line folder Told Same (OtherSet slot) asked is stops blamed told alone apart cause =
+was_stopped words Caused Blamed line folder Told Same (OtherSet slot) asked is stops blamed told alone apart cause =
     inr (record {
       line = line;
       fault = OtherSet slot;
@@ -249,7 +287,7 @@ was_stopped words Blamed line folder Told Same (OtherSet slot) asked is stops bl
           subst (λ (f : List ℕ). Told (fault_line f (OtherSet slot))) is told;
       same = alone tt;
     })
-was_stopped words Blamed line folder Told Same NotSynced asked is stops blamed told alone apart cause =
+was_stopped words Caused Blamed line folder Told Same NotSynced asked is stops blamed told alone apart cause =
     inr (record {
       line = line;
       fault = NotSynced;

@@ -1,11 +1,15 @@
 -- What holds of the files of a set's slots, slot by slot, as one after another is made long enough.
 use Rattle.std.proofs.Common.{◌≡◌, ◌≢◌, ◌∙◌, ◌<◌, ◌≤◌, ◌+◌, ℕ, inl, inr, List, Option, arith, subst, sym}
-use Rattle.std.proofs.lemmas.Bool.{cases_eq}
-use Rattle.std.specs.Prelude.{Result}
+use Rattle.std.proofs.lemmas.Bool.{cases_eq, cases_lt}
+use Rattle.std.specs.Prelude.{IfSome, IsSomeAnd, None, Result, Some}
+use Rattle.device_files.specs.BankFiles.{AreAllSafe}
 use Rattle.device_files.specs.declared.locked.Before.{Before}
 use Rattle.device_files.specs.DeviceFiles.{AreOtherNotesKept, AreOthersKept, HasMade, IsNotedOf, StaysOrMade, before_in, file_in, lengthened}
 use Rattle.device_files.proofs.SlotBySlot.{kept_at, made_after}
-use Rattle.raidtool.specs.FolderFiles.{IsNotedIn}
+use Rattle.device_files.specs.Faults.{IsFileFaultOf}
+use Rattle.device_files.specs.declared.FolderFault.{FolderFault}
+use Rattle.device_files.specs.declared.FolderFault.TheVariants.{InUse, NoFile, Refused}
+use Rattle.raidtool.specs.FolderFiles.{IsNotedIn, IsStoppedAt}
 
 -- the files are long enough below a slot and in it, where that one was made so of what it was at first
 pub long_next : {F : Type 0} (Made : ℕ → F → Type 0) (told : F → List ℕ) (need : ℕ → ℕ) (first was is : List (Option F)) (slot bytes : ℕ)
@@ -60,3 +64,34 @@ notes_next first was is slot beyond others k from =
     let apart : k ≢ slot = omega (arith, from) in
     let on : slot ≤ k = omega (arith, from) in
     others k apart ∙ beyond k on
+
+-- a fault of a slot's file leaves the files below it done, and those after it untouched
+pub stopped_at : (Done Untouched : ℕ → Type 0) (slot : ℕ) (fault : FolderFault) → IsFileFaultOf slot fault → ((k : ℕ) → k < slot → Done k)
+    → ((k : ℕ) → slot < k → Untouched k) → IsStoppedAt Done Untouched fault
+stopped_at Done Untouched slot (NoFile other) same below beyond =
+    (λ k less. below k (omega (arith, less, same)), λ k more. beyond k (omega (arith, more, same)))
+stopped_at Done Untouched slot (InUse other) same below beyond =
+    (λ k less. below k (omega (arith, less, same)), λ k more. beyond k (omega (arith, more, same)))
+stopped_at Done Untouched slot (Refused refusal) is below beyond = tt
+stopped_at Done Untouched slot fault is below beyond = absurd is
+
+-- a file that is there and of which this holds is one of which this holds, if it is there
+if_there : {F : Type 0} (P : F → Type 0) (file : Option F) → IsSomeAnd file P → IfSome file P
+if_there P (Some one) is = is
+if_there P None is = tt
+
+-- the files of a set that was made long enough are safe, and those of the other slots still are
+pub all_made_safe : {F : Type 0} (IsSafe : F → Type 0) (end : ℕ) (was is : List (Option F)) → AreAllSafe IsSafe was
+    → ((slot : ℕ) → slot < end → IsSomeAnd (file_in is slot) IsSafe) → ((slot : ℕ) → end ≤ slot → file_in is slot ≡ file_in was slot) → AreAllSafe IsSafe is
+all_made_safe IsSafe end was is first made others slot under = elim (cases_lt slot end) [
+  | inl below ↦ if_there IsSafe (file_in is slot) (made slot below)
+  | inr from ↦ subst (λ file. IfSome file IsSafe) (sym (others slot from)) (first slot under)
+]
+
+-- so is that of a slot that was made anew
+pub all_renewed_safe : {F : Type 0} (IsSafe : F → Type 0) (slot : ℕ) (was is : List (Option F)) → AreAllSafe IsSafe was
+    → IsSomeAnd (file_in is slot) IsSafe → AreOthersKept was is slot → AreAllSafe IsSafe is
+all_renewed_safe IsSafe slot was is first made others other under = elim (cases_eq other slot) [
+  | inl same ↦ subst (λ (k : ℕ). IfSome (file_in is k) IsSafe) (sym same) (if_there IsSafe (file_in is slot) made)
+  | inr apart ↦ subst (λ file. IfSome file IsSafe) (sym (others other apart)) (first other under)
+]

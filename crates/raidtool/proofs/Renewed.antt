@@ -7,7 +7,11 @@ use Rattle.device_files.specs.declared.slot_files.CreateFault.{CreateFault}
 use Rattle.device_files.specs.declared.slot_files.OpenFault.{OpenFault}
 use Rattle.device_files.specs.DeviceFiles.{file_in, slot_path}
 use Rattle.device_files.specs.Faults.{IsFailedCreating, IsFileFaultOf, IsUnmadeFile}
-use Rattle.raidtool.specs.Stops.{IsBlamed}
+use Rattle.sector_model.specs.declared.refusal.Refusal.{Refusal}
+use Rattle.std.proofs.lemmas.Result.{IfErr-weaker, on_ok_weaker}
+use Rattle.raidtool.specs.Replacing.{Replaces}
+use Rattle.raidtool.specs.Stops.{IsBlamed, IsRefusal}
+use Rattle.raidtool.proofs.Causes.{caused_as}
 
 -- there is a file of which this holds
 has_such : {F : Type 0} (P : F → Type 0) (file : Option F) → IsSomeAnd file P → (one : F) × P one
@@ -33,3 +37,26 @@ renewed_blamed Opens Creates HasFailed folder slot files (NoFile other) is blame
 renewed_blamed Opens Creates HasFailed folder slot files (InUse other) is blamed unmade = inr (blamed (λ same. cc))
 renewed_blamed Opens Creates HasFailed folder slot files (Refused refusal) is blamed unmade = tt
 renewed_blamed Opens Creates HasFailed folder slot files fault is blamed unmade = absurd is
+
+-- no refusal blames a file
+pub refusal_blamed : {F Made : Type 0} (Opens : (path : List ℕ) → Result (Option F) OpenFault → Type 0)
+    (Creates : (path : List ℕ) → Result Made CreateFault → Type 0) (HasFailed : F → Type 0) (folder : List ℕ) (fault : FolderFault) → IsRefusal fault
+    → IsBlamed Opens Creates HasFailed folder fault
+refusal_blamed Opens Creates HasFailed folder (Refused refusal) is = tt
+refusal_blamed Opens Creates HasFailed folder fault is = absurd is
+
+-- where more is known of what was done, of why it was refused, and of what is blamed
+pub replaces_more : {W : Type 0} (Replaced More Synced Safe : Type 0) (Cause Wider : Refusal → Type 0) (Blamed Also : FolderFault → Type 0)
+    (contents : W → Option (List ℕ)) (slot : ℕ) (was is : W) (result : Result (Unit {0}) FolderFault) → (Replaced → More) → (Synced → Safe)
+    → ((refusal : Refusal) → Cause refusal → Wider refusal) → ((fault : FolderFault) → Blamed fault → Also fault)
+    → Replaces Replaced Synced Cause Blamed contents slot was is result → Replaces More Safe Wider Also contents slot was is result
+replaces_more Replaced More Synced Safe Cause Wider Blamed Also contents slot was is result more safe wider also replaces = record {
+  synced = on_ok_weaker result safe replaces.synced;
+  replaced = on_ok_weaker result more replaces.replaced;
+  written = replaces.written;
+  fault = replaces.fault;
+  cause = IfErr-weaker result _ _ (λ fault cause. caused_as Cause Wider fault wider cause) replaces.cause;
+  blamed = IfErr-weaker result _ _ also replaces.blamed;
+  unwritten = replaces.unwritten;
+  cut = IfErr-weaker result _ _ (λ fault both same. (more (both same).0, (both same).1)) replaces.cut;
+}

@@ -157,12 +157,13 @@ pub fresh_first : (refusal : Refusal) → IsFreshEnd refusal → ComesFirst refu
 fresh_first refusal ends first = elim (end_of_fresh refusal ends) [ inl served ↦ inl (first_early refusal served first) | inr unusable ↦ inr unusable ]
 
 -- the same of a script over a set that is made for it
-pub fresh_refused : (words : List Text) → words ≡ [] → (Same : Type 0) (Told : List ℕ → Type 0) (done : Result (Unit {0}) Refusal) (status : ℕ)
+pub fresh_refused : (Caused : Invocation → Refusal → Type 0) (words : List Text) → words ≡ [] → (Same : Type 0) (Told : List ℕ → Type 0)
+    (done : Result (Unit {0}) Refusal) (status : ℕ)
     → status ≡ (if is_ok done then 0 else 1) → status ≡ 1
     → IfErr done IsFreshEnd → IfErr done (λ refusal. Told (refusal_line refusal)) → IfErr done (λ refusal. IsEarly refusal ⊎ (refusal ≡ NotUsable) → Same)
-    → WasRefused (IsEndOf words) Told Same
-fresh_refused words none Same Told (Ok value) status is one ends told alone = absurd (omega (arith, is, one))
-fresh_refused words none Same Told (Err refusal) status is one ends told alone =
+    → WasRefused (IsEndOf Caused words) Told Same
+fresh_refused Caused words none Same Told (Ok value) status is one ends told alone = absurd (omega (arith, is, one))
+fresh_refused Caused words none Same Told (Err refusal) status is one ends told alone =
     record { refusal = refusal; ends = inr (inl (none, ends)); told = told; alone = λ first. alone (fresh_first refusal ends first) }
 
 -- ---- a status that was told

@@ -2,7 +2,7 @@
 use Rattle.std.proofs.Common.{◌≡◌, ◌∙◌, ◌<◌, ◌≤◌, ◌+◌, ℕ, ap, inl, inr, refl, Bool, List, [], Option, Some, None, Ok, Err, IfSome, IsSome, OnOk, arith, subst}
 use Rattle.std.proofs.Common.{sym, true, false}
 use Rattle.std.proofs.lemmas.Bool.{false≢true}
-use Rattle.std.specs.Prelude.{Result, is_some, zero, suc}
+use Rattle.std.specs.Prelude.{IsSomeAnd, IsTrue, Result, is_some, zero, suc}
 use Rattle.std.specs.declared.io.Error.{Error}
 use Rattle.sector_model.specs.declared.refusal.Refusal.{Refusal}
 use Rattle.array_io.specs.Believed.Views.{EndsIt}
@@ -11,6 +11,7 @@ use Rattle.device_files.specs.declared.FolderFault.TheVariants.{NoFile, NotOpene
 use Rattle.device_files.specs.declared.Reason.{Reason}
 use Rattle.device_files.specs.declared.slot_files.CreateFault.{CreateFault}
 use Rattle.device_files.specs.declared.slot_files.OpenFault.{OpenFault}
+use Rattle.device_files.proofs.MadeSafe.{all_safe}
 use Rattle.device_files.specs.DeviceFiles.{IsMadeSafe, IsOpenedAs, WereMadeSafe, barred_in, file_in, flag_in, slot_path}
 use Rattle.device_files.specs.Faults.{IsBarredIn, IsGivenUp, IsPassingFault, IsToldLine, IsUnsyncedIn, PassesBelow}
 use Rattle.raidtool.specs.FolderFiles.{WereTaken}
@@ -22,12 +23,13 @@ pub at_any_rate : {T E P : Type 0} (result : Result T E) → P → OnOk result P
 at_any_rate (Ok value) holds = holds
 at_any_rate (Err error) holds = tt
 
--- a file that is there is safe
-pub safe_of : {F : Type 0} (tells : Bool) (told : F → List ℕ) (IsSafe HasFailed : F → Type 0) (old new : Option F) (flag : Bool)
-    → IsMadeSafe tells told IsSafe HasFailed old new flag → IfSome new IsSafe
-safe_of tells told IsSafe HasFailed None new flag is = rw is.0 tt
-safe_of tells told IsSafe HasFailed (Some old) (Some new) flag is = is.0.0
-safe_of tells told IsSafe HasFailed (Some old) None flag is = tt
+-- and tells what it did when it was opened
+same_of : {F : Type 0} (tells : Bool) (told : F → List ℕ) (IsSafe HasFailed : F → Type 0) (old new : Option F) (flag : Bool)
+    → IsMadeSafe tells told IsSafe HasFailed old new flag
+    → IfSome new (λ file. IsSomeAnd old (λ one. IsTrue tells → told file ≡ told one))
+same_of tells told IsSafe HasFailed None new flag is = rw is.0 tt
+same_of tells told IsSafe HasFailed (Some old) (Some new) flag is = is.0.1
+same_of tells told IsSafe HasFailed (Some old) None flag is = tt
 
 -- where the slot is not marked, a file that was there is
 pub kept_of : {F : Type 0} (tells : Bool) (told : F → List ℕ) (IsSafe HasFailed : F → Type 0) (old new : Option F) (flag : Bool)
@@ -44,22 +46,35 @@ failed_of tells told IsSafe HasFailed (Some old) (Some new) flag is marked = abs
 failed_of tells told IsSafe HasFailed (Some old) None flag is marked = is.0
 
 -- the files were taken, and none of which this holds was given up, where no such slot is marked
-pub were_taken : {F : Type 0} (tells : Bool) (told : F → List ℕ) (IsSafe HasFailed : F → Type 0) (Opens : (slot : ℕ) → Result (Option F) OpenFault → Type 0)
-    (files : List (Option F)) (unsynced : List Bool) (barred : List (Option Reason)) (IsNeeded MayLack : ℕ → Type 0)
+were_taken : {F : Type 0} (tells : Bool) (told : F → List ℕ) (IsSafe HasFailed : F → Type 0) (Opens : (slot : ℕ) → Result (Option F) OpenFault → Type 0)
+    (files : List (Option F)) (unsynced : List Bool) (barred : List (Option Reason)) (IsNeeded : ℕ → Type 0) (MayLack : List (Option F) → ℕ → Type 0)
     → WereMadeSafe tells told IsSafe HasFailed Opens files unsynced barred
-    → ((slot : ℕ) → slot < 10 → IsNeeded slot → flag_in unsynced slot ≡ false) → ((slot : ℕ) → slot < 10 → IsSome (barred_in barred slot) → MayLack slot)
-    → WereTaken IsSafe Opens IsNeeded MayLack
+    → ((slot : ℕ) → slot < 10 → IsNeeded slot → flag_in unsynced slot ≡ false)
+    → ((slot : ℕ) → slot < 10 → IsSome (barred_in barred slot) → MayLack files slot)
+    → WereTaken IsSafe (λ old new. IsTrue tells → told new ≡ told old) Opens IsNeeded MayLack
 were_taken tells told IsSafe HasFailed Opens files unsynced barred IsNeeded MayLack made unmarked lacking = record {
   opened = made.opened;
   files = files;
   barred = barred;
   opens = made.opens;
   passed = lacking;
-  safe = λ slot under. safe_of tells told IsSafe HasFailed (file_in made.opened slot) (file_in files slot) (flag_in unsynced slot) (made.made_safe slot under);
+  safe = all_safe tells told IsSafe HasFailed Opens files unsynced barred made;
+  same = λ slot under. same_of tells told IsSafe HasFailed (file_in made.opened slot) (file_in files slot) (flag_in unsynced slot) (made.made_safe slot under);
   kept = λ slot under needed. kept_of tells told IsSafe HasFailed (file_in made.opened slot) (file_in files slot) (flag_in unsynced slot)
       (made.made_safe slot under)
       (unmarked slot under needed);
 }
+
+-- and this was done over them
+pub taken_over : {F : Type 0} (tells : Bool) (told : F → List ℕ) (IsSafe HasFailed : F → Type 0) (Opens : (slot : ℕ) → Result (Option F) OpenFault → Type 0)
+    (files : List (Option F)) (unsynced : List Bool) (barred : List (Option Reason)) (IsNeeded : ℕ → Type 0) (MayLack : List (Option F) → ℕ → Type 0)
+    (Over : List (Option F) → Type 0) → WereMadeSafe tells told IsSafe HasFailed Opens files unsynced barred
+    → ((slot : ℕ) → slot < 10 → IsNeeded slot → flag_in unsynced slot ≡ false)
+    → ((slot : ℕ) → slot < 10 → IsSome (barred_in barred slot) → MayLack files slot)
+    → Over files → (taken : WereTaken IsSafe (λ old new. IsTrue tells → told new ≡ told old) Opens IsNeeded MayLack) × Over taken.files
+unfolding were_taken
+taken_over tells told IsSafe HasFailed Opens files unsynced barred IsNeeded MayLack Over made unmarked lacking over =
+    (were_taken tells told IsSafe HasFailed Opens files unsynced barred IsNeeded MayLack made unmarked lacking, over)
 
 -- ---- where that failed
 

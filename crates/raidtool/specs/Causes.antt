@@ -1,7 +1,8 @@
--- Why a line was refused: on some bank of files, of whose contents nothing is known.
-use Rattle.std.specs.Prelude.{◌≡◌, ◌⊎◌, ℕ, Bool, List, [], Option}
+-- Why a line was refused: on some bank over files that are safe, which is honest where they tell what they hold, and begins with that.
+use Rattle.std.specs.Prelude.{◌≡◌, ◌⊎◌, ℕ, Bool, IsTrue, List, [], Option}
 use Rattle.sector_model.specs.declared.refusal.Refusal.{Refusal}
 use Rattle.sector_model.specs.declared.refusal.Refusal.TheVariants.{BadGeometry, Memory, ReadFault, WriteFault}
+use Rattle.layout_map.specs.declared.format.Format.TheVariants.{One}
 use Rattle.layout_map.specs.declared.geometry.Geometry.{Geometry}
 use Rattle.layout_map.specs.Placement.{IsGeometry}
 use Rattle.recovery.specs.Making.{BankView}
@@ -9,9 +10,10 @@ use Rattle.volume_table.specs.VolumeStep.{OnSet, OnVolumes}
 use Rattle.volume_table.specs.VolumeStep.{Fail as FailSlot, Replace as ReplaceDevice, Scrub as ScrubSet, Upgrade as UpgradeTable}
 use Rattle.command_line.specs.declared.Invocation.{Invocation}
 use Rattle.command_line.specs.declared.Invocation.TheVariants.{Examine, Fail, Make, Rebuild, Replace, Run, Scrub, Status, Upgrade}
-use Rattle.device_files.specs.DeviceFiles.{IsNoTableIn}
+use Rattle.device_files.specs.declared.growing.Growing.{Ghosts}
 use Rattle.device_files.specs.declared.FolderFault.{FolderFault}
 use Rattle.device_files.specs.declared.FolderFault.TheVariants.{Refused}
+use Rattle.raidtool.specs.Begun.{BeginsSafely, IsNoTableOver}
 use Rattle.raidtool.specs.Done.{HasSizes, OfFiles}
 use Rattle.raidtool.specs.OtherSets.{IsRefusedMake, StopsMaking}
 use Rattle.set_commands.specs.Examining.{RefusesInspecting}
@@ -48,16 +50,22 @@ IsCauseOn (Upgrade folder id) honest bank refusal = IsNotOpened honest id bank r
 IsCauseOn (Examine folder id json check) honest bank refusal = RefusesInspecting honest id json bank refusal
 
 -- why no set of these sizes was made over the files of a folder: no set has them; or one that has could not be made on some bank of ten such files
-abbrev pub IsCauseOfMake : (id : List ℕ) (members chunk stripes : ℕ) → Refusal → Type 0
-IsCauseOfMake id members chunk stripes BadGeometry = ¬ IsGeometry members chunk stripes
-IsCauseOfMake id members chunk stripes refusal = (geometry : Geometry) × HasSizes members chunk stripes geometry × IsRefusedMake id geometry refusal
+abbrev pub IsCauseOfMake : {F : Type 0} → (growing : Ghosts F) (left : F → List ℕ) (id : List ℕ) (members chunk stripes : ℕ) → Refusal → Type 0
+IsCauseOfMake growing left id members chunk stripes BadGeometry = ¬ IsGeometry One members chunk stripes
+IsCauseOfMake growing left id members chunk stripes refusal = (geometry : Geometry) × HasSizes members chunk stripes geometry
+    × IsRefusedMake (IsTrue growing.tells) (BeginsSafely growing left) id geometry refusal
+
+-- a slot was not given a device on some bank of such files
+abbrev pub IsReplaceRefused : {F : Type 0} → (growing : Ghosts F) (left : F → List ℕ) (id : List ℕ) (slot : ℕ) → Refusal → Type 0
+IsReplaceRefused growing left id slot refusal =
+    (bank : BankView) × BeginsSafely growing left bank.history × RefusesReplace (IsTrue growing.tells) id slot bank refusal
 
 -- why a slot was not given a device over such files: on some bank of them, or in seeking the table of its set, for whether its file is made anew, or whether
 -- a slot is missing whose file can't be opened
-abbrev pub IsCauseOfReplace : (id : List ℕ) (slot : ℕ) → Refusal → Type 0
-IsCauseOfReplace id slot refusal = ((bank : BankView) × RefusesReplace OfFiles id slot bank refusal) ⊎ IsNoTableIn id refusal
+abbrev pub IsCauseOfReplace : {F : Type 0} → (growing : Ghosts F) (left : F → List ℕ) (id : List ℕ) (slot : ℕ) → Refusal → Type 0
+IsCauseOfReplace growing left id slot refusal = IsReplaceRefused growing left id slot refusal ⊎ IsNoTableOver growing left id refusal
 
--- why no set was told of
+-- why no set was told of: on some bank over files that are opened for reading alone, which tell nothing
 abbrev pub IsCauseOfExamine : (id : Option (List ℕ)) (json : Bool) → Refusal → Type 0
 IsCauseOfExamine id json refusal = (bank : BankView) × RefusesInspecting OfFiles id json bank refusal
 
@@ -73,13 +81,20 @@ id_text (Scrub folder id) = id
 id_text (Upgrade folder id) = id
 id_text (Examine folder id json check) = []
 
--- why a line was refused: on some bank, or in seeking the table of its set, for whether a slot is missing whose file can't be opened
-abbrev pub HasCause : Invocation → Refusal → Type 0
-HasCause (Make folder id members chunk stripes) refusal = IsCauseOfMake id members chunk stripes refusal
-HasCause (Replace folder id slot) refusal = IsCauseOfReplace id slot refusal
-HasCause (Examine folder id json check) refusal = IsCauseOfExamine id json refusal
-HasCause line refusal = ((bank : BankView) × IsCauseOn line OfFiles bank refusal) ⊎ IsNoTableIn (id_text line) refusal
+-- what a line asks for, which makes no file, was refused on some bank of such files, or in seeking the table of its set, for whether a slot is missing whose
+-- file can't be opened
+abbrev pub IsCauseOver : {F : Type 0} → (growing : Ghosts F) (left : F → List ℕ) → Invocation → Refusal → Type 0
+IsCauseOver growing left line refusal =
+    ((bank : BankView) × BeginsSafely growing left bank.history × IsCauseOn line (IsTrue growing.tells) bank refusal)
+    ⊎ IsNoTableOver growing left (id_text line) refusal
+
+-- why a line was refused
+abbrev pub HasCause : {F : Type 0} → (growing : Ghosts F) (left : F → List ℕ) → Invocation → Refusal → Type 0
+HasCause growing left (Make folder id members chunk stripes) refusal = IsCauseOfMake growing left id members chunk stripes refusal
+HasCause growing left (Replace folder id slot) refusal = IsCauseOfReplace growing left id slot refusal
+HasCause growing left (Examine folder id json check) refusal = IsCauseOfExamine id json refusal
+HasCause growing left line refusal = IsCauseOver growing left line refusal
 
 -- a refusal has its cause, unless memory, a reader or a writer is cause enough
-abbrev pub IsCaused : Invocation → Refusal → Type 0
-IsCaused line refusal = ¬ IsPlainEnd refusal → HasCause line refusal
+abbrev pub IsCaused : {F : Type 0} → (growing : Ghosts F) (left : F → List ℕ) → Invocation → Refusal → Type 0
+IsCaused growing left line refusal = ¬ IsPlainEnd refusal → HasCause growing left line refusal

@@ -3,6 +3,8 @@ use Rattle.std.specs.Prelude.{◌≡◌, ◌≢◌, ℕ, Bool, List, Option, Res
 use Rattle.std.specs.Io.KnownBytes.{Appends}
 use Rattle.sector_model.specs.declared.refusal.Refusal.{Refusal}
 use Rattle.sector_model.specs.declared.refusal.Refusal.TheVariants.{WriteFault}
+use Rattle.sector_model.specs.History.{History}
+use Rattle.layout_map.specs.declared.format.Format.TheVariants.{One}
 use Rattle.layout_map.specs.declared.geometry.Geometry.{Geometry}
 use Rattle.layout_map.specs.Placement.{IsGeometry}
 use Rattle.array_io.specs.Believed.Views.{ArrayView}
@@ -28,12 +30,13 @@ pub record RefusesMake (honest : Type 0) (id : List ℕ) (geometry : Geometry) (
   pub back : BankView
   pub makes : Makes honest id geometry bank (Returned back refusal)
 
--- a geometry of these sizes
+-- a geometry of format 1 with these sizes
 pub record HasSizes (members chunk stripes : ℕ) (geometry : Geometry) : Type 0 where
+  pub format_is : geometry.format ≡ One
   pub members_is : geometry.members ≡ members
   pub chunk_is : geometry.chunk ≡ chunk
   pub stripes_is : geometry.stripes ≡ stripes
-  pub within : IsGeometry members chunk stripes
+  pub within : IsGeometry One members chunk stripes
 
 -- what a line asks for was done on a bank, and what it writes was written
 abbrev pub DoesOn : Invocation → (honest : Type 0) (bank : BankView) (was is : Streams) → Type 0
@@ -48,15 +51,11 @@ DoesOn (Scrub folder id) honest bank was is = ScrubsOn honest id bank (Appends w
 DoesOn (Upgrade folder id) honest bank was is = UpgradesOn honest id bank (Ok tt) × Appends was.contents is.contents (reply_text Done)
 DoesOn (Examine folder id json check) honest bank was is = ExaminesOn honest id json bank was.contents is.contents
 
--- what is known of the contents of the files of a folder, which tell nothing
+-- what is known of the contents of files that are opened for reading alone: they tell nothing
 abbrev pub OfFiles : Type 0
 OfFiles = IsTrue false
 
--- it was done on some bank, of whose contents nothing is known
-abbrev pub IsDone : Invocation → (was is : Streams) → Type 0
-IsDone line was is = (bank : BankView) × DoesOn line OfFiles bank was is
-
--- the set of an id, or each set, was inspected on such a bank, and what was found was written
+-- the set of an id, or each set, was inspected on some bank of such files, and what was found was written
 abbrev pub IsExamined : (id : Option (List ℕ)) (json : Bool) (was is : Option (List ℕ)) → Type 0
 IsExamined id json was is = (bank : BankView) × ExaminesOn OfFiles id json bank was is
 
@@ -64,13 +63,9 @@ IsExamined id json was is = (bank : BankView) × ExaminesOn OfFiles id json bank
 abbrev pub IsPartExamined : (id : Option (List ℕ)) (json : Bool) (was is : Option (List ℕ)) → Type 0
 IsPartExamined id json was is = (bank : BankView) × ExaminesPartOn OfFiles id json bank was is
 
--- this slot of a set of this id was given a device on such a bank
-abbrev pub IsReplacedSlot : (id : List ℕ) (slot : ℕ) → Type 0
-IsReplacedSlot id slot = (bank : BankView) × ReplacesOn OfFiles id slot bank (Ok tt)
-
--- by the superblocks on such a bank the file of a slot has this need
-abbrev pub IsNeedIn : (id : List ℕ) (slot : ℕ) → Option ℕ → Type 0
-IsNeedIn id slot need = (old : BankView) × (new : BankView) × FindsNeed OfFiles id slot old new (Ok need)
+-- by the superblocks on a bank that is honest where this holds, and whose run began so, the file of a slot has this need
+abbrev pub IsNeedIn : (honest : Type 0) (Begins : History → Type 0) (id : List ℕ) (slot : ℕ) → Option ℕ → Type 0
+IsNeedIn honest Begins id slot need = (old : BankView) × (new : BankView) × Begins old.history × FindsNeed honest id slot old new (Ok need)
 
 -- a slot was not given its device: it was refused, and not because that could not be told
 abbrev pub IsUndone : Result (Unit {0}) FolderFault → Type 0

@@ -1,5 +1,7 @@
+pub mod Begun
 pub mod Causes
 pub mod Done
+pub mod DoneOver
 pub mod FolderFiles
 pub mod Needs
 pub mod OtherSets

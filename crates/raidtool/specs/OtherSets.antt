@@ -4,7 +4,7 @@ use Rattle.sector_model.specs.declared.refusal.Refusal.{Refusal}
 use Rattle.sector_model.specs.declared.refusal.Refusal.TheVariants.{Worn}
 use Rattle.sector_model.specs.declared.calls.TheConstants.{GREATEST_COUNT}
 use Rattle.sector_model.specs.Bank.{IsLater}
-use Rattle.sector_model.specs.History.{is_down, start_of}
+use Rattle.sector_model.specs.History.{History, is_down, start_of}
 use Rattle.sector_model.specs.Readable.{NothingPending, readable}
 use Rattle.sector_model.specs.Reads.{HasRead}
 use Rattle.layout_map.specs.declared.geometry.Geometry.{Geometry}
@@ -17,7 +17,7 @@ use Rattle.recovery.specs.Finding.{NewestFound}
 use Rattle.recovery.specs.Making.{BankView, IsQuietBeyond}
 use Rattle.device_files.specs.declared.FolderFault.{FolderFault}
 use Rattle.device_files.specs.declared.FolderFault.TheVariants.{OtherSet, Refused}
-use Rattle.raidtool.specs.Done.{MakesOn, OfFiles, RefusesMake}
+use Rattle.raidtool.specs.Done.{MakesOn, RefusesMake}
 
 -- what is found from a slot on: the lowest one in which a superblock of this id counts, or that there is none
 abbrev pub IsFoundBeyond : (id : List ℕ) (first : ℕ) (bank : BankView) → Option ℕ → Type 0
@@ -39,13 +39,14 @@ RefusesOther honest id first old new (OtherSet slot) =
 RefusesOther honest id first old new (Refused refusal) = (refusal ≡ Worn) × InspectsBeyond honest id first old new (Err refusal)
 RefusesOther honest id first old new fault = ⊥
 
--- on some bank of files, which tell nothing, no slot from one on was found to have a set of this id
-abbrev pub IsAloneIn : (id : List ℕ) (first : ℕ) → Type 0
-IsAloneIn id first = (old : BankView) × (new : BankView) × InspectsBeyond OfFiles id first old new (Ok None)
+-- on a bank that is honest where this holds, and whose run began so, no slot from one on was found to have a set of this id
+abbrev pub IsAloneIn : (honest : Type 0) (Begins : History → Type 0) (id : List ℕ) (first : ℕ) → Type 0
+IsAloneIn honest Begins id first = (old : BankView) × (new : BankView) × Begins old.history × InspectsBeyond honest id first old new (Ok None)
 
--- on some bank of ten such files that could not be told, for this refusal
-abbrev pub IsUntoldIn : (id : List ℕ) (first : ℕ) → Refusal → Type 0
-IsUntoldIn id first refusal = (old : BankView) × (old.panel.devices ≡ 10) × (new : BankView) × RefusesOther OfFiles id first old new (Refused refusal)
+-- on such a bank of ten devices that could not be told, for this refusal
+abbrev pub IsUntoldIn : (honest : Type 0) (Begins : History → Type 0) (id : List ℕ) (first : ℕ) → Refusal → Type 0
+IsUntoldIn honest Begins id first refusal =
+    (old : BankView) × Begins old.history × (old.panel.devices ≡ 10) × (new : BankView) × RefusesOther honest id first old new (Refused refusal)
 
 -- nothing is pending, and each device after so many slots that was there at first is up: so it is with files that were just opened
 pub record IsStillBeyond (slots : ℕ) (bank : BankView) : Type 0 where
@@ -62,9 +63,9 @@ pub record MakesAlone (honest : Type 0) (id : List ℕ) (geometry : Geometry) (b
       → IsQuietBeyond id (geometry.members + 2) inspected
   pub rests : honest → IsStillBeyond (geometry.members + 2) bank → NoDeviceFailed bank.panel inspected.panel → RestsOn makes.array None (zeros_of geometry)
 
--- a set of this id and geometry was so made on some bank of files
-abbrev pub IsMadeAlone : (id : List ℕ) → Geometry → Type 0
-IsMadeAlone id geometry = (bank : BankView) × MakesAlone OfFiles id geometry bank
+-- a set of this id and geometry was so made on a bank that is honest where this holds, and whose run began so
+abbrev pub IsMadeAlone : (honest : Type 0) (Begins : History → Type 0) (id : List ℕ) → Geometry → Type 0
+IsMadeAlone honest Begins id geometry = (bank : BankView) × Begins bank.history × MakesAlone honest id geometry bank
 
 -- No slot after those of a set was found to have another one of its id, and then the set was not made on this very bank, for this refusal.
 pub record RefusesMakeAlone (honest : Type 0) (id : List ℕ) (geometry : Geometry) (bank : BankView) (refusal : Refusal) : Type 0 where
@@ -77,6 +78,7 @@ abbrev pub StopsMaking : (honest : Type 0) (id : List ℕ) (geometry : Geometry)
 StopsMaking honest id geometry bank fault = ((after : BankView) × RefusesOther honest id (geometry.members + 2) bank after fault)
     ⊎ ((refusal : Refusal) × (fault ≡ Refused refusal) × RefusesMakeAlone honest id geometry bank refusal)
 
--- a set of this id and geometry was so refused on some bank of ten files
-abbrev pub IsRefusedMake : (id : List ℕ) → Geometry → Refusal → Type 0
-IsRefusedMake id geometry refusal = (bank : BankView) × (bank.panel.devices ≡ 10) × StopsMaking OfFiles id geometry bank (Refused refusal)
+-- a set of this id and geometry was so refused on a bank of ten devices that is honest where this holds, and whose run began so
+abbrev pub IsRefusedMake : (honest : Type 0) (Begins : History → Type 0) (id : List ℕ) → Geometry → Refusal → Type 0
+IsRefusedMake honest Begins id geometry refusal =
+    (bank : BankView) × Begins bank.history × (bank.panel.devices ≡ 10) × StopsMaking honest id geometry bank (Refused refusal)

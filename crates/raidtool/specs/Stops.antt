@@ -71,6 +71,12 @@ IsMakingFault members devices (OtherSet slot) = (members + 2 ≤ slot) × (slot 
 IsMakingFault members devices (Refused refusal) = IsMakingRefusal refusal
 IsMakingFault members devices fault = ⊥
 
+-- what stops it on a bank over the files of ten slots: such a slot, such a refusal, or memory ran out
+abbrev pub IsStoppedOver : (members : ℕ) → FolderFault → Type 0
+IsStoppedOver members (OtherSet slot) = (members + 2 ≤ slot) × (slot < 10)
+IsStoppedOver members (Refused refusal) = IsMakingRefusal refusal ⊎ (refusal ≡ Memory)
+IsStoppedOver members fault = ⊥
+
 -- what making can be refused with
 abbrev pub IsMakeEnd : Refusal → Type 0
 IsMakeEnd refusal = IsMakingRefusal refusal ⊎ ((refusal ≡ Memory) ⊎ (refusal ≡ WriteFault))
@@ -108,6 +114,11 @@ IsSlotFault End slot (NotSafe other shortage) = other < 10
 IsSlotFault End slot (OtherSet other) = ⊥
 IsSlotFault End slot NotSynced = Unit {0}
 IsSlotFault End slot (Refused refusal) = End refusal
+
+-- it is a refusal, and no fault of a device file or of a folder
+abbrev pub IsRefusal : FolderFault → Type 0
+IsRefusal (Refused refusal) = Unit {0}
+IsRefusal fault = ⊥
 
 -- what stops a command that makes no file: one that is opened, or such a refusal
 abbrev pub IsServeFault : (End : Refusal → Type 0) → FolderFault → Type 0

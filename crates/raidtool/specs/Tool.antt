@@ -8,6 +8,7 @@ use Rattle.std.specs.declared.io.ErrorKind.{ErrorKind}
 use Rattle.std.specs.declared.io.ErrorKind.TheVariants as io
 use Rattle.sector_model.specs.declared.refusal.Refusal.{Refusal}
 use Rattle.sector_model.specs.declared.refusal.Refusal.TheVariants.{BadTable, Memory, NoSet, ReadFault, TwoLost, Worn, WriteFault}
+use Rattle.layout_map.specs.declared.format.Format.TheVariants.{One}
 use Rattle.layout_map.specs.Placement.{IsGeometry}
 use Rattle.recovery.specs.declared.examination.Examined.{Examined}
 use Rattle.rebuild.specs.Rebuilding as rebuilding
@@ -16,15 +17,9 @@ use Rattle.scrub.specs.Scrubbing.{Report}
 use Rattle.volume_table.specs.declared.status.Status.{Status as SetStatus}
 use Rattle.volume_table.specs.VolumeStep.{Done}
 use Rattle.command_line.specs.Invocations.{AsksFor}
-use Rattle.device_files.specs.DeviceFiles.{IsMissingIn, slot_path}
-use Rattle.raidtool.specs.FolderFiles.{WereOpened, WereTaken}
-use Rattle.raidtool.specs.Causes.{IsCaused, id_text}
-use Rattle.raidtool.specs.Done.{IsDone, OfFiles}
-use Rattle.set_commands.specs.Run.{Streams}
-use Rattle.set_commands.specs.Healths.{HealthOn, InspectsHealth}
+use Rattle.raidtool.specs.DoneOver.{folder_text}
 use Rattle.set_commands.specs.declared.serving.health.Health.{Health}
 use Rattle.set_commands.specs.declared.serving.health.Health.TheVariants.{Complete, Incomplete, Unassembled}
-use Rattle.recovery.specs.Making.{BankView}
 use Rattle.set_commands.specs.Examining.{IsExamineEnd, IsInspectionText}
 use Rattle.set_commands.specs.Fresh.{IsFreshEnd}
 use Rattle.report.specs.Replies.{made_line, progress_line, refusal_line, reply_text, scrub_line}
@@ -97,9 +92,9 @@ IsServed (Examine folder id json check) = ⊥
 IsServed line = Unit {0}
 
 -- what these words can be refused with by the exit status 1; a line that asks how well a set is ends otherwise where there is none that could be assembled
-abbrev pub IsEndOf : List Text → Refusal → Type 0
-IsEndOf words refusal = (refusal ≡ Memory) ⊎ (((words ≡ []) × IsFreshEnd refusal)
-    ⊎ ((line : Invocation) × AsksFor words line × IsEndOfLine line refusal × (IsChecked line → ¬ IsNone refusal) × IsCaused line refusal))
+abbrev pub IsEndOf : (Caused : Invocation → Refusal → Type 0) → List Text → Refusal → Type 0
+IsEndOf Caused words refusal = (refusal ≡ Memory) ⊎ (((words ≡ []) × IsFreshEnd refusal)
+    ⊎ ((line : Invocation) × AsksFor words line × IsEndOfLine line refusal × (IsChecked line → ¬ IsNone refusal) × Caused line refusal))
 
 -- found before anything is read or written: any other than a fault of the reader or the writer, or the end of a store
 abbrev pub ComesFirst : Refusal → Type 0
@@ -152,7 +147,7 @@ pub record IsInspectionTold (id : Option (List ℕ)) (json : Bool) (IsWritten : 
 -- what standard output gets where a line is done; what a script gets is not said here
 abbrev pub IsWritten : Invocation → (old new : Option (List ℕ)) → Type 0
 IsWritten (Run folder id) old new = Unit {0}
-IsWritten (Make folder id members chunk stripes) old new = IsGeometry members chunk stripes × Appends old new made_line
+IsWritten (Make folder id members chunk stripes) old new = IsGeometry One members chunk stripes × Appends old new made_line
 IsWritten (Status folder id json check) old new = IsStatusTold id json old new
 IsWritten (Fail folder id slot) old new = Appends old new (reply_text Done)
 IsWritten (Replace folder id slot) old new = Appends old new (reply_text Done)
@@ -189,7 +184,7 @@ pub record WasRefused (End : Refusal → Type 0) (Told : List ℕ → Type 0) (S
 -- what stops a making: its sizes are those of a set, but where it is refused
 abbrev pub IsStoppedMake : (members chunk stripes : ℕ) → FolderFault → Type 0
 IsStoppedMake members chunk stripes (Refused refusal) = IsMakeEnd refusal
-IsStoppedMake members chunk stripes fault = IsGeometry members chunk stripes × IsMakeFault members fault
+IsStoppedMake members chunk stripes fault = IsGeometry One members chunk stripes × IsMakeFault members fault
 
 -- what stops a line over a folder
 abbrev pub IsStopOf : Invocation → FolderFault → Type 0
@@ -206,31 +201,6 @@ IsFirst fault = Unit {0}
 abbrev pub IsOfFiles : FolderFault → Type 0
 IsOfFiles (Refused refusal) = ⊥
 IsOfFiles fault = Unit {0}
-
--- the folder of a line
-abbrev pub folder_text : Invocation → List ℕ
-folder_text (Run folder id) = folder.now
-folder_text (Make folder id members chunk stripes) = folder.now
-folder_text (Status folder id json check) = folder.now
-folder_text (Fail folder id slot) = folder.now
-folder_text (Replace folder id slot) = folder.now
-folder_text (Rebuild folder id steps) = folder.now
-folder_text (Scrub folder id) = folder.now
-folder_text (Upgrade folder id) = folder.now
-folder_text (Examine folder id json check) = folder.now
-
--- The files of a line's folder were opened, and each that was used is safe; or for reading alone where its sets were inspected. The folder was synced where a
--- set was made, and where a slot was given a device, and no file that is made a part of the set was given up for its sync. One that is there and could not be
--- opened was passed over only where the set calls its slot missing.
-abbrev pub IsDoneIn : {F L : Type 0} → (Opens : (path : List ℕ) → Result (Option F) OpenFault → Type 0) (IsSafe : F → Type 0)
-    (Inspects : (path : List ℕ) → Result (Option L) OpenFault → Type 0) (IsSynced : (folder : List ℕ) → Type 0) → Invocation → Type 0
-IsDoneIn Opens IsSafe Inspects IsSynced (Make folder id members chunk stripes) =
-    WereTaken IsSafe (λ slot. Opens (slot_path folder.now slot)) (λ slot. slot < members + 2) (λ _. ⊥) × IsSynced folder.now
-IsDoneIn Opens IsSafe Inspects IsSynced (Replace folder id slot) =
-    WereTaken IsSafe (λ other. Opens (slot_path folder.now other)) (λ other. other ≡ slot) (λ other. (other ≢ slot) × IsMissingIn id other)
-    × IsSynced folder.now
-IsDoneIn Opens IsSafe Inspects IsSynced (Examine folder id json check) = WereOpened Inspects folder.now
-IsDoneIn Opens IsSafe Inspects IsSynced line = WereTaken IsSafe (λ slot. Opens (slot_path (folder_text line) slot)) (λ _. ⊥) (IsMissingIn (id_text line))
 
 -- a device file is named only where that is what opening its path came to, or creating it, or a call of a file, or opening it for reading alone
 abbrev pub IsBlamedIn : {F Made L : Type 0} → (Opens : (path : List ℕ) → Result (Option F) OpenFault → Type 0)
@@ -257,7 +227,7 @@ pub record IsCutOff (line : Invocation) (out new_out : Option (List ℕ)) (Told 
 
 -- the line is to make a set of sizes that none has
 abbrev pub IsMisshapen : Invocation → Type 0
-IsMisshapen (Make folder id members chunk stripes) = ¬ IsGeometry members chunk stripes
+IsMisshapen (Make folder id members chunk stripes) = ¬ IsGeometry One members chunk stripes
 IsMisshapen line = ⊥
 
 -- a line that passes over no file, of which there is nothing to be told
@@ -284,16 +254,6 @@ IsNotStarted kind status old new = status ≡ 1
 
 -- ---- how well a set is
 
--- so well is the set of a line on a bank, or the worst of its sets and of what was; of other lines it is what was
-abbrev pub HealthOf : Invocation → (honest : Type 0) (bank : BankView) (was is : Health) → Type 0
-HealthOf (Status folder id json check) honest bank was is = HealthOn honest id bank is
-HealthOf (Examine folder id json check) honest bank was is = InspectsHealth honest id bank was is
-HealthOf line honest bank was is = is ≡ was
-
--- so it is on some bank of files, which tell nothing
-abbrev pub HasHealth : Invocation → (was is : Health) → Type 0
-HasHealth line was is = (bank : BankView) × HealthOf line OfFiles bank was is
-
 -- the exit status of what was done, or refused
 abbrev pub status_by : Result (Unit {0}) FolderFault → (status : ℕ) → Health → ℕ
 status_by (Ok value) status Complete = 0
@@ -311,12 +271,6 @@ checked_status (Status folder id json true) done status health = status_by done 
 checked_status (Examine folder id json true) done status health = status_by done status health
 checked_status line done status health = status
 
--- it was done, and a set is not complete
-pub record WasIncomplete (line : Invocation) (was is : Streams) : Type 0 where
-  pub does : IsDone line was is
-  pub health : HasHealth line Complete Incomplete
-
--- it was done, with no fault told, and a set would not be assembled; or none was, which was told
-abbrev pub WasUnassembled : Invocation → (was is : Streams) (Quiet : Type 0) (Told : List ℕ → Type 0) → Type 0
-WasUnassembled line was is Quiet Told = ((IsDone line was is × HasHealth line Complete Unassembled) × Quiet)
-    ⊎ ((refusal : Refusal) × IsNone refusal × IsCaused line refusal × Told (refusal_line refusal))
+-- it was done so, with no fault told, and a set would not be assembled; or none was, which was told
+abbrev pub WasUnassembled : (Does : Type 0) (Caused : Refusal → Type 0) (Quiet : Type 0) (Told : List ℕ → Type 0) → Type 0
+WasUnassembled Does Caused Quiet Told = (Does × Quiet) ⊎ ((refusal : Refusal) × IsNone refusal × Caused refusal × Told (refusal_line refusal))

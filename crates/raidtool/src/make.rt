@@ -1,23 +1,27 @@
 //! Making a set on the device files of a folder.
-ghost use Rattle.std.specs.Prelude.{◌≡◌, ◌≢◌, ◌<◌, ◌+◌, ◌⊎◌, IfErr, OnOk, map, string_bytes, ℕ};
+ghost use Rattle.std.specs.Prelude.{◌≡◌, ◌≢◌, ◌<◌, ◌+◌, ◌⊎◌, IfErr, IsErr, IsOk, IsTrue, OnErr, OnOk, length, map};
+ghost use Rattle.std.specs.Prelude.{string_bytes, ℕ};
 ghost use Rattle.std.specs.Io.KnownBytes.{Appends};
 ghost use Rattle.sector_model.specs.declared.refusal.Refusal.{Refusal};
 ghost use Rattle.report.specs.Replies.{made_line};
 ghost use Rattle.report.specs.Written.{AppendsPart};
 ghost use Rattle.device_files.specs.declared.FolderFault.{FolderFault};
 ghost use Rattle.device_files.specs.DeviceFiles.{IsLinkSynced, slot_path};
+ghost use Rattle.device_files.specs.BankFiles.{AreAllSafe};
+ghost use Rattle.raidtool.specs.Begun.{BeginsOver, BeginsSafely};
 ghost use Rattle.raidtool.specs.Causes.{IsCausedBy};
+ghost use Rattle.raidtool.specs.DoneOver.{IsMadeIn, IsMadeOver};
 ghost use Rattle.raidtool.specs.OtherSets.{IsAloneIn, IsMadeAlone, IsRefusedMake, IsUntoldIn};
-ghost use Rattle.raidtool.specs.Stops.{IsBlamed, IsFileFault, IsMakeFault, IsOtherFault, IsUnmade};
-ghost use Rattle.raidtool.specs.FolderFiles.{LeavesFiles, MakesFiles, MakesOrUndoes, WereTaken};
+ghost use Rattle.raidtool.specs.Stops.{IsBlamed, IsFileFault, IsMakeFault, IsOtherFault, IsStoppedOver, IsUnmade};
+ghost use Rattle.raidtool.specs.FolderFiles.{AreSettled, AreTakenBack, LeavesFiles, MakesFiles, MakesOrUndoes};
 
 mod on_bank;
 mod other_set;
 
 use device_files::{
-    DeviceFiles, FolderFault, FolderSync, Growing, Lock, Locked, SLOTS, SlotFiles, SlotPaths,
-    bank_over, bytes_of, lengthen_slot, open_folder, refuse_barred, refuse_unsynced, slot_paths,
-    sync_folders, undo,
+    BankFile, Before, DeviceFiles, FolderFault, FolderSync, Growing, SLOTS, SlotFiles, SlotPaths,
+    bank_on, bank_to_look, bytes_of, lengthen_slot, open_folder, refuse_barred, refuse_unsynced,
+    slot_paths, sync_folders, undo,
 };
 use layout_map::Geometry;
 use on_bank::make_alone;
@@ -25,10 +29,7 @@ use other_set::refuse_other;
 use report::replies::write_made;
 use set_commands::Meter;
 use std::alloc::Global;
-use std::fs::OpenFile;
 use std::io::Write;
-use std::os::unix::fs::FileExt;
-use std::rt::Files;
 use stripe_journal::Entry;
 
 /// Makes a set of this id and geometry on the device files of a folder, whatever they held, and writes `made`.
@@ -52,22 +53,22 @@ pub(crate) fn make_set<S, D, W: Write>(
     out: &mut W,
 ) -> Result<(), FolderFault>
 where
-    S: Files + Meter + AllocGlobal,
-    S::File: FileExt + Lock,
-    D: SlotFiles<File = Locked<S::File>> + FolderSync,
-    ensures opened { OnOk result (WereTaken ⟦<Locked<S::File> as Growing>⟧.is_safe
-        (λ slot. D.opens disk.now (slot_path folder.now slot))
-        (λ slot. slot < geometry.members + 2) (λ _. ⊥)) }
+    S: Meter + AllocGlobal,
+    D: SlotFiles + FolderSync,
+    D::File: BankFile,
     ensures synced { OnOk result (D.is_safe disk.now folder.now ⊎ D.is_never disk.now folder.now) }
-    ensures made { OnOk result (IsMadeAlone id geometry) }
+    ensures made { OnOk result
+        (IsMadeIn ⟦<D::File as Growing>⟧ D.File.left (D.creates disk.now) folder.now (D.opens disk.now) id geometry) }
     ensures written { OnOk result (Appends (W.contents out.old) (W.contents out.new) made_line) }
     ensures fault { IfErr result (IsMakeFault geometry.members) }
-    ensures cause { IfErr result (IsCausedBy (IsRefusedMake id geometry)) }
+    ensures cause { IfErr result (IsCausedBy
+        (IsRefusedMake (IsTrue D.File.tells) (BeginsSafely ⟦<D::File as Growing>⟧ D.File.left) id geometry)) }
     ensures named { IfErr result (IsBlamed (D.opens disk.now) (D.creates disk.now)
-        ⟦<Locked<S::File> as Growing>⟧.has_failed folder.now) }
+        D.File.has_failed folder.now) }
     ensures unmade { IfErr result (λ fault. fault ≢ FolderFault.Refused Refusal.WriteFault → out.new ≡ out.old) }
     ensures part { IfErr result (λ fault. fault ≡ FolderFault.Refused Refusal.WriteFault
-        → IsMadeAlone id geometry × AppendsPart (W.contents out.old) (W.contents out.new) made_line) }
+        → IsMadeIn ⟦<D::File as Growing>⟧ D.File.left (D.creates disk.now) folder.now (D.opens disk.now) id geometry
+        × AppendsPart (W.contents out.old) (W.contents out.new) made_line) }
 {
     make_in(rt, disk, folder, id, geometry)?;
     write_made(out)?;
@@ -83,28 +84,25 @@ fn make_in<S, D>(
     geometry: Geometry,
 ) -> Result<(), FolderFault>
 where
-    S: Files + Meter + AllocGlobal,
-    S::File: FileExt + Lock,
-    D: SlotFiles<File = Locked<S::File>> + FolderSync,
-    ensures opened { OnOk result (WereTaken ⟦<Locked<S::File> as Growing>⟧.is_safe
-        (λ slot. D.opens disk.now (slot_path folder.now slot))
-        (λ slot. slot < geometry.members + 2) (λ _. ⊥)) }
+    S: Meter + AllocGlobal,
+    D: SlotFiles + FolderSync,
+    D::File: BankFile,
     ensures synced { OnOk result (D.is_safe disk.now folder.now ⊎ D.is_never disk.now folder.now) }
-    ensures made { OnOk result (IsMadeAlone id geometry) }
+    ensures made { OnOk result
+        (IsMadeIn ⟦<D::File as Growing>⟧ D.File.left (D.creates disk.now) folder.now (D.opens disk.now) id geometry) }
     ensures fault { IfErr result (IsUnmade geometry.members) }
-    ensures cause { IfErr result (IsCausedBy (IsRefusedMake id geometry)) }
-    ensures named { IfErr result (IsBlamed (D.opens disk.now) (D.creates disk.now)
-        ⟦<Locked<S::File> as Growing>⟧.has_failed folder.now) }
+    ensures cause { IfErr result (IsCausedBy
+        (IsRefusedMake (IsTrue D.File.tells) (BeginsSafely ⟦<D::File as Growing>⟧ D.File.left) id geometry)) }
+    ensures named { IfErr result (IsBlamed (D.opens disk.now) (D.creates disk.now) D.File.has_failed folder.now) }
 {
     let paths = slot_paths(rt.alloc(), folder)?;
-    let mut files = open_folder(rt.alloc(), disk, folder)?;
+    let files = open_folder(rt.alloc(), disk, folder)?;
     refuse_barred(&files, 0, SLOTS as u8)?;
     refuse_unsynced(&files, 0, geometry.members + 2)?;
-    make_or_undo(rt, disk, folder, &paths, id, geometry, &mut files)
+    make_or_undo(rt, disk, folder, &paths, id, geometry, files)
 }
 
-// Makes the set over the files of a folder, which have these paths, or takes back what was made of them. A fault of
-// that has no place to be told.
+// Makes the set over the files of a folder, which have these paths, or takes back what was made of them.
 fn make_or_undo<S, D>(
     rt: &S,
     disk: &D,
@@ -112,73 +110,155 @@ fn make_or_undo<S, D>(
     paths: &SlotPaths,
     id: [u8; 16],
     geometry: Geometry,
-    files: &mut DeviceFiles<Locked<S::File>>,
+    files: DeviceFiles<D::File>,
 ) -> Result<(), FolderFault>
 where
-    S: Files + Meter + AllocGlobal,
-    S::File: FileExt + Lock,
-    D: SlotFiles<File = Locked<S::File>> + FolderSync,
-    ensures files { MakesOrUndoes ⟦<Locked<S::File> as Growing>⟧ (D.creates disk.now) (D.removes disk.now)
-        folder.now (map string_bytes paths.now.paths.items) geometry files.old.files.items files.new.files.items
-        files.old.before files.new.before result }
+    S: Meter + AllocGlobal,
+    D: SlotFiles + FolderSync,
+    D::File: BankFile,
+    requires safe { AreAllSafe D.File.is_safe files.files.items }
+    ensures files { MakesOrUndoes ⟦<D::File as Growing>⟧ (D.creates disk.now) (D.removes disk.now) folder.now
+        (map string_bytes paths.now.paths.items) geometry files.files.items files.before result }
     ensures synced { OnOk result (D.is_safe disk.now folder.now ⊎ D.is_never disk.now folder.now) }
-    ensures made { OnOk result (IsMadeAlone id geometry) }
+    ensures made { OnOk result
+        (IsMadeOver ⟦<D::File as Growing>⟧ D.File.left (D.creates disk.now) folder.now id geometry files.files.items) }
     ensures fault { IfErr result (IsUnmade geometry.members) }
-    ensures cause { IfErr result (IsCausedBy (IsRefusedMake id geometry)) }
-    ensures named { IfErr result (IsBlamed (D.opens disk.now) (D.creates disk.now)
-        ⟦<Locked<S::File> as Growing>⟧.has_failed folder.now) }
+    ensures cause { IfErr result (IsCausedBy
+        (IsRefusedMake (IsTrue D.File.tells) (BeginsSafely ⟦<D::File as Growing>⟧ D.File.left) id geometry)) }
+    ensures named { IfErr result (IsBlamed (D.opens disk.now) (D.creates disk.now) D.File.has_failed folder.now) }
 {
-    let made = make_over(rt, disk, folder, id, geometry, files);
-    if made.is_err() {
-        let _ = undo(disk, paths, files);
+    let mut files = files;
+    let ready = ready_files(rt.alloc(), disk, folder, &id, &geometry, &mut files);
+    let DeviceFiles {
+        files: mut open,
+        before,
+        ..
+    } = files;
+    match ready {
+        Ok(entry) => make_ready(rt, disk, paths, entry, id, geometry, &before, &mut open),
+        Err(fault) => {
+            let unmade = Err(fault);
+            undo_unmade(disk, paths, &before, &unmade, &mut open);
+            unmade
+        }
     }
+}
+
+// Makes the files of the set long enough, where no slot after its own has another set of this id; the set is not made
+// yet.
+fn ready_files<D>(
+    alloc: Global,
+    disk: &D,
+    folder: &str,
+    id: &[u8; 16],
+    geometry: &Geometry,
+    files: &mut DeviceFiles<D::File>,
+) -> Result<Entry, FolderFault>
+where
+    D: SlotFiles + FolderSync,
+    D::File: BankFile,
+    requires safe { AreAllSafe D.File.is_safe files.old.files.items }
+    ensures files { LeavesFiles ⟦<D::File as Growing>⟧ (D.creates disk.now) folder.now geometry.now
+        files.old.files.items files.new.files.items files.old.before files.new.before result }
+    ensures safe { OnOk result (AreAllSafe D.File.is_safe files.new.files.items) }
+    ensures synced { OnOk result (D.is_safe disk.now folder.now ⊎ D.is_never disk.now folder.now) }
+    ensures fault { IfErr result (IsUnmade geometry.now.members) }
+    ensures cause { IfErr result (IsCausedBy
+        (IsRefusedMake (IsTrue D.File.tells) (BeginsSafely ⟦<D::File as Growing>⟧ D.File.left) id.now geometry.now)) }
+    ensures named { IfErr result (IsBlamed (D.opens disk.now) (D.creates disk.now) D.File.has_failed folder.now) }
+{
+    let entry = Entry::new(alloc)?;
+    refuse_other_set(alloc, files, id, geometry.members + 2)?;
+    make_files(alloc, disk, folder, geometry, files)?;
+    Ok(entry)
+}
+
+// Makes the set over files that are long enough, or takes back what was made of them.
+fn make_ready<S, D>(
+    rt: &S,
+    disk: &D,
+    paths: &SlotPaths,
+    entry: Entry,
+    id: [u8; 16],
+    geometry: Geometry,
+    before: &[Before; SLOTS],
+    files: &mut [Option<D::File>],
+) -> Result<(), FolderFault>
+where
+    S: Meter + AllocGlobal,
+    D: SlotFiles,
+    D::File: BankFile,
+    requires ten { length files.old ≡ 10 }
+    requires safe { AreAllSafe D.File.is_safe files.old }
+    ensures settled { AreSettled ⟦<D::File as Growing>⟧ (D.removes disk.now) (map string_bytes paths.now.paths.items)
+        before.now files.new (IsOk result) (IsErr result) }
+    ensures made { OnOk result (IsMadeAlone (IsTrue D.File.tells)
+        (BeginsOver ⟦<D::File as Growing>⟧ D.File.left files.old) id geometry) }
+    ensures stopped { IfErr result (IsStoppedOver geometry.members) }
+    ensures cause { IfErr result (IsCausedBy
+        (IsRefusedMake (IsTrue D.File.tells) (BeginsSafely ⟦<D::File as Growing>⟧ D.File.left) id geometry)) }
+{
+    let made = make_over(rt, entry, id, geometry, files);
+    undo_unmade(disk, paths, before, &made, files);
     made
 }
 
-// Makes the set over the files of a folder, and takes nothing back.
-fn make_over<S, D>(
+// Makes the set over files that are long enough, and takes nothing back.
+fn make_over<S, F>(
     rt: &S,
-    disk: &D,
-    folder: &str,
+    entry: Entry,
     id: [u8; 16],
     geometry: Geometry,
-    files: &mut DeviceFiles<Locked<S::File>>,
+    files: &mut [Option<F>],
 ) -> Result<(), FolderFault>
 where
-    S: Files + Meter + AllocGlobal,
-    S::File: FileExt + Lock,
-    D: SlotFiles<File = Locked<S::File>> + FolderSync,
-    ensures files { LeavesFiles ⟦<Locked<S::File> as Growing>⟧ (D.creates disk.now) folder.now geometry
-        files.old.files.items files.new.files.items files.old.before files.new.before result }
-    ensures synced { OnOk result (D.is_safe disk.now folder.now ⊎ D.is_never disk.now folder.now) }
-    ensures made { OnOk result (IsMadeAlone id geometry) }
-    ensures fault { IfErr result (IsUnmade geometry.members) }
-    ensures cause { IfErr result (IsCausedBy (IsRefusedMake id geometry)) }
-    ensures named { IfErr result (IsBlamed (D.opens disk.now) (D.creates disk.now)
-        ⟦<Locked<S::File> as Growing>⟧.has_failed folder.now) }
+    S: Meter + AllocGlobal,
+    F: BankFile,
+    requires ten { length files.old ≡ 10 }
+    requires safe { AreAllSafe F.is_safe files.old }
+    ensures made { OnOk result (IsMadeAlone (IsTrue F.tells)
+        (BeginsOver ⟦<F as Growing>⟧ F.left files.old) id geometry) }
+    ensures stopped { IfErr result (IsStoppedOver geometry.members) }
+    ensures cause { IfErr result (IsCausedBy
+        (IsRefusedMake (IsTrue F.tells) (BeginsSafely ⟦<F as Growing>⟧ F.left) id geometry)) }
 {
-    let entry = Entry::new(rt.alloc())?;
-    refuse_other_set(rt.alloc(), files, &id, geometry.members + 2)?;
-    make_files(rt.alloc(), disk, folder, &geometry, files)?;
-    let bank = bank_over(rt.alloc(), files)?;
+    let bank = bank_on(rt.alloc(), files)?;
     make_alone(bank, rt, entry, id, geometry)?;
     Ok(())
 }
 
+// Takes back what was made of files, where the set was not made. A fault of that has no place to be told.
+fn undo_unmade<D: SlotFiles>(
+    disk: &D,
+    paths: &SlotPaths,
+    before: &[Before; SLOTS],
+    made: &Result<(), FolderFault>,
+    files: &mut [Option<D::File>],
+)
+    ensures kept { OnOk made.now (files.new ≡ files.old) }
+    ensures undone { OnErr made.now (AreTakenBack ⟦<D::File as Growing>⟧ (D.removes disk.now)
+        (map string_bytes paths.now.paths.items) before.now files.old files.new) }
+{
+    if made.is_err() {
+        let _ = undo(disk, paths, before, files);
+    }
+}
+
 // Refuses a slot from this one on that has a superblock of this id, before a file is touched.
-fn refuse_other_set<F>(
+fn refuse_other_set<F: BankFile>(
     alloc: Global,
-    files: &DeviceFiles<Locked<F>>,
+    files: &DeviceFiles<F>,
     id: &[u8; 16],
     first: u8,
 ) -> Result<(), FolderFault>
-where
-    F: OpenFile + FileExt + Lock + Drop,
-    ensures none { OnOk result (IsAloneIn id.now first) }
+    requires safe { AreAllSafe F.is_safe files.now.files.items }
+    ensures none { OnOk result (IsAloneIn (IsTrue F.tells)
+        (BeginsOver ⟦<F as Growing>⟧ F.left files.now.files.items) id.now first) }
     ensures fault { IfErr result (IsOtherFault first) }
-    ensures cause { IfErr result (IsCausedBy (IsUntoldIn id.now first)) }
+    ensures cause { IfErr result (IsCausedBy (IsUntoldIn (IsTrue F.tells)
+        (BeginsOver ⟦<F as Growing>⟧ F.left files.now.files.items) id.now first)) }
 {
-    let mut bank = bank_over(alloc, files)?;
+    let mut bank = bank_to_look(alloc, files)?;
     refuse_other(&mut bank, id, first)
 }
 

@@ -1,31 +1,31 @@
 //! Giving a slot a device, on the device files of a folder.
-ghost use Rattle.std.specs.Prelude.{◌≡◌, ◌≢◌, ◌⊎◌, ◌↔◌, ◌<◌, ◌≤◌, ℕ, IfErr, IsSome, None, OnOk, Ok, Some, map};
+ghost use Rattle.std.specs.Prelude.{◌≡◌, ◌≢◌, ◌⊎◌, ◌↔◌, ◌<◌, ◌≤◌, ℕ, IfErr, IfOk, IfSome, IsTrue, OnOk, ⊤, length, map};
 ghost use Rattle.std.specs.Prelude.{false, string_bytes, true};
 ghost use Rattle.superblock.specs.NextTables.{slots_of};
 ghost use Rattle.recovery.specs.SeenBank.{bank_seen};
-ghost use Rattle.device_files.specs.DeviceFiles.{AreOthersKept, IsLinkSynced, IsMissingIn, IsNoTableIn, file_in};
+ghost use Rattle.sector_model.specs.declared.refusal.Refusal.TheVariants.{Memory};
+ghost use Rattle.device_files.specs.BankFiles.{AreAllSafe};
+ghost use Rattle.device_files.specs.DeviceFiles.{AreOthersKept, IsLinkSynced, IsNoTableIn};
 ghost use Rattle.device_files.specs.DeviceFiles.{slot_path};
-ghost use Rattle.raidtool.specs.FolderFiles.{ReplacesOrUndoes, WereTaken};
+ghost use Rattle.raidtool.specs.FolderFiles.{AreSettled, AreTakenBack, ReplacesOrUndoes};
 ghost use Rattle.raidtool.specs.Needs.{AreOthersWhole, FindsNeed, IsNeed, IsWhole};
-ghost use Rattle.raidtool.specs.Causes.{IsCausedBy};
+ghost use Rattle.raidtool.specs.Begun.{BeginsOver, IsNoTableOver};
+ghost use Rattle.raidtool.specs.Causes.{IsCauseOfReplace, IsCausedBy, IsReplaceRefused};
+ghost use Rattle.raidtool.specs.DoneOver.{IsPrepared, IsReplacedIn, IsReplacedOn, IsReplacedOver};
 ghost use Rattle.raidtool.specs.Done.{IsNeedIn, IsUndone};
 ghost use Rattle.raidtool.specs.Replacing.{Replaces};
-ghost use Rattle.raidtool.specs.Stops.{HasPassed, IsBlamed, IsPreparingRefusal, IsSlotFault};
-ghost use Rattle.device_files.specs.SlotCalls.{RenewsSlot};
+ghost use Rattle.raidtool.specs.Stops.{HasPassed, IsBlamed, IsPreparingRefusal, IsRefusal, IsSlotFault};
 
 use device_files::{
-    DeviceFiles, FolderFault, FolderSync, Growing, Lock, Locked, SlotFiles, SlotPaths, bank_over,
-    bytes_of, open_folder, pass_over, refuse_barred, refuse_unsynced, renew_slot, slot_paths,
-    sync_folders, undo,
+    BankFile, Before, DeviceFiles, FolderFault, FolderSync, Growing, SLOTS, SlotFiles, SlotPaths,
+    bank_on, bank_to_look, bytes_of, open_folder, pass_over, refuse_barred, refuse_unsynced,
+    renew_slot, slot_paths, sync_folders, undo,
 };
 use recovery::chosen_table;
 use sector_model::{Bank, Refusal};
 use set_commands::apply_on;
 use std::alloc::Global;
-use std::fs::OpenFile;
 use std::io::Write;
-use std::os::unix::fs::FileExt;
-use std::rt::Files;
 use stripe_journal::Entry;
 use superblock::{State, Table, least_of};
 use volume_table::Event;
@@ -53,53 +53,137 @@ pub(crate) fn replace_in_folder<S, D, W: Write, E: Write>(
     err: &mut E,
 ) -> Result<(), FolderFault>
 where
-    S: Files + AllocGlobal,
-    S::File: FileExt + Lock,
-    D: SlotFiles<File = Locked<S::File>> + FolderSync,
-    ensures opened { OnOk result (WereTaken ⟦<Locked<S::File> as Growing>⟧.is_safe
-        (λ other. D.opens disk.now (slot_path folder.now other))
-        (λ other. other ≡ slot) (λ other. (other ≢ slot) × IsMissingIn id other)) }
+    S: AllocGlobal,
+    D: SlotFiles + FolderSync,
+    D::File: BankFile,
     ensures passed { HasPassed E.contents err.old err.new }
-    ensures replaces { Replaces (D.is_safe disk.now folder.now ⊎ D.is_never disk.now folder.now)
-        (IsBlamed (D.opens disk.now) (D.creates disk.now) ⟦<Locked<S::File> as Growing>⟧.has_failed folder.now)
-        W.contents id slot out.old out.new result }
+    ensures replaces { Replaces
+        (IsReplacedIn ⟦<D::File as Growing>⟧ D.File.left (D.creates disk.now) folder.now (D.opens disk.now) id slot)
+        (D.is_safe disk.now folder.now ⊎ D.is_never disk.now folder.now)
+        (IsCauseOfReplace ⟦<D::File as Growing>⟧ D.File.left id slot)
+        (IsBlamed (D.opens disk.now) (D.creates disk.now) D.File.has_failed folder.now)
+        W.contents slot out.old out.new result }
 {
     let paths = slot_paths(rt.alloc(), folder)?;
-    let mut files = open_folder(rt.alloc(), disk, folder)?;
+    let files = open_folder(rt.alloc(), disk, folder)?;
     refuse_barred(&files, slot, slot.saturating_add(1))?;
     refuse_unsynced(&files, slot, slot.saturating_add(1))?;
     pass_over(rt.alloc(), &files, id, err)?;
-    replace_or_undo(rt, disk, folder, &paths, id, slot, &mut files, out)
+    replace_or_undo(rt.alloc(), disk, folder, &paths, id, slot, files, out)
 }
 
 // Replaces the device of a slot over the files of a folder, which have these paths, or takes back what was made of
-// them. A fault of that has no place to be told.
-fn replace_or_undo<S, D, W: Write>(
-    rt: &S,
+// them.
+fn replace_or_undo<D, W: Write>(
+    alloc: Global,
     disk: &D,
     folder: &str,
     paths: &SlotPaths,
     id: [u8; 16],
     slot: u8,
-    files: &mut DeviceFiles<Locked<S::File>>,
+    files: DeviceFiles<D::File>,
     out: &mut W,
 ) -> Result<(), FolderFault>
 where
-    S: Files + AllocGlobal,
-    S::File: FileExt + Lock,
-    D: SlotFiles<File = Locked<S::File>> + FolderSync,
-    ensures files { ReplacesOrUndoes ⟦<Locked<S::File> as Growing>⟧ (D.removes disk.now)
-        (map string_bytes paths.now.paths.items) slot files.old.files.items files.new.files.items files.new.before
-        (IsUndone result) }
-    ensures replaces { Replaces (D.is_safe disk.now folder.now ⊎ D.is_never disk.now folder.now)
-        (IsBlamed (D.opens disk.now) (D.creates disk.now) ⟦<Locked<S::File> as Growing>⟧.has_failed folder.now)
-        W.contents id slot out.old out.new result }
+    D: SlotFiles + FolderSync,
+    D::File: BankFile,
+    requires safe { AreAllSafe D.File.is_safe files.files.items }
+    ensures files { ReplacesOrUndoes ⟦<D::File as Growing>⟧ (D.removes disk.now)
+        (map string_bytes paths.now.paths.items) slot files.files.items (IsUndone result) }
+    ensures replaces { Replaces
+        (IsReplacedOver ⟦<D::File as Growing>⟧ D.File.left (D.creates disk.now) folder.now id slot files.files.items)
+        (D.is_safe disk.now folder.now ⊎ D.is_never disk.now folder.now)
+        (IsCauseOfReplace ⟦<D::File as Growing>⟧ D.File.left id slot)
+        (IsBlamed (D.opens disk.now) (D.creates disk.now) D.File.has_failed folder.now)
+        W.contents slot out.old out.new result }
 {
-    let done = replace_over(rt, disk, folder, id, slot, files, out);
-    if is_undone(&done) {
-        let _ = undo(disk, paths, files);
+    let mut files = files;
+    let ready = ready_slot(alloc, disk, folder, id, slot, &mut files);
+    let DeviceFiles {
+        files: mut open,
+        before,
+        ..
+    } = files;
+    match ready {
+        Ok(entry) => replace_ready(alloc, disk, paths, entry, id, slot, &before, &mut open, out),
+        Err(fault) => {
+            let unmade = Err(fault);
+            undo_undone(disk, paths, &before, &unmade, &mut open);
+            unmade
+        }
     }
+}
+
+// Makes the file of a slot anew where it has to be; its device is not replaced yet.
+fn ready_slot<D>(
+    alloc: Global,
+    disk: &D,
+    folder: &str,
+    id: [u8; 16],
+    slot: u8,
+    files: &mut DeviceFiles<D::File>,
+) -> Result<Entry, FolderFault>
+where
+    D: SlotFiles + FolderSync,
+    D::File: BankFile,
+    requires safe { AreAllSafe D.File.is_safe files.old.files.items }
+    ensures prepared { OnOk result (IsPrepared ⟦<D::File as Growing>⟧ D.File.left (D.creates disk.now) folder.now
+        id slot files.old.files.items files.new.files.items) }
+    ensures safe { OnOk result (AreAllSafe D.File.is_safe files.new.files.items) }
+    ensures synced { OnOk result (D.is_safe disk.now folder.now ⊎ D.is_never disk.now folder.now) }
+    ensures others { AreOthersKept files.old.files.items files.new.files.items slot }
+    ensures fault { IfErr result (IsSlotFault IsPreparingRefusal slot) }
+    ensures cause { IfErr result (IsCausedBy (IsNoTableOver ⟦<D::File as Growing>⟧ D.File.left id)) }
+    ensures named { IfErr result (IsBlamed (D.opens disk.now) (D.creates disk.now) D.File.has_failed folder.now) }
+{
+    let entry = Entry::new(alloc)?;
+    prepare_file(alloc, disk, folder, id, slot, files)?;
+    Ok(entry)
+}
+
+// Replaces the device of a slot over files that are prepared, or takes back what was made of them.
+fn replace_ready<D, W: Write>(
+    alloc: Global,
+    disk: &D,
+    paths: &SlotPaths,
+    entry: Entry,
+    id: [u8; 16],
+    slot: u8,
+    before: &[Before; SLOTS],
+    files: &mut [Option<D::File>],
+    out: &mut W,
+) -> Result<(), FolderFault>
+where
+    D: SlotFiles,
+    D::File: BankFile,
+    requires ten { length files.old ≡ 10 }
+    requires safe { AreAllSafe D.File.is_safe files.old }
+    ensures settled { AreSettled ⟦<D::File as Growing>⟧ (D.removes disk.now) (map string_bytes paths.now.paths.items)
+        before.now files.new (¬ IsUndone result) (IsUndone result) }
+    ensures replaces { Replaces (IsReplacedOn ⟦<D::File as Growing>⟧ D.File.left files.old id slot) ⊤
+        (IsReplaceRefused ⟦<D::File as Growing>⟧ D.File.left id slot) (λ fault. IsRefusal fault)
+        W.contents slot out.old out.new result }
+{
+    let done = replace_over(alloc, entry, id, slot, files, out);
+    undo_undone(disk, paths, before, &done, files);
     done
+}
+
+// Takes back what was made of files, where a slot was not given its device. A fault of that has no place to be told.
+fn undo_undone<D: SlotFiles>(
+    disk: &D,
+    paths: &SlotPaths,
+    before: &[Before; SLOTS],
+    done: &Result<(), FolderFault>,
+    files: &mut [Option<D::File>],
+)
+    ensures kept { ¬ IsUndone done.now → files.new ≡ files.old }
+    ensures undone { IsUndone done.now → AreTakenBack ⟦<D::File as Growing>⟧ (D.removes disk.now)
+        (map string_bytes paths.now.paths.items) before.now files.old files.new }
+{
+    if is_undone(done) {
+        let _ = undo(disk, paths, before, files);
+    }
 }
 
 // Whether a slot was not given its device.
@@ -112,64 +196,75 @@ fn is_undone(done: &Result<(), FolderFault>) -> bool
     )
 }
 
-// Replaces the device of a slot over the files of a folder.
-fn replace_over<S, D, W: Write>(
-    rt: &S,
-    disk: &D,
-    folder: &str,
+// Replaces the device of a slot over files that are prepared, and takes nothing back.
+fn replace_over<F: BankFile, W: Write>(
+    alloc: Global,
+    entry: Entry,
     id: [u8; 16],
     slot: u8,
-    files: &mut DeviceFiles<Locked<S::File>>,
+    files: &mut [Option<F>],
     out: &mut W,
 ) -> Result<(), FolderFault>
-where
-    S: Files + AllocGlobal,
-    S::File: FileExt + Lock,
-    D: SlotFiles<File = Locked<S::File>> + FolderSync,
-    ensures others { AreOthersKept files.old.files.items files.new.files.items slot }
-    ensures kept { ¬ IsUndone result → (files.new ≡ files.old) ⊎ IsSome (file_in files.new.files.items slot) }
-    ensures replaces { Replaces (D.is_safe disk.now folder.now ⊎ D.is_never disk.now folder.now)
-        (IsBlamed (D.opens disk.now) (D.creates disk.now) ⟦<Locked<S::File> as Growing>⟧.has_failed folder.now)
-        W.contents id slot out.old out.new result }
+    requires ten { length files.old ≡ 10 }
+    requires safe { AreAllSafe F.is_safe files.old }
+    ensures { Replaces (IsReplacedOn ⟦<F as Growing>⟧ F.left files.old id slot) ⊤
+        (IsReplaceRefused ⟦<F as Growing>⟧ F.left id slot) (λ fault. IsRefusal fault)
+        W.contents slot out.old out.new result }
 {
-    let entry = Entry::new(rt.alloc())?;
-    prepare_file(rt.alloc(), disk, folder, id, slot, files)?;
-    let bank = bank_over(rt.alloc(), files)?;
-    apply_on(rt.alloc(), bank, entry, id, &Event::Replace { slot }, out)?;
+    let bank = bank_on(alloc, files)?;
+    apply_on(alloc, bank, entry, id, &Event::Replace { slot }, out)?;
     Ok(())
 }
 
 // Makes the file of a slot anew where it has to be, and syncs it; and syncs the folder at any rate, since the entry of
 // a file that an earlier program made may not be safe.
-fn prepare_file<F, D>(
+fn prepare_file<D>(
     alloc: Global,
     disk: &D,
     folder: &str,
     id: [u8; 16],
     slot: u8,
-    files: &mut DeviceFiles<Locked<F>>,
+    files: &mut DeviceFiles<D::File>,
 ) -> Result<(), FolderFault>
 where
-    F: OpenFile + FileExt + Lock + Drop,
-    D: SlotFiles<File = Locked<F>> + FolderSync,
-    ensures prepared { OnOk result ((IsNeedIn id slot None × (files.new ≡ files.old))
-        ⊎ ((bytes : ℕ) × IsNeedIn id slot (Some bytes) × RenewsSlot ⟦<Locked<F> as Growing>⟧.tells
-        ⟦<Locked<F> as Growing>⟧.told ⟦<Locked<F> as Growing>⟧.is_safe ⟦<Locked<F> as Growing>⟧.has_failed
-        (D.creates disk.now) folder.now slot bytes files.old.files.items files.new.files.items (Ok tt))) }
+    D: SlotFiles + FolderSync,
+    D::File: BankFile,
+    requires safe { AreAllSafe D.File.is_safe files.old.files.items }
+    ensures prepared { OnOk result (IsPrepared ⟦<D::File as Growing>⟧ D.File.left (D.creates disk.now) folder.now
+        id slot files.old.files.items files.new.files.items) }
+    ensures safe { OnOk result (AreAllSafe D.File.is_safe files.new.files.items) }
     ensures synced { OnOk result (D.is_safe disk.now folder.now ⊎ D.is_never disk.now folder.now) }
     ensures linked { slot < 10 → OnOk result (IsLinkSynced (D.is_no_link disk.now) (D.leads_to disk.now)
         (λ folder. D.is_safe disk.now folder ⊎ D.is_never disk.now folder) (slot_path folder.now slot)) }
     ensures others { AreOthersKept files.old.files.items files.new.files.items slot }
     ensures fault { IfErr result (IsSlotFault IsPreparingRefusal slot) }
-    ensures cause { IfErr result (IsCausedBy (IsNoTableIn id)) }
-    ensures named { IfErr result (IsBlamed (D.opens disk.now) (D.creates disk.now)
-        ⟦<Locked<F> as Growing>⟧.has_failed folder.now) }
+    ensures cause { IfErr result (IsCausedBy (IsNoTableOver ⟦<D::File as Growing>⟧ D.File.left id)) }
+    ensures named { IfErr result (IsBlamed (D.opens disk.now) (D.creates disk.now) D.File.has_failed folder.now) }
 {
-    let need = need_on(&mut bank_over(alloc, files)?, id, slot)?;
+    let need = need_over(alloc, files, id, slot)?;
     if let Some(bytes) = need {
         renew_slot(alloc, disk, folder, slot, bytes, files)?;
     }
     sync_folders(alloc, disk, folder, slot, slot.saturating_add(1))
+}
+
+// How many bytes the file of a slot gets by the table that the superblocks on the files choose, if it is made anew.
+fn need_over<F: BankFile>(
+    alloc: Global,
+    files: &DeviceFiles<F>,
+    id: [u8; 16],
+    slot: u8,
+) -> Result<Option<u64>, Refusal>
+    requires safe { AreAllSafe F.is_safe files.now.files.items }
+    ensures need { IfOk result (IsNeedIn (IsTrue F.tells)
+        (BeginsOver ⟦<F as Growing>⟧ F.left files.now.files.items) id slot) }
+    ensures within { IfOk result (λ need. IfSome need (λ _. slot < 10)) }
+    ensures err { IfErr result IsPreparingRefusal }
+    ensures cause { IfErr result (λ refusal. refusal ≢ Memory → IsNoTableIn (IsTrue F.tells)
+        (BeginsOver ⟦<F as Growing>⟧ F.left files.now.files.items) id refusal) }
+{
+    let mut bank = bank_to_look(alloc, files)?;
+    need_on(&mut bank, id, slot)
 }
 
 // How many bytes the file of a slot gets by the table that the bank's superblocks choose, if it is made anew.

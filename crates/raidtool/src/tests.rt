@@ -1,6 +1,7 @@
 //! Lines of the program over real files, and what the program writes when.
 
 mod examines;
+mod held;
 mod locked;
 mod program;
 mod renames;

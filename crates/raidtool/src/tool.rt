@@ -8,10 +8,11 @@ ghost use Rattle.command_line.specs.declared.Invocation.{Invocation};
 ghost use Rattle.command_line.specs.declared.InvocationFault.{InvocationFault};
 ghost use Rattle.device_files.specs.declared.FolderFault.{FolderFault};
 ghost use Rattle.command_line.specs.Invocations.{AsksFor, IsFaultOf};
-ghost use Rattle.device_files.specs.DeviceFiles.{IsMissingIn, slot_path};
-ghost use Rattle.raidtool.specs.FolderFiles.{WereOpened, WereTaken};
-ghost use Rattle.raidtool.specs.Causes.{HasCause, IsCauseOfExamine, IsCauseOn, IsCausedBy, IsPlainEnd, id_text};
-ghost use Rattle.raidtool.specs.Done.{DoesOn, IsDone, IsExamined, IsPartExamined};
+ghost use Rattle.raidtool.specs.FolderFiles.{WereOpened};
+ghost use Rattle.raidtool.specs.Causes.{HasCause, IsCauseOfExamine, IsCauseOn, IsCaused, IsCausedBy, IsPlainEnd};
+ghost use Rattle.raidtool.specs.Causes.{id_text};
+ghost use Rattle.raidtool.specs.Done.{DoesOn, IsExamined, IsPartExamined};
+ghost use Rattle.raidtool.specs.DoneOver.{HealthOf, IsDone, IsServedOver, folder_text};
 ghost use Rattle.set_commands.specs.Examining.{IsExamineEnd};
 ghost use Rattle.device_files.specs.Faults.{IsToldLine};
 ghost use Rattle.raidtool.specs.Stops.{HasPassed, IsBlamed, IsInspectionBlamed, IsServeFault, IsTold, IsToldAfter};
@@ -19,11 +20,10 @@ ghost use Rattle.set_commands.specs.DoneLaw.{CommandsMakeInvocations};
 ghost use Rattle.set_commands.specs.Fresh.{RunsFresh};
 ghost use Rattle.set_commands.specs.Invocations.{HeadlineOfTheProgram};
 ghost use Rattle.set_commands.specs.Run.{streams};
-ghost use Rattle.raidtool.specs.Tool.{ComesFirst, IsAsked, IsBlamedIn, IsCutOff, IsDoneIn, IsEndOf, IsEndOfLine};
+ghost use Rattle.raidtool.specs.Tool.{ComesFirst, IsAsked, IsBlamedIn, IsCutOff, IsEndOf, IsEndOfLine};
 ghost use Rattle.raidtool.specs.Tool.{IsFirst, IsMemoryFault, IsMisshapen, IsPartWritten, IsRun, PassesNone, IsServed};
 ghost use Rattle.raidtool.specs.Tool.{IsServing, IsStopOf, IsWritten, WasRefused, WasStopped, bad_id_line};
-ghost use Rattle.raidtool.specs.Tool.{checked_status, folder_text};
-ghost use Rattle.raidtool.specs.Tool.{HasHealth, HealthOf, IsChecked, WasIncomplete, WasUnassembled};
+ghost use Rattle.raidtool.specs.Tool.{IsChecked, WasUnassembled, checked_status};
 ghost use Rattle.set_commands.specs.Healths.{InspectsHealth};
 ghost use Rattle.raidtool.specs.Done.{OfFiles};
 ghost use Rattle.recovery.specs.Making.{BankView};
@@ -33,8 +33,8 @@ use crate::replacing::replace_in_folder;
 use clap::error::ErrorKind;
 use command_line::{Invocation, InvocationFault, parse_invocation};
 use device_files::{
-    FolderFault, FolderSync, Growing, InspectFiles, Lock, Locked, SlotFiles, bank_over,
-    bank_to_read, folder_status, inspect_folder, open_folder, pass_over,
+    BankFile, FolderFault, FolderSync, Growing, InspectFiles, SlotFiles, bank_on, bank_to_read,
+    folder_status, inspect_folder, open_folder, pass_over,
 };
 use layout_map::Geometry;
 use report::replies::{Answer, write_reply, write_text};
@@ -44,10 +44,7 @@ use set_commands::{
     rebuild_with_progress, scrub_with_progress, serve_fresh, serve_on, tell_on,
 };
 use std::alloc::Global;
-use std::fs::OpenFile;
 use std::io::{BufRead, Write};
-use std::os::unix::fs::FileExt;
-use std::rt::Files;
 use stripe_journal::Entry;
 use volume_table::Event;
 
@@ -77,9 +74,9 @@ pub(crate) fn tool<S, D, R: BufRead, W: Write, E: Write>(
     err: &mut E,
 ) -> u8
 where
-    S: Files + Meter + AllocGlobal,
-    S::File: FileExt + Lock,
-    D: SlotFiles<File = Locked<S::File>> + InspectFiles + FolderSync,
+    S: Meter + AllocGlobal,
+    D: SlotFiles + InspectFiles + FolderSync,
+    D::File: BankFile,
     ensures status { result ≤ 4 }
 
     // Of invocations, one after another, each ended by a crash at any moment or after it.
@@ -87,9 +84,11 @@ where
 
     // 0: it was asked for and done, a script was read to its end, and what the line writes was written.
     ensures done { result ≡ 0 → IsAsked (texts words.now) }
-    ensures does { (line : Invocation) → AsksFor (texts words.now) line → result ≡ 0 → IsDone line
-        (streams (R.remaining reader.old) (W.contents out.old))
-        (streams (R.remaining reader.new) (W.contents out.new)) }
+    ensures does { (line : Invocation) → AsksFor (texts words.now) line → result ≡ 0 → (health : Health)
+        × IsDone ⟦<D::File as Growing>⟧ D.File.left (D.opens disk.now) (D.creates disk.now) (D.inspects disk.now)
+        (λ folder. D.is_safe disk.now folder ⊎ D.is_never disk.now folder)
+        line (streams (R.remaining reader.old) (W.contents out.old))
+        (streams (R.remaining reader.new) (W.contents out.new)) Health.Complete health }
     ensures read { result ≡ 0 → IsServing (texts words.now) → R.remaining reader.old ≢ None
         → R.remaining reader.new ≡ Some [] }
     ensures quiet { (result ≡ 0) ⊎ (result ≡ 3) → HasPassed E.contents err.old err.new }
@@ -99,15 +98,12 @@ where
     ensures silent { result ≡ 0 → words.now ≡ [] → err.new ≡ err.old }
     ensures written { (line : Invocation) → AsksFor (texts words.now) line → result ≡ 0
         → IsWritten line (W.contents out.old) (W.contents out.new) }
-    ensures in_folder { (line : Invocation) → AsksFor (texts words.now) line → result ≡ 0 → IsDoneIn (D.opens disk.now)
-        ⟦<Locked<S::File> as Growing>⟧.is_safe (D.inspects disk.now)
-        (λ folder. D.is_safe disk.now folder ⊎ D.is_never disk.now folder) line }
 
     // 1: it was asked for, or memory ran out, and a refusal that has its cause was told, or the fault of a device file.
-    ensures refused { result ≡ 1 → WasRefused (IsEndOf (texts words.now))
+    ensures refused { result ≡ 1 → WasRefused (IsEndOf (IsCaused ⟦<D::File as Growing>⟧ D.File.left) (texts words.now))
         (λ text. IsToldAfter E.contents text err.old err.new) ((reader.new ≡ reader.old) × (out.new ≡ out.old))
         ⊎ WasStopped (texts words.now) (IsBlamedIn (D.opens disk.now) (D.creates disk.now)
-        ⟦<Locked<S::File> as Growing>⟧.has_failed (D.inspects disk.now))
+        D.File.has_failed (D.inspects disk.now))
         (λ text. IsToldAfter E.contents text err.old err.new) ((reader.new ≡ reader.old) × (out.new ≡ out.old)) }
     ensures unwritten { (line : Invocation) → AsksFor (texts words.now) line → ¬ IsRun line → result ≡ 1
         → (out.new ≡ out.old)
@@ -128,15 +124,23 @@ where
     // says that each is complete.
     ensures checked { (line : Invocation) → AsksFor (texts words.now) line → 3 ≤ result → IsChecked line }
     ensures incomplete { (line : Invocation) → AsksFor (texts words.now) line → result ≡ 3
-        → WasIncomplete line
-        (streams (R.remaining reader.old) (W.contents out.old))
-        (streams (R.remaining reader.new) (W.contents out.new)) }
+        → IsDone ⟦<D::File as Growing>⟧ D.File.left (D.opens disk.now) (D.creates disk.now) (D.inspects disk.now)
+        (λ folder. D.is_safe disk.now folder ⊎ D.is_never disk.now folder)
+        line (streams (R.remaining reader.old) (W.contents out.old))
+        (streams (R.remaining reader.new) (W.contents out.new)) Health.Complete Health.Incomplete }
     ensures unassembled { (line : Invocation) → AsksFor (texts words.now) line → result ≡ 4
-        → WasUnassembled line
-        (streams (R.remaining reader.old) (W.contents out.old)) (streams (R.remaining reader.new) (W.contents out.new))
+        → WasUnassembled
+        (IsDone ⟦<D::File as Growing>⟧ D.File.left (D.opens disk.now) (D.creates disk.now) (D.inspects disk.now)
+        (λ folder. D.is_safe disk.now folder ⊎ D.is_never disk.now folder)
+        line (streams (R.remaining reader.old) (W.contents out.old))
+        (streams (R.remaining reader.new) (W.contents out.new)) Health.Complete Health.Unassembled)
+        (IsCaused ⟦<D::File as Growing>⟧ D.File.left line)
         (HasPassed E.contents err.old err.new) (λ text. IsToldAfter E.contents text err.old err.new) }
     ensures complete { (line : Invocation) → AsksFor (texts words.now) line → IsChecked line → result ≡ 0
-        → HasHealth line Health.Complete Health.Complete }
+        → IsDone ⟦<D::File as Growing>⟧ D.File.left (D.opens disk.now) (D.creates disk.now) (D.inspects disk.now)
+        (λ folder. D.is_safe disk.now folder ⊎ D.is_never disk.now folder)
+        line (streams (R.remaining reader.old) (W.contents out.old))
+        (streams (R.remaining reader.new) (W.contents out.new)) Health.Complete Health.Complete }
 
     // But for a script, nothing is read.
     ensures beside { (line : Invocation) → AsksFor (texts words.now) line → ¬ IsRun line → reader.new ≡ reader.old }
@@ -175,20 +179,19 @@ fn do_line<S, D, R: BufRead, W: Write, E: Write>(
     health: &mut Health,
 ) -> Result<(), FolderFault>
 where
-    S: Files + Meter + AllocGlobal,
-    S::File: FileExt + Lock,
-    D: SlotFiles<File = Locked<S::File>> + InspectFiles + FolderSync,
-    ensures in_folder { OnOk result (IsDoneIn (D.opens disk.now) ⟦<Locked<S::File> as Growing>⟧.is_safe
+    S: Meter + AllocGlobal,
+    D: SlotFiles + InspectFiles + FolderSync,
+    D::File: BankFile,
+    ensures does { OnOk result (IsDone ⟦<D::File as Growing>⟧ D.File.left (D.opens disk.now) (D.creates disk.now)
         (D.inspects disk.now)
-        (λ folder. D.is_safe disk.now folder ⊎ D.is_never disk.now folder) line.entry) }
-    ensures does { OnOk result (IsDone line.entry
-        (streams (R.remaining reader.old) (W.contents out.old))
-        (streams (R.remaining reader.new) (W.contents out.new))) }
+        (λ folder. D.is_safe disk.now folder ⊎ D.is_never disk.now folder)
+        line.entry (streams (R.remaining reader.old) (W.contents out.old))
+        (streams (R.remaining reader.new) (W.contents out.new)) health.old health.new) }
     ensures read { IsRun line.entry → R.remaining reader.old ≢ None → OnOk result (R.remaining reader.new ≡ Some []) }
     ensures stopped { IfErr result (IsStopOf line.entry) }
-    ensures cause { IfErr result (IsCausedBy (HasCause line.entry)) }
+    ensures cause { IfErr result (IsCausedBy (HasCause ⟦<D::File as Growing>⟧ D.File.left line.entry)) }
     ensures named { IfErr result (IsBlamedIn (D.opens disk.now) (D.creates disk.now)
-        ⟦<Locked<S::File> as Growing>⟧.has_failed (D.inspects disk.now) line.entry) }
+        D.File.has_failed (D.inspects disk.now) line.entry) }
     ensures alone { IfErr result (λ fault. IsFirst fault → (reader.new ≡ reader.old) × (out.new ≡ out.old)) }
     ensures unwritten { ¬ IsRun line.entry
         → IfErr result (λ fault. fault ≢ FolderFault.Refused Refusal.WriteFault → out.new ≡ out.old) }
@@ -199,7 +202,6 @@ where
         × (err.new ≡ err.old) }
     ensures passed { HasPassed E.contents err.old err.new }
     ensures hushed { PassesNone line.entry → err.new ≡ err.old }
-    ensures health { OnOk result (HasHealth line.entry health.old health.new) }
 {
     match line {
         Invocation::Make {
@@ -287,7 +289,7 @@ fn examine_folder<D: InspectFiles, W: Write>(
 
 // Does what a line asks for that needs no file to be made, over the device files of its folder.
 #[tactic(auto, using(crate::proofs::Taken::nothing_passed))]
-fn serve_folder<S, F, D, R: BufRead, W: Write, E: Write>(
+fn serve_folder<S, D, R: BufRead, W: Write, E: Write>(
     rt: &S,
     disk: &D,
     line: Invocation<'_>,
@@ -298,22 +300,18 @@ fn serve_folder<S, F, D, R: BufRead, W: Write, E: Write>(
 ) -> Result<(), FolderFault>
 where
     S: Meter + AllocGlobal,
-    F: OpenFile + FileExt + Lock + Drop,
-    D: SlotFiles<File = Locked<F>>,
+    D: SlotFiles,
+    D::File: BankFile,
     requires { IsServed line }
-    ensures health { OnOk result (HasHealth line.entry health.old health.new) }
-    ensures opened { OnOk result (WereTaken ⟦<Locked<F> as Growing>⟧.is_safe
-        (λ slot. D.opens disk.now (slot_path (folder_text line.entry) slot))
-        (λ _. ⊥) (IsMissingIn (id_text line.entry))) }
-    ensures passed { HasPassed E.contents err.old err.new }
-    ensures does { OnOk result (IsDone line.entry
+    ensures served { OnOk result (IsServedOver ⟦<D::File as Growing>⟧ D.File.left (D.opens disk.now) line.entry
         (streams (R.remaining reader.old) (W.contents out.old))
-        (streams (R.remaining reader.new) (W.contents out.new))) }
+        (streams (R.remaining reader.new) (W.contents out.new)) health.old health.new) }
+    ensures passed { HasPassed E.contents err.old err.new }
     ensures read { IsRun line.entry → R.remaining reader.old ≢ None → OnOk result (R.remaining reader.new ≡ Some []) }
     ensures stopped { IfErr result (IsStopOf line.entry) }
-    ensures cause { IfErr result (IsCausedBy (HasCause line.entry)) }
+    ensures cause { IfErr result (IsCausedBy (HasCause ⟦<D::File as Growing>⟧ D.File.left line.entry)) }
     ensures named { IfErr result (IsBlamed (D.opens disk.now) (D.creates disk.now)
-        ⟦<Locked<F> as Growing>⟧.has_failed (folder_text line.entry)) }
+        D.File.has_failed (folder_text line.entry)) }
     ensures alone { IfErr result (λ fault. IsFirst fault → (reader.new ≡ reader.old) × (out.new ≡ out.old)) }
     ensures unwritten { ¬ IsRun line.entry
         → IfErr result (λ fault. fault ≢ FolderFault.Refused Refusal.WriteFault → out.new ≡ out.old) }
@@ -324,7 +322,8 @@ where
     let entry = Entry::new(rt.alloc())?;
     let files = open_folder(rt.alloc(), disk, folder_of(&line))?;
     pass_over(rt.alloc(), &files, id_of(&line), err)?;
-    let bank = bank_over(rt.alloc(), &files)?;
+    let mut open = files.files;
+    let bank = bank_on(rt.alloc(), &mut open)?;
     do_on(rt, bank, entry, line, reader, out, health)?;
     Ok(())
 }

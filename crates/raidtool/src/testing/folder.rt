@@ -65,7 +65,7 @@ pub(crate) fn line<Host>(
 )
 where
     Host: Files + Meter + AllocGlobal + Abort,
-    Host::File: FileExt + Lock,
+    Host::File: FileExt + Lock + 'static,
 {
     let mut reader = Script::new(script, read);
     let mut out = Full {
@@ -102,7 +102,7 @@ pub(crate) fn says<Host>(
 )
 where
     Host: Files + Meter + AllocGlobal + Abort,
-    Host::File: FileExt + Lock,
+    Host::File: FileExt + Lock + 'static,
 {
     let is_run = words.is_empty() || words.starts_with("run|");
     let words = words_in(rt, words, folder);
@@ -152,7 +152,7 @@ pub(crate) enum Step {
 pub(crate) fn over_folder<Host>(rt: &Host, process: Process, name: &str, steps: &[Step])
 where
     Host: Files + Meter + Env + AllocGlobal + Abort + Clone + Drop,
-    Host::File: FileExt + Lock,
+    Host::File: FileExt + Lock + 'static,
 {
     let folder = empty_folder(rt, process, name);
     all_go(rt, &folder, steps);
@@ -163,7 +163,7 @@ where
 pub(crate) fn all_go<Host>(rt: &Host, folder: &PathBuf, steps: &[Step])
 where
     Host: Files + Meter + AllocGlobal + Abort + Clone + Drop,
-    Host::File: FileExt + Lock,
+    Host::File: FileExt + Lock + 'static,
 {
     for step in steps {
         goes(rt, folder, step);
@@ -173,7 +173,7 @@ where
 fn goes<Host>(rt: &Host, folder: &PathBuf, step: &Step)
 where
     Host: Files + Meter + AllocGlobal + Abort + Clone + Drop,
-    Host::File: FileExt + Lock,
+    Host::File: FileExt + Lock + 'static,
 {
     match step {
         Step::Line(words, script, status, text) => {
@@ -208,7 +208,7 @@ fn cut<Host>(
 )
 where
     Host: Files + Meter + AllocGlobal + Abort,
-    Host::File: FileExt + Lock,
+    Host::File: FileExt + Lock + 'static,
 {
     let words = words_in(rt, words, folder.as_str());
     let end = (status, left, text.as_bytes(), error.as_bytes());

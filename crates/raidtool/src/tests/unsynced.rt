@@ -1,4 +1,6 @@
 //! What a killed program left unsynced, and a power cut in the next one: device files that remember what was synced.
+ghost use Rattle.device_files.specs.BankFiles.{AreAllSafe};
+
 use crate::testing::folder::Step::Line;
 use crate::testing::folder::{MAKE, RUN, SCRUB, Step, UNREAD, all_go, empty_folder, path_of};
 use crate::testing::streams::{Full, Script, WHOLE};
@@ -6,8 +8,8 @@ use crate::testing::texts::{MADE, OK, SOUND};
 use crate::testing::{ID, same, words_in};
 use crate::tool::tool;
 use device_files::{
-    Before, CreateFault, DeviceFiles, Lock, Locked, OpenFault, SlotFiles, SystemFolders, bank_over,
-    open_folder,
+    BankFile, Before, CreateFault, DeviceFiles, Lock, Locked, OpenFault, SlotFiles, SystemFolders,
+    bank_on, open_folder,
 };
 use set_commands::{Meter, serve_on};
 use std::cell::Cell;
@@ -16,21 +18,22 @@ use std::io::{self, ErrorKind};
 use std::os::unix::fs::FileExt;
 use std::path::PathBuf;
 use std::process::Abort;
+use std::rc::Rc;
 use std::rt::Files;
 use stripe_journal::Entry;
 
 // A device file, and beside it a file that has what a power cut would leave of it.
 #[derive(Drop)]
-struct Remembering<'a, F> {
+struct Remembering<F> {
     file: F,
     safe: F,
     // So many calls that change or sync a file are made before the program is killed, whatever file they are of.
-    left: &'a Cell<u64>,
+    left: Rc<Cell<u64>>,
     // The sync of a start is made. Else it is only said to have been.
     is_made_safe: bool,
 }
 
-impl<F> Remembering<'_, F> {
+impl<F> Remembering<F> {
     // A call of a program that was not killed yet.
     fn live(&self) -> io::Result<()> {
         if self.left.get() == 0 {
@@ -52,7 +55,7 @@ const PART: usize = 8_192;
 
 const PARTS: u64 = 64;
 
-impl<F: OpenFile + FileExt> Remembering<'_, F> {
+impl<F: OpenFile + FileExt> Remembering<F> {
     // What the file holds is safe from now on.
     fn remember(&self) -> io::Result<()> {
         let mut bytes = [0; PART];
@@ -65,7 +68,7 @@ impl<F: OpenFile + FileExt> Remembering<'_, F> {
     }
 }
 
-impl<F: OpenFile + FileExt> OpenFile for Remembering<'_, F> {
+impl<F: OpenFile + FileExt> OpenFile for Remembering<F> {
     fn metadata(&self) -> io::Result<Metadata> {
         self.live()?;
         self.file.metadata()
@@ -85,7 +88,7 @@ impl<F: OpenFile + FileExt> OpenFile for Remembering<'_, F> {
     }
 }
 
-impl<F: FileExt> FileExt for Remembering<'_, F> {
+impl<F: FileExt> FileExt for Remembering<F> {
     fn read_at(&self, buf: &mut [u8], offset: u64) -> io::Result<usize> {
         self.live()?;
         self.file.read_at(buf, offset)
@@ -97,7 +100,7 @@ impl<F: FileExt> FileExt for Remembering<'_, F> {
     }
 }
 
-impl<F: OpenFile + FileExt> Lock for Remembering<'_, F> {
+impl<F: OpenFile + FileExt + 'static> Lock for Remembering<F> {
     ghost use Rattle.std.specs.Prelude.{⊤};
 
     ghost is_ours = { λ _. ⊤ };
@@ -123,18 +126,18 @@ impl<F: OpenFile + FileExt> Lock for Remembering<'_, F> {
 #[derive(Drop)]
 struct Disk<'a, S> {
     rt: &'a S,
-    left: &'a Cell<u64>,
+    left: Rc<Cell<u64>>,
     is_made_safe: bool,
 }
 
-impl<'a, S> SlotFiles for Disk<'a, S>
+impl<S> SlotFiles for Disk<'_, S>
 where
     S: Files + AllocGlobal,
-    S::File: FileExt,
+    S::File: FileExt + 'static,
 {
     ghost use Rattle.std.specs.Prelude.{⊤};
 
-    type File = Locked<Remembering<'a, S::File>>;
+    type File = Locked<Remembering<S::File>>;
 
     ghost opens = { λ _ _ _. ⊤ };
 
@@ -142,25 +145,25 @@ where
 
     ghost removes = { λ _ _ _. ⊤ };
 
-    fn open(&self, path: &str) -> Result<Option<Locked<Remembering<'a, S::File>>>, OpenFault> {
+    fn open(&self, path: &str) -> Result<Option<Locked<Remembering<S::File>>>, OpenFault> {
         let Ok(safe) = format!(in self.rt.alloc(); "{path}.safe") else {
             return Ok(None);
         };
         let (Ok(file), Ok(safe)) = (opened(self.rt, path), opened(self.rt, safe.as_str())) else {
             return Ok(None);
         };
+        let Ok(left) = self.left.clone() else {
+            return Ok(None);
+        };
         Ok(Locked::over(Remembering {
             file,
             safe,
-            left: self.left,
+            left,
             is_made_safe: self.is_made_safe,
         }))
     }
 
-    fn create(
-        &self,
-        _path: &str,
-    ) -> Result<(Locked<Remembering<'a, S::File>>, Before), CreateFault> {
+    fn create(&self, _path: &str) -> Result<(Locked<Remembering<S::File>>, Before), CreateFault> {
         Err(CreateFault::Failed)
     }
 
@@ -178,24 +181,23 @@ fn opened<S: Files>(rt: &S, path: &str) -> io::Result<S::File> {
 fn served<Host>(rt: &Host, folder: &PathBuf, script: &str, calls: u64, is_made_safe: bool) -> u64
 where
     Host: Files + AllocGlobal + Abort,
-    Host::File: FileExt,
+    Host::File: FileExt + 'static,
 {
-    let left = Cell::new(calls);
+    let left = Rc::new(rt.alloc(), Cell::new(calls)).expect(rt, "memory");
     let disk = Disk {
         rt,
-        left: &left,
+        left: left.clone().expect(rt, "memory"),
         is_made_safe,
     };
     if let Ok(files) = open_folder(rt.alloc(), &disk, folder.as_str()) {
-        serve_over(rt, &files, script);
+        serve_over(rt, files, script);
     }
     left.get()
 }
 
 // Serves a script over the files of a folder.
-fn serve_over<F>(rt: &(impl AllocGlobal + Abort), files: &DeviceFiles<Locked<F>>, script: &str)
-where
-    F: OpenFile + FileExt + Lock + Drop,
+fn serve_over<F: BankFile>(rt: &(impl AllocGlobal + Abort), files: DeviceFiles<F>, script: &str)
+    requires safe { AreAllSafe F.is_safe files.files.items }
 {
     let mut reader = Script::new(script.as_bytes(), WHOLE);
     let mut out = Full {
@@ -203,7 +205,8 @@ where
         room: WHOLE,
     };
     let entry = Entry::new(rt.alloc()).expect(rt, "memory");
-    if let Ok(bank) = bank_over(rt.alloc(), files) {
+    let mut open = files.files;
+    if let Ok(bank) = bank_on(rt.alloc(), &mut open) {
         let _ = serve_on(rt.alloc(), bank, entry, ID, &mut reader, &mut out);
     }
 }
@@ -234,7 +237,7 @@ fn bytes_of(
 fn said<Host>(rt: &Host, folder: &PathBuf, words: &str, script: &str) -> Vec<u8>
 where
     Host: Files + Meter + AllocGlobal + Abort,
-    Host::File: FileExt + Lock,
+    Host::File: FileExt + Lock + 'static,
 {
     let words = words_in(rt, words, folder.as_str());
     let mut reader = Script::new(script.as_bytes(), WHOLE);
@@ -270,7 +273,7 @@ const REPLACE_4: &str = "replace|@|--id|H|--slot|4";
 fn is_kept<Host>(rt: &Host, folder: &PathBuf) -> bool
 where
     Host: Files + Meter + AllocGlobal + Abort,
-    Host::File: FileExt + Lock,
+    Host::File: FileExt + Lock + 'static,
 {
     fs::remove_file(rt, file_of(rt, folder, 4, "")).expect(rt, "a file");
     let is_there = said(rt, folder, RUN, READ).as_slice() == READS;
@@ -295,7 +298,7 @@ const SEALS: usize = 4 * 512;
 fn kill<Host>(rt: &Host, folder: &PathBuf)
 where
     Host: Files + Meter + AllocGlobal + Abort + Clone + Drop,
-    Host::File: FileExt + Lock,
+    Host::File: FileExt + Lock + 'static,
 {
     all_go(rt, folder, ACKNOWLEDGED);
     copy_all(rt, folder, "", ".safe");
@@ -320,7 +323,7 @@ where
 fn losses<Host>(rt: &Host, folder: &PathBuf, is_made_safe: bool) -> (u64, u64)
 where
     Host: Files + Meter + AllocGlobal + Abort + Clone + Drop,
-    Host::File: FileExt + Lock,
+    Host::File: FileExt + Lock + 'static,
 {
     let mut lost: u64 = 0;
     for calls in 0..MANY {

@@ -1,4 +1,4 @@
-use Rattle.std.proofs.Common.{◌≡◌, ◌∙◌, ◌<◌, ℕ, List, [], Ok, ap, arith, length, map, string_bytes, subst, sym}
+use Rattle.std.proofs.Common.{◌≡◌, ◌∙◌, ◌<◌, ℕ, List, [], Ok, ap, arith, length, map, refl, string_bytes, subst, sym}
 use Rattle.std.proofs.lemmas.List.{get_or-map}
 use Rattle.device_files.specs.DeviceFiles.{IsTakenBack, IsTakenBackOrFailed, before_in, file_in, path_in}
 use Rattle.device_files.proofs.SlotBySlot.{and_ok, same_next, undone_next, untouched_next}
@@ -8,28 +8,28 @@ pub loop-slot-preserved : goal.loop-slot-preserved
 loop-slot-preserved g c =
     let inv = c.loop-slot.invariant in
     let this = c.undo_slot.ensures in
-    let first = c.args.files.now.files.items in
-    let was = c.loop-slot.files.files.items in
-    let is = c.undo_slot.new.files.files.items in
+    let first = c.args.files.now in
+    let was = c.loop-slot.files in
+    let is = c.undo_slot.new.files in
     let slot = c.loop-slot.slot in
     let paths = c.args.paths.now.paths.items in
     let below : slot < length paths = omega (arith, c.loop-slot-test.true, c.args.paths.now.ten) in
-    let path_is : c.as_str.result.now ≡ path_in (map string_bytes paths) slot =
-    c.as_str.ensures.value ∙ ap string_bytes c.index.ensures ∙ sym (get_or-map string_bytes paths slot c.index.result.now [] below) in
+    let path_is : c.as_str-path.result.now ≡ path_in (map string_bytes paths) slot =
+    c.as_str-path.ensures.value ∙ ap string_bytes c.index.ensures ∙ sym (get_or-map string_bytes paths slot c.index.result.now [] below) in
     let Removes = g.D.SlotFiles.removes c.args.disk.now in
     let told = g.D.File.Growing.told in
     let tells = g.D.File.Growing.tells in
     let failed = g.D.File.Growing.has_failed in
-    let note = before_in c.loop-slot.files.before slot in
+    let notes = c.args.before.now in
+    let note = before_in notes slot in
     record {
       undone = λ fair. rw c.and-done.ensures (and_ok c.loop-slot.done c.undo_slot.result _ _ _ (inv.undone fair) (this.undone fair)
           (λ before here. undone_next (λ k note old new. IsTakenBack told (Removes (path_in (map string_bytes paths) k) (Ok tt)) note old new)
-          c.args.files.now.before c.loop-slot.files.before first was is slot inv.notes before inv.untouched this.others
+          notes notes first was is slot refl before inv.untouched this.others
           (subst (λ (path : List ℕ). IsTakenBack told (Removes path (Ok tt)) note (file_in was slot) (file_in is slot)) path_is here)));
       each = undone_next (λ k note old new. IsTakenBackOrFailed tells told failed (Removes (path_in (map string_bytes paths) k)) note old new)
-          c.args.files.now.before c.loop-slot.files.before first was is slot inv.notes inv.each inv.untouched this.others
+          notes notes first was is slot refl inv.each inv.untouched this.others
           (subst (λ (path : List ℕ). IsTakenBackOrFailed tells told failed (Removes path) note (file_in was slot) (file_in is slot)) path_is this.each);
-      same = same_next c.args.files.now.before c.loop-slot.files.before first was is slot inv.notes inv.same inv.untouched this.others this.same;
+      same = same_next notes notes first was is slot refl inv.same inv.untouched this.others this.same;
       untouched = untouched_next first was is slot inv.untouched this.others;
-      notes = this.notes ∙ inv.notes;
     }

@@ -7,11 +7,10 @@ abbrev pub invariant-loop-slot : goal.invariant-loop-slot
 invariant-loop-slot g l = record {
   undone : IsTrue g.D.File.Growing.tells → OnOk l.done ((k : ℕ) → k < l.slot
       → IsTakenBack g.D.File.Growing.told (g.D.SlotFiles.removes l.disk (path_in (map string_bytes l.paths.paths.items) k) (Ok tt))
-      (before_in l.initial.files.before k) (file_in l.initial.files.files.items k) (file_in l.files.files.items k));
+      (before_in l.before k) (file_in l.initial.files k) (file_in l.files k));
   each : (k : ℕ) → k < l.slot → IsTakenBackOrFailed g.D.File.Growing.tells g.D.File.Growing.told g.D.File.Growing.has_failed
       (g.D.SlotFiles.removes l.disk (path_in (map string_bytes l.paths.paths.items) k))
-      (before_in l.initial.files.before k) (file_in l.initial.files.files.items k) (file_in l.files.files.items k);
-  same : (k : ℕ) → before_in l.initial.files.before k ≡ Same → file_in l.files.files.items k ≡ file_in l.initial.files.files.items k;
-  untouched : (k : ℕ) → l.slot ≤ k → file_in l.files.files.items k ≡ file_in l.initial.files.files.items k;
-  notes : l.files.before ≡ l.initial.files.before;
+      (before_in l.before k) (file_in l.initial.files k) (file_in l.files k);
+  same : (k : ℕ) → before_in l.before k ≡ Same → file_in l.files k ≡ file_in l.initial.files k;
+  untouched : (k : ℕ) → l.slot ≤ k → file_in l.files k ≡ file_in l.initial.files k;
 }

@@ -1,19 +1,27 @@
 use Rattle.std.proofs.Common.{◌<◌, ◌≤◌, ◌+◌, arith}
-use Rattle.std.proofs.lemmas.Result.{err_from_is_err_and}
+use Rattle.std.proofs.lemmas.Result.{err_from_is_err_and, on_ok_weaker}
 use Rattle.device_files.specs.DeviceFiles.{slot_path}
+use Rattle.device_files.proofs.MadeSafe.{all_safe}
 use Rattle.device_files.specs.Faults.{IsBarredIn, IsOpenFault, IsUnsyncedIn}
 use Rattle.sector_model.specs.declared.refusal.Refusal.TheVariants.{Memory}
+use Rattle.raidtool.specs.DoneOver.{IsMadeOver}
 use Rattle.raidtool.proofs.Causes.{by_memory, by_refusal}
-use Rattle.raidtool.proofs.Taken.{at_any_rate, barred_blamed, barred_passing, barred_unmade, none_barred, unsynced_blamed, were_taken}
+use Rattle.raidtool.proofs.Taken.{barred_blamed, barred_passing, barred_unmade, none_barred, taken_over, unsynced_blamed}
 use Rattle.raidtool.proofs.make.make_in.Goals as goal
 
-pub returns-clause-opened : goal.returns-clause-opened
-returns-clause-opened g c = at_any_rate c.make_or_undo.result
-    (were_taken _ _ _ _ (λ slot. g.D.SlotFiles.opens c.args.disk.now (slot_path c.args.folder.now slot))
-    c.in_ok-files.files.files.items c.in_ok-files.files.unsynced c.in_ok-files.files.barred (λ slot. slot < c.args.geometry.members + 2) (λ _. ⊥)
+pub make_or_undo-requires-clause-safe : goal.make_or_undo-requires-clause-safe
+make_or_undo-requires-clause-safe g c κs within = all_safe _ _ _ _ _ c.in_ok-files.files.files.items c.in_ok-files.files.unsynced
+    c.in_ok-files.files.barred c.in_ok-files.ensures.safe
+
+pub returns-clause-made : goal.returns-clause-made
+returns-clause-made g c = on_ok_weaker c.make_or_undo.result (λ made.
+    let both = taken_over _ _ _ _ (λ slot. g.D.SlotFiles.opens c.args.disk.now (slot_path c.args.folder.now slot))
+    c.in_ok-files.files.files.items c.in_ok-files.files.unsynced c.in_ok-files.files.barred (λ slot. slot < c.args.geometry.members + 2) (λ _ _. ⊥)
+    (IsMadeOver g.D.File.Growing g.D.File.BankFile.left (g.D.SlotFiles.creates c.args.disk.now) c.args.folder.now c.args.id c.args.geometry)
     c.in_ok-files.ensures.safe (λ slot under needed. let from : 0 ≤ slot = omega arith in c.in_ok-refuse_unsynced.ensures.none slot from needed under)
     (none_barred (λ _. ⊥) c.in_ok-files.files.barred
-    (λ slot under. let from : 0 ≤ slot = omega arith in c.in_ok-refuse_barred.ensures.none slot from under under)))
+    (λ slot under. let from : 0 ≤ slot = omega arith in c.in_ok-refuse_barred.ensures.none slot from under under)) made in
+    record { taken = both.0; over = both.1 }) c.make_or_undo.ensures.made
 
 pub returns-in_err-refuse_unsynced-clause-named : goal.returns-in_err-refuse_unsynced-clause-named
 returns-in_err-refuse_unsynced-clause-named g c =

@@ -1,9 +1,11 @@
-use Rattle.std.proofs.Common.{◌≤◌, ◌<◌, ap, arith, inl, inr, subst}
+use Rattle.std.proofs.Common.{IsTrue, ◌≤◌, ◌<◌, ap, arith, inl, inr, subst}
 use Rattle.std.proofs.lemmas.Result.{IfErr-weaker, err_from_is_err_and, on_ok_weaker}
 use Rattle.device_files.specs.DeviceFiles.{file_in}
 use Rattle.device_files.specs.Faults.{IsFileFaultOf, IsSyncFault}
 use Rattle.raidtool.specs.Done.{IsNeedIn}
-use Rattle.raidtool.proofs.Causes.{by_memory, by_refusal}
+use Rattle.raidtool.specs.Begun.{BeginsOver}
+use Rattle.raidtool.proofs.Causes.{by_memory, by_refusal, no_table_safely, not_memory}
+use Rattle.raidtool.proofs.MadeFiles.{all_renewed_safe}
 use Rattle.raidtool.proofs.Renewed.{is_none_of, renewed_blamed}
 use Rattle.raidtool.proofs.Taken.{at_any_rate}
 use Rattle.raidtool.proofs.replacing.prepare_file.Goals.{in-Some+in_ok-renew_slot, in_default}
@@ -17,15 +19,27 @@ returns-in_err-renew_slot-clause-named g c =
 
 pub returns-clause-prepared : goal.returns-clause-prepared
 returns-clause-prepared g c =
-    let found : IsNeedIn c.args.id c.args.slot c.in_ok-need.need = (_, _, c.in_ok-need.ensures) in
+    let Needs = IsNeedIn (IsTrue g.D.File.Growing.tells) (BeginsOver g.D.File.Growing g.D.File.BankFile.left c.args.files.now.files.items) c.args.id
+    c.args.slot in
     at_any_rate c.sync_folders.result (elim c.match-need.branch [
       | in-Some+in_ok-renew_slot w ↦ inr (
         w.in-Some.bytes,
-        subst (IsNeedIn c.args.id c.args.slot) w.in-Some.is found,
+        subst Needs w.in-Some.is c.in_ok-need.ensures.need,
         rw w.files-is w.in_ok-renew_slot.ensures.made,
       )
-      | in_default w ↦ inl (subst (IsNeedIn c.args.id c.args.slot) (is_none_of c.in_ok-need.need w.in_default.not-Some) found, w.files-is)
+      | in_default w ↦ inl (
+        subst Needs (is_none_of c.in_ok-need.need w.in_default.not-Some) c.in_ok-need.ensures.need,
+        ap (λ files. files.files.items) w.files-is,
+      )
     ])
+
+pub returns-clause-safe : goal.returns-clause-safe
+returns-clause-safe g c = at_any_rate c.sync_folders.result (elim c.match-need.branch [
+  | in-Some+in_ok-renew_slot w ↦ rw w.files-is (all_renewed_safe g.D.File.Growing.is_safe c.args.slot c.args.files.now.files.items
+      w.renew_slot.new.files.files.items
+      c.requires.safe w.in_ok-renew_slot.ensures.made.safe w.in_ok-renew_slot.ensures.made.others)
+  | in_default w ↦ rw w.files-is c.requires.safe
+])
 
 pub returns-clause-linked : goal.returns-clause-linked
 returns-clause-linked g c = λ under.
@@ -43,8 +57,9 @@ returns-clause-others g c = elim c.match-need.branch [
 
 pub returns-in_err-need-clause-cause : goal.returns-in_err-need-clause-cause
 returns-in_err-need-clause-cause g c =
-    let from = err_from_is_err_and c.from_residual-in_err-need.result c.from_residual-in_err-need.ensures.1 in
-    rw (from.1, from.2) (by_refusal _ _ (λ other. (_, _, c.in_err-need.ensures)))
+    let from = err_from_is_err_and c.from_residual.result c.from_residual.ensures.1 in
+    rw (from.1, from.2) (by_refusal _ _ (λ other. no_table_safely g.D.File.Growing g.D.File.BankFile.left c.args.id c.args.files.now.files.items _
+    c.requires.safe (c.in_err-need.ensures.cause (not_memory _ other))))
 
 pub returns-in_err-renew_slot-clause-cause : goal.returns-in_err-renew_slot-clause-cause
 returns-in_err-renew_slot-clause-cause g c =

@@ -5,11 +5,15 @@ use Rattle.sector_model.specs.declared.refusal.Refusal.TheVariants.{Memory, Writ
 use Rattle.device_files.specs.declared.FolderFault.{FolderFault}
 use Rattle.device_files.specs.declared.FolderFault.TheVariants.{Refused}
 use Rattle.device_files.specs.declared.Reason.{Reason}
-use Rattle.device_files.specs.DeviceFiles.{IsMissingIn, slot_path}
+use Rattle.device_files.specs.DeviceFiles.{slot_path}
+use Rattle.device_files.proofs.MadeSafe.{all_safe}
+use Rattle.raidtool.specs.Begun.{IsMissingOver}
+use Rattle.raidtool.specs.DoneOver.{IsReplacedOver}
 use Rattle.device_files.specs.Faults.{IsBarredIn, IsOpenFault, IsPassingFault, IsUnsyncedIn}
 use Rattle.set_commands.specs.Serving.{IsReplaceEnd}
-use Rattle.raidtool.proofs.Causes.{by_memory, by_refusal, not_memory}
-use Rattle.raidtool.proofs.Taken.{at_any_rate, barred_blamed, barred_passing, passing_slot, unsynced_blamed, unsynced_slot, were_taken}
+use Rattle.raidtool.proofs.Causes.{by_memory, by_refusal, no_table_safely, not_memory}
+use Rattle.raidtool.proofs.Renewed.{replaces_more}
+use Rattle.raidtool.proofs.Taken.{barred_blamed, barred_passing, passing_slot, taken_over, unsynced_blamed, unsynced_slot}
 use Rattle.raidtool.proofs.replacing.replace_in_folder.Goals as goal
 
 -- no file that is passed over is a fault of what is written
@@ -37,11 +41,21 @@ returns-in_err-refuse_unsynced-clause-replaces g c =
           c.in_err-refuse_unsynced.ensures.fault);
     })
 
-pub returns-clause-opened : goal.returns-clause-opened
-returns-clause-opened g c = at_any_rate c.replace_or_undo.result
-    (were_taken _ _ _ _ (λ other. g.D.SlotFiles.opens c.args.disk.now (slot_path c.args.folder.now other))
+pub pass_over-requires-clause-safe : goal.pass_over-requires-clause-safe
+pass_over-requires-clause-safe g c κs within = all_safe _ _ _ _ _ c.in_ok-files.files.files.items c.in_ok-files.files.unsynced c.in_ok-files.files.barred
+    c.in_ok-files.ensures.safe
+
+pub replace_or_undo-requires-clause-safe : goal.replace_or_undo-requires-clause-safe
+replace_or_undo-requires-clause-safe g c κs within = all_safe _ _ _ _ _ c.in_ok-files.files.files.items c.in_ok-files.files.unsynced
+    c.in_ok-files.files.barred c.in_ok-files.ensures.safe
+
+pub returns-clause-replaces : goal.returns-clause-replaces
+returns-clause-replaces g c = replaces_more _ _ _ _ _ _ _ _ g.W.Write.contents c.args.slot c.args.out.now c.replace_or_undo.new.out c.replace_or_undo.result
+    (λ over.
+    let both = taken_over _ _ _ _ (λ other. g.D.SlotFiles.opens c.args.disk.now (slot_path c.args.folder.now other))
     c.in_ok-files.files.files.items c.in_ok-files.files.unsynced c.in_ok-files.files.barred (λ other. other ≡ c.args.slot)
-    (λ other. (other ≢ c.args.slot) × IsMissingIn c.args.id other)
+    (λ files other. (other ≢ c.args.slot) × IsMissingOver g.D.File.Growing g.D.File.BankFile.left c.args.id files other)
+    (IsReplacedOver g.D.File.Growing g.D.File.BankFile.left (g.D.SlotFiles.creates c.args.disk.now) c.args.folder.now c.args.id c.args.slot)
     c.in_ok-files.ensures.safe (λ other under same.
     let from : c.args.slot ≤ other = omega (arith, same) in
     let below : other < c.saturating_add-2.result = omega (arith, same, under, c.saturating_add-2.ensures) in
@@ -51,7 +65,8 @@ returns-clause-opened g c = at_any_rate c.replace_or_undo.result
     let from : c.args.slot ≤ other = omega (arith, same) in
     let below : other < c.saturating_add.result = omega (arith, same, under, c.saturating_add.ensures) in
     false≢true (rw (c.in_ok-refuse_barred.ensures.none other from below under) at some) in
-    (apart, c.in_ok-pass_over.ensures.missing other under some)))
+    (apart, c.in_ok-pass_over.ensures.missing other under some)) over in
+    record { taken = both.0; over = both.1 }) (λ synced. synced) (λ refusal cause. cause) (λ fault blamed. blamed) c.replace_or_undo.ensures.replaces
 
 pub returns-in_err-refuse_barred-clause-replaces : goal.returns-in_err-refuse_barred-clause-replaces
 returns-in_err-refuse_barred-clause-replaces g c =
@@ -80,7 +95,9 @@ returns-in_err-pass_over-clause-replaces g c =
       blamed = barred_blamed _ _ _ _ _ c.in_ok-files.files.files.items c.in_ok-files.files.unsynced c.in_ok-files.files.barred
           (g.D.SlotFiles.opens c.args.disk.now) (g.D.SlotFiles.creates c.args.disk.now) c.args.folder.now _ c.in_ok-files.ensures.safe
           c.in_err-pass_over.ensures.fault;
-      cause = λ refusal same other. inr (c.in_err-pass_over.ensures.cause refusal same (not_memory refusal other));
+      cause = λ refusal same other. inr (no_table_safely g.D.File.Growing g.D.File.BankFile.left c.args.id c.in_ok-files.files.files.items refusal
+          (all_safe _ _ _ _ _ c.in_ok-files.files.files.items c.in_ok-files.files.unsynced c.in_ok-files.files.barred c.in_ok-files.ensures.safe)
+          (c.in_err-pass_over.ensures.cause refusal same (not_memory refusal other)));
       unwritten = λ _. refl;
       cut = λ cut. absurd (never_written c.in_ok-files.files.barred (subst (λ (fault : FolderFault). IsPassingFault c.in_ok-files.files.barred fault) cut
           c.in_err-pass_over.ensures.fault));

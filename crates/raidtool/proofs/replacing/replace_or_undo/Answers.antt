@@ -1,23 +1,13 @@
-use Rattle.std.proofs.Common.{◌∙◌, ap, inl, inr, sym}
-use Rattle.std.proofs.lemmas.Bool.{false≢true}
+use Rattle.std.proofs.Common.{inl}
+use Rattle.raidtool.proofs.Renewed.{refusal_blamed, replaces_more}
 use Rattle.raidtool.proofs.replacing.replace_or_undo.Goals as goal
 
-pub returns-then-is_undone-clause-files : goal.returns-then-is_undone-clause-files
-returns-then-is_undone-clause-files g c = record {
-  kept = λ done. absurd (done (c.is_undone.ensures.0 c.if-is_undone.true));
-  undone = λ is. rw c.undo.ensures.notes (record {
-    files = c.replace_over-done.new.files.files.items;
-    left = c.replace_over-done.ensures.others;
-    result = c.undo.result;
-    taken_back = c.undo.ensures.taken_back;
-  });
-}
-
-pub returns-else-is_undone-clause-files : goal.returns-else-is_undone-clause-files
-returns-else-is_undone-clause-files g c = record {
-  kept = λ done. elim (c.replace_over-done.ensures.kept done) [
-    | inl same ↦ inl (ap (λ files. files.files.items) same)
-    | inr there ↦ inr there
-  ];
-  undone = λ is. absurd (false≢true (sym c.if-is_undone.false ∙ c.is_undone.ensures.1 is));
-}
+pub returns-in-Ok-clause-replaces : goal.returns-in-Ok-clause-replaces
+returns-in-Ok-clause-replaces g c = replaces_more _ _ _ _ _ _ _ _ g.W.Write.contents c.args.slot c.args.out.now c.replace_ready.new.out c.replace_ready.result
+    (λ replaced. record {
+      files = c.ready_slot-ready.new.files.files.items;
+      prepared = c.in-Ok.ensures.prepared;
+      replaced = rw c.deref_mut.ensures.value at replaced;
+    }) (λ any. c.in-Ok.ensures.synced) (λ refusal cause. inl cause)
+    (refusal_blamed (g.D.SlotFiles.opens c.args.disk.now) (g.D.SlotFiles.creates c.args.disk.now) g.D.File.Growing.has_failed c.args.folder.now)
+    c.replace_ready.ensures.replaces

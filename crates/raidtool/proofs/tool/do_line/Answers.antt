@@ -5,46 +5,44 @@ use Rattle.raidtool.specs.Done.{OfFiles}
 use Rattle.set_commands.specs.Run.{streams}
 use Rattle.raidtool.proofs.Causes.{by_refusal, caused_as, no_sizes, sizes_make}
 use Rattle.raidtool.proofs.InspectionsTold.{inspections_cut}
-use Rattle.raidtool.proofs.DoneLines.{both_done, made_done, no_make, passes_some, replaced_done, served_blamed, served_in}
+use Rattle.raidtool.proofs.DoneLines.{examined_done, made_done, no_make, passes_some, replaced_done, served_blamed, served_done}
 use Rattle.raidtool.proofs.tool.do_line.Goals as goal
 
 pub returns-in_ok-geometry-in-Make-clause-does : goal.returns-in_ok-geometry-in-Make-clause-does
 returns-in_ok-geometry-in-Make-clause-does g c =
     let geometry = c.in_ok-geometry-in-Make in
-    rw c.in-Make.is (made_done c.in-Make.folder c.in-Make.id c.in-Make.members c.in-Make.chunk c.in-Make.stripes geometry.geometry c.make_set.result
+    rw c.in-Make.is (made_done g.D.File.Growing g.D.File.BankFile.left (g.D.SlotFiles.opens c.args.disk.now)
+    (g.D.SlotFiles.creates c.args.disk.now) (g.D.InspectFiles.inspects c.args.disk.now)
+    (λ folder. g.D.FolderSync.is_safe c.args.disk.now folder ⊎ g.D.FolderSync.is_never c.args.disk.now folder)
+    c.in-Make.folder c.in-Make.id c.in-Make.members c.in-Make.chunk c.in-Make.stripes geometry.geometry c.make_set.result
     (streams (g.R.Read.remaining c.args.reader.now) (g.W.Write.contents c.args.out.now))
-    (streams (g.R.Read.remaining c.args.reader.now) (g.W.Write.contents c.make_set.new.out))
+    (streams (g.R.Read.remaining c.args.reader.now) (g.W.Write.contents c.make_set.new.out)) c.args.health.now
     (record {
+      format_is = geometry.ensures.format;
       members_is = geometry.ensures.members;
       chunk_is = geometry.ensures.chunk;
       stripes_is = geometry.ensures.stripes;
       within = geometry.ensures.within.0 refl;
-    }) c.make_set.ensures.made c.make_set.ensures.written)
-
-pub returns-in_ok-geometry-in-Make-clause-in_folder : goal.returns-in_ok-geometry-in-Make-clause-in_folder
-returns-in_ok-geometry-in-Make-clause-in_folder g c =
-    let geometry = c.in_ok-geometry-in-Make in
-    rw c.in-Make.is (both_done _ _ c.make_set.result (rw geometry.ensures.members at c.make_set.ensures.opened) c.make_set.ensures.synced)
-
-pub returns-in-Replace-clause-in_folder : goal.returns-in-Replace-clause-in_folder
-returns-in-Replace-clause-in_folder g c =
-    rw c.in-Replace.is (both_done _ _ c.replace_in_folder.result c.replace_in_folder.ensures.opened c.replace_in_folder.ensures.replaces.synced)
+    }) c.make_set.ensures.made c.make_set.ensures.synced c.make_set.ensures.written)
 
 pub returns-in-Replace-clause-does : goal.returns-in-Replace-clause-does
 returns-in-Replace-clause-does g c =
-    rw c.in-Replace.is (replaced_done c.in-Replace.folder c.in-Replace.id c.in-Replace.slot c.replace_in_folder.result
+    rw c.in-Replace.is (replaced_done g.D.File.Growing g.D.File.BankFile.left (g.D.SlotFiles.opens c.args.disk.now)
+    (g.D.SlotFiles.creates c.args.disk.now) (g.D.InspectFiles.inspects c.args.disk.now)
+    (λ folder. g.D.FolderSync.is_safe c.args.disk.now folder ⊎ g.D.FolderSync.is_never c.args.disk.now folder)
+    c.in-Replace.folder c.in-Replace.id c.in-Replace.slot c.replace_in_folder.result
     (streams (g.R.Read.remaining c.args.reader.now) (g.W.Write.contents c.args.out.now))
-    (streams (g.R.Read.remaining c.args.reader.now) (g.W.Write.contents c.replace_in_folder.new.out))
-    c.replace_in_folder.ensures.replaces.replaced c.replace_in_folder.ensures.replaces.written)
+    (streams (g.R.Read.remaining c.args.reader.now) (g.W.Write.contents c.replace_in_folder.new.out)) c.args.health.now
+    c.replace_in_folder.ensures.replaces.replaced c.replace_in_folder.ensures.replaces.synced c.replace_in_folder.ensures.replaces.written)
 
 pub returns-in_default : goal.returns-in_default
 returns-in_default g c =
     let served = c.serve_folder.ensures in
     record {
-      in_folder = served_in (g.D.SlotFiles.opens c.args.disk.now) _ (g.D.InspectFiles.inspects c.args.disk.now)
+      does = served_done g.D.File.Growing g.D.File.BankFile.left (g.D.SlotFiles.opens c.args.disk.now)
+          (g.D.SlotFiles.creates c.args.disk.now) (g.D.InspectFiles.inspects c.args.disk.now)
           (λ folder. g.D.FolderSync.is_safe c.args.disk.now folder ⊎ g.D.FolderSync.is_never c.args.disk.now folder)
-          c.args.line c.serve_folder.result c.in_default.not-Make c.in_default.not-Replace c.in_default.not-Examine served.opened;
-      does = served.does;
+          c.args.line c.serve_folder.result _ _ _ _ c.in_default.not-Make c.in_default.not-Replace c.in_default.not-Examine served.served;
       read = served.read;
       stopped = served.stopped;
       cause = served.cause;
@@ -57,7 +55,6 @@ returns-in_default g c =
       misshapen = λ bad. absurd (no_make c.args.line c.in_default.not-Make bad);
       passed = served.passed;
       hushed = λ none. absurd (passes_some c.args.line c.in_default.not-Make c.in_default.not-Examine none);
-      health = served.health;
     }
 
 pub returns-in-Examine-clause-cut : goal.returns-in-Examine-clause-cut
@@ -65,21 +62,29 @@ returns-in-Examine-clause-cut g c = λ _. IfErr-weaker c.examine_folder.result _
     rw c.in-Examine.is (inspections_cut OfFiles c.in-Examine.id c.in-Examine.json (part cut).0 _ _ (part cut).1)) c.examine_folder.ensures.cut
 
 pub returns-in-Examine-clause-does : goal.returns-in-Examine-clause-does
-returns-in-Examine-clause-does g c = rw c.in-Examine.is c.examine_folder.ensures.examined
+returns-in-Examine-clause-does g c = rw c.in-Examine.is (examined_done g.D.File.Growing g.D.File.BankFile.left (g.D.SlotFiles.opens c.args.disk.now)
+    (g.D.SlotFiles.creates c.args.disk.now) (g.D.InspectFiles.inspects c.args.disk.now)
+    (λ folder. g.D.FolderSync.is_safe c.args.disk.now folder ⊎ g.D.FolderSync.is_never c.args.disk.now folder)
+    c.in-Examine.folder c.in-Examine.id c.in-Examine.json c.in-Examine.check c.examine_folder.result
+    (streams (g.R.Read.remaining c.args.reader.now) (g.W.Write.contents c.args.out.now))
+    (streams (g.R.Read.remaining c.args.reader.now) (g.W.Write.contents c.examine_folder.new.out)) c.args.health.now c.examine_folder.new.health
+    c.examine_folder.ensures.inspected c.examine_folder.ensures.examined c.examine_folder.ensures.health)
 
 -- ---- why it was refused
 
 pub returns-in_err-geometry-in-Make-clause-cause : goal.returns-in_err-geometry-in-Make-clause-cause
 returns-in_err-geometry-in-Make-clause-cause g c =
     let from = err_from_is_err_and c.from_residual.result c.from_residual.ensures.1 in
-    rw (c.in-Make.is, from.1, from.2) (by_refusal _ _ (λ _. no_sizes c.in-Make.id c.in-Make.members c.in-Make.chunk c.in-Make.stripes _
+    rw (c.in-Make.is, from.1, from.2) (by_refusal _ _ (λ _. no_sizes g.D.File.Growing g.D.File.BankFile.left c.in-Make.id c.in-Make.members c.in-Make.chunk
+    c.in-Make.stripes _
     c.in_err-geometry-in-Make.ensures.refusal (λ its. false≢true (c.in_err-geometry-in-Make.ensures.within.1 its))))
 
 pub returns-in_ok-geometry-in-Make-clause-cause : goal.returns-in_ok-geometry-in-Make-clause-cause
 returns-in_ok-geometry-in-Make-clause-cause g c =
     let geometry = c.in_ok-geometry-in-Make in
     rw c.in-Make.is (IfErr-weaker c.make_set.result _ _ (λ fault cause. caused_as _ _ fault
-    (sizes_make c.in-Make.id c.in-Make.members c.in-Make.chunk c.in-Make.stripes geometry.geometry (record {
+    (sizes_make g.D.File.Growing g.D.File.BankFile.left c.in-Make.id c.in-Make.members c.in-Make.chunk c.in-Make.stripes geometry.geometry (record {
+      format_is = geometry.ensures.format;
       members_is = geometry.ensures.members;
       chunk_is = geometry.ensures.chunk;
       stripes_is = geometry.ensures.stripes;

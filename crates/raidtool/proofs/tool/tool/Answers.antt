@@ -2,15 +2,16 @@ use Rattle.std.proofs.Common.{◌⊎◌, ◌∙◌, Err, ap, arith, inl, inr, re
 use Rattle.clap.specs.Walk.{texts}
 use Rattle.sector_model.specs.declared.refusal.Refusal.TheVariants.{Memory}
 use Rattle.command_line.proofs.Asked.{one_invocation}
-use Rattle.raidtool.proofs.DoneLines.{done_in_too, done_too, passes_none_too, unmade_by, was_stopped, written_of}
-use Rattle.raidtool.specs.Done.{OfFiles}
+use Rattle.raidtool.proofs.DoneLines.{done_too, passes_none_too, unmade_by, was_stopped, written_of}
+use Rattle.set_commands.specs.Run.{streams}
+use Rattle.raidtool.specs.Causes.{IsCaused}
 use Rattle.std.proofs.lemmas.Result.{IfErr-weaker}
 use Rattle.report.specs.Replies.{refusal_line}
 use Rattle.raidtool.specs.Stops.{IsToldAfter}
 use Rattle.raidtool.specs.Tool.{IsBlamedIn, IsRun}
 use Rattle.set_commands.specs.declared.serving.health.Health.TheVariants.{Complete, Incomplete, Unassembled}
 use Rattle.raidtool.proofs.Causes.{caused_too}
-use Rattle.raidtool.proofs.Checked.{checked_of, checked_too, complete_of, health_too, incomplete_of, well_of, misshapen_status, most_of, never_two}
+use Rattle.raidtool.proofs.Checked.{checked_of, checked_too, complete_of, incomplete_of, well_of, misshapen_status, most_of, never_two}
 use Rattle.raidtool.proofs.Checked.{none_of_four, one_of, unassembled_of, zero_of}
 use Rattle.raidtool.proofs.Taken.{nothing_passed, told_at_once}
 use Rattle.raidtool.proofs.Statuses.{bad_alone, cut_too, done_by, fresh_refused, misshapen_too, no_line, no_memory_fault, none_given, one_at_most}
@@ -53,12 +54,9 @@ pub returns-then-is_empty-clause-written : goal.returns-then-is_empty-clause-wri
 returns-then-is_empty-clause-written g c = λ line asked is.
     absurd (no_line _ line (none_given c.args.words.now c.is_empty.result c.is_empty.ensures c.if-is_empty.true) asked)
 
-pub returns-then-is_empty-clause-in_folder : goal.returns-then-is_empty-clause-in_folder
-returns-then-is_empty-clause-in_folder g c = λ line asked is.
-    absurd (no_line _ line (none_given c.args.words.now c.is_empty.result c.is_empty.ensures c.if-is_empty.true) asked)
-
 pub returns-then-is_empty-clause-refused : goal.returns-then-is_empty-clause-refused
-returns-then-is_empty-clause-refused g c = λ is. inl (fresh_refused _ (none_given c.args.words.now c.is_empty.result c.is_empty.ensures c.if-is_empty.true) _
+returns-then-is_empty-clause-refused g c = λ is. inl (fresh_refused (IsCaused g.D.File.Growing g.D.File.BankFile.left) _
+    (none_given c.args.words.now c.is_empty.result c.is_empty.ensures c.if-is_empty.true) _
     (λ text. IsToldAfter g.E.Write.contents text c.args.err.now c.status_of.new.err) c.serve_fresh.result c.status_of.result c.status_of.ensures.status is
     c.serve_fresh.ensures.end (IfErr-weaker c.serve_fresh.result _ _ (λ refusal told. told_at_once g.E.Write.contents (refusal_line refusal) _ _ told)
     c.status_of.ensures.told)
@@ -112,11 +110,16 @@ pub returns-in-Ok-clause-done : goal.returns-in-Ok-clause-done
 returns-in-Ok-clause-done g c = λ is. inr (c.in-Ok.line, c.in-Ok.ensures.ok)
 
 pub returns-in-Ok-clause-does : goal.returns-in-Ok-clause-does
-returns-in-Ok-clause-does g c = λ line asked is.
-    done_too line c.in-Ok.line _ _ (one_invocation (texts c.args.words.now) line c.in-Ok.line asked c.in-Ok.ensures.ok)
-    (done_by _ c.do_line-done.result c.folder_status-status.result c.folder_status-status.ensures.status
-    (zero_of c.in-Ok.line c.do_line-done.result c.folder_status-status.result c.do_line-done.new.health c.checked.result c.checked.ensures
-    c.folder_status-status.ensures.status is) c.do_line-done.ensures.does)
+returns-in-Ok-clause-does g c = λ line asked is. (
+  c.do_line-done.new.health,
+  done_too g.D.File.Growing g.D.File.BankFile.left (g.D.SlotFiles.opens c.args.disk.now) (g.D.SlotFiles.creates c.args.disk.now)
+      (g.D.InspectFiles.inspects c.args.disk.now)
+      (λ folder. g.D.FolderSync.is_safe c.args.disk.now folder ⊎ g.D.FolderSync.is_never c.args.disk.now folder)
+      line c.in-Ok.line _ _ _ _ (one_invocation (texts c.args.words.now) line c.in-Ok.line asked c.in-Ok.ensures.ok)
+      (done_by _ c.do_line-done.result c.folder_status-status.result c.folder_status-status.ensures.status
+      (zero_of c.in-Ok.line c.do_line-done.result c.folder_status-status.result c.do_line-done.new.health c.checked.result c.checked.ensures
+      c.folder_status-status.ensures.status is) c.do_line-done.ensures.does),
+)
 
 pub returns-in-Ok-clause-read : goal.returns-in-Ok-clause-read
 returns-in-Ok-clause-read g c = λ is serving known. elim serving [
@@ -146,27 +149,23 @@ returns-in-Ok-clause-silent g c = λ is none. absurd (no_line _ c.in-Ok.line (ap
 
 pub returns-in-Ok-clause-written : goal.returns-in-Ok-clause-written
 returns-in-Ok-clause-written g c = λ line asked is.
-    let done = done_by _ c.do_line-done.result c.folder_status-status.result c.folder_status-status.ensures.status
-    (zero_of c.in-Ok.line c.do_line-done.result c.folder_status-status.result c.do_line-done.new.health c.checked.result c.checked.ensures
-    c.folder_status-status.ensures.status is) c.do_line-done.ensures.does in
     written_too line c.in-Ok.line _ _ (one_invocation (texts c.args.words.now) line c.in-Ok.line asked c.in-Ok.ensures.ok)
-    (written_of c.in-Ok.line OfFiles done.0 _ _ done.1)
-
-pub returns-in-Ok-clause-in_folder : goal.returns-in-Ok-clause-in_folder
-returns-in-Ok-clause-in_folder g c = λ line asked is.
-    done_in_too (g.D.SlotFiles.opens c.args.disk.now) _ (g.D.InspectFiles.inspects c.args.disk.now)
+    (written_of g.D.File.Growing g.D.File.BankFile.left (g.D.SlotFiles.opens c.args.disk.now) (g.D.SlotFiles.creates c.args.disk.now)
+    (g.D.InspectFiles.inspects c.args.disk.now)
     (λ folder. g.D.FolderSync.is_safe c.args.disk.now folder ⊎ g.D.FolderSync.is_never c.args.disk.now folder)
-    line c.in-Ok.line (one_invocation (texts c.args.words.now) line c.in-Ok.line asked c.in-Ok.ensures.ok)
+    c.in-Ok.line (streams (g.R.Read.remaining c.args.reader.now) (g.W.Write.contents c.args.out.now))
+    (streams (g.R.Read.remaining c.do_line-done.new.reader) (g.W.Write.contents c.do_line-done.new.out)) Complete c.do_line-done.new.health
     (done_by _ c.do_line-done.result c.folder_status-status.result c.folder_status-status.ensures.status
     (zero_of c.in-Ok.line c.do_line-done.result c.folder_status-status.result c.do_line-done.new.health c.checked.result c.checked.ensures
-    c.folder_status-status.ensures.status is) c.do_line-done.ensures.in_folder)
+    c.folder_status-status.ensures.status is) c.do_line-done.ensures.does))
 
 pub returns-in-Ok-clause-refused : goal.returns-in-Ok-clause-refused
 returns-in-Ok-clause-refused g c = λ is.
     let stop = stopped_by _ _ c.do_line-done.result c.folder_status-status.result c.folder_status-status.ensures.status
     (one_of c.in-Ok.line c.do_line-done.result c.folder_status-status.result c.do_line-done.new.health c.checked.result c.checked.ensures
     c.folder_status-status.ensures.status is) c.do_line-done.ensures.stopped c.folder_status-status.ensures.told in
-    was_stopped (texts c.args.words.now) (IsBlamedIn (g.D.SlotFiles.opens c.args.disk.now) (g.D.SlotFiles.creates c.args.disk.now) _
+    was_stopped (texts c.args.words.now) (IsCaused g.D.File.Growing g.D.File.BankFile.left)
+    (IsBlamedIn (g.D.SlotFiles.opens c.args.disk.now) (g.D.SlotFiles.creates c.args.disk.now) _
     (g.D.InspectFiles.inspects c.args.disk.now)) c.in-Ok.line _
     (λ text. IsToldAfter g.E.Write.contents text c.args.err.now c.folder_status-status.new.err) _ stop.0
     c.in-Ok.ensures.ok c.folder_of.ensures stop.2 (rw stop.1 at c.do_line-done.ensures.named) (c.do_line-done.new.err, c.do_line-done.ensures.passed, stop.3)
@@ -231,13 +230,11 @@ returns-in-Ok-clause-incomplete g c = λ line asked is.
     let same = one_invocation (texts c.args.words.now) line c.in-Ok.line asked c.in-Ok.ensures.ok in
     let both = incomplete_of c.in-Ok.line c.do_line-done.result c.folder_status-status.result c.do_line-done.new.health c.checked.result c.checked.ensures
     c.folder_status-status.ensures.status is in
-    record {
-      does = done_too line c.in-Ok.line _ _ same (done_by _ c.do_line-done.result c.folder_status-status.result c.folder_status-status.ensures.status both.0
-          c.do_line-done.ensures.does);
-      health = health_too line c.in-Ok.line Complete Incomplete same
-          (rw both.1 at (done_by _ c.do_line-done.result c.folder_status-status.result c.folder_status-status.ensures.status both.0
-          c.do_line-done.ensures.health));
-    }
+    done_too g.D.File.Growing g.D.File.BankFile.left (g.D.SlotFiles.opens c.args.disk.now) (g.D.SlotFiles.creates c.args.disk.now)
+    (g.D.InspectFiles.inspects c.args.disk.now)
+    (λ folder. g.D.FolderSync.is_safe c.args.disk.now folder ⊎ g.D.FolderSync.is_never c.args.disk.now folder)
+    line c.in-Ok.line _ _ _ _ same (rw both.1 at (done_by _ c.do_line-done.result c.folder_status-status.result c.folder_status-status.ensures.status both.0
+    c.do_line-done.ensures.does))
 
 pub returns-in-Ok-clause-unassembled : goal.returns-in-Ok-clause-unassembled
 returns-in-Ok-clause-unassembled g c = λ line asked is.
@@ -245,20 +242,19 @@ returns-in-Ok-clause-unassembled g c = λ line asked is.
     elim (unassembled_of c.in-Ok.line c.do_line-done.result c.folder_status-status.result c.do_line-done.new.health c.checked.result c.checked.ensures
     c.folder_status-status.ensures.status is) [
       | inl both ↦ inl (
-        (
-          done_too line c.in-Ok.line _ _ same (done_by _ c.do_line-done.result c.folder_status-status.result c.folder_status-status.ensures.status both.0
-              c.do_line-done.ensures.does),
-          health_too line c.in-Ok.line Complete Unassembled same
-              (rw both.1 at (done_by _ c.do_line-done.result c.folder_status-status.result c.folder_status-status.ensures.status both.0
-              c.do_line-done.ensures.health)),
-        ),
+        done_too g.D.File.Growing g.D.File.BankFile.left (g.D.SlotFiles.opens c.args.disk.now) (g.D.SlotFiles.creates c.args.disk.now)
+            (g.D.InspectFiles.inspects c.args.disk.now)
+            (λ folder. g.D.FolderSync.is_safe c.args.disk.now folder ⊎ g.D.FolderSync.is_never c.args.disk.now folder)
+            line c.in-Ok.line _ _ _ _ same
+            (rw both.1 at (done_by _ c.do_line-done.result c.folder_status-status.result c.folder_status-status.ensures.status both.0
+            c.do_line-done.ensures.does)),
         rw (done_by _ c.do_line-done.result c.folder_status-status.result c.folder_status-status.ensures.status both.0 c.folder_status-status.ensures.quiet)
             c.do_line-done.ensures.passed,
       )
       | inr (refusal, by, none) ↦ inr (
         refusal,
         none,
-        caused_too line c.in-Ok.line refusal same ((rw by at c.do_line-done.ensures.cause) refusal refl),
+        caused_too g.D.File.Growing g.D.File.BankFile.left line c.in-Ok.line refusal same ((rw by at c.do_line-done.ensures.cause) refusal refl),
         (c.do_line-done.new.err, c.do_line-done.ensures.passed, rw by at c.folder_status-status.ensures.told),
       )
     ]
@@ -269,10 +265,13 @@ returns-in-Ok-clause-complete g c = λ line asked asks is.
     let other = one_invocation (texts c.args.words.now) c.in-Ok.line line c.in-Ok.ensures.ok asked in
     let whole = complete_of c.in-Ok.line c.do_line-done.result c.folder_status-status.result c.do_line-done.new.health c.checked.result c.checked.ensures
     c.folder_status-status.ensures.status (checked_too c.in-Ok.line line other asks) is in
-    health_too line c.in-Ok.line Complete Complete same
+    done_too g.D.File.Growing g.D.File.BankFile.left (g.D.SlotFiles.opens c.args.disk.now) (g.D.SlotFiles.creates c.args.disk.now)
+    (g.D.InspectFiles.inspects c.args.disk.now)
+    (λ folder. g.D.FolderSync.is_safe c.args.disk.now folder ⊎ g.D.FolderSync.is_never c.args.disk.now folder)
+    line c.in-Ok.line _ _ _ _ same
     (rw whole at (done_by _ c.do_line-done.result c.folder_status-status.result c.folder_status-status.ensures.status
     (zero_of c.in-Ok.line c.do_line-done.result c.folder_status-status.result c.do_line-done.new.health c.checked.result c.checked.ensures
-    c.folder_status-status.ensures.status is) c.do_line-done.ensures.health))
+    c.folder_status-status.ensures.status is) c.do_line-done.ensures.does))
 
 -- ---- memory ran out while they were read
 
@@ -308,9 +307,6 @@ returns-in-Err-clause-silent g c = λ is none. absurd (omega (arith, is, c.statu
 
 pub returns-in-Err-clause-written : goal.returns-in-Err-clause-written
 returns-in-Err-clause-written g c = λ line asked is. absurd (omega (arith, is, c.status_of-in-Err.ensures.status))
-
-pub returns-in-Err-clause-in_folder : goal.returns-in-Err-clause-in_folder
-returns-in-Err-clause-in_folder g c = λ line asked is. absurd (omega (arith, is, c.status_of-in-Err.ensures.status))
 
 pub returns-in-Err-clause-refused : goal.returns-in-Err-clause-refused
 returns-in-Err-clause-refused g c = λ is. inl (record {
@@ -378,9 +374,6 @@ returns-in-Err-2-clause-silent g c = λ is none. absurd (omega (arith, is))
 
 pub returns-in-Err-2-clause-written : goal.returns-in-Err-2-clause-written
 returns-in-Err-2-clause-written g c = λ line asked is. absurd (omega (arith, is))
-
-pub returns-in-Err-2-clause-in_folder : goal.returns-in-Err-2-clause-in_folder
-returns-in-Err-2-clause-in_folder g c = λ line asked is. absurd (omega (arith, is))
 
 pub returns-in-Err-2-clause-refused : goal.returns-in-Err-2-clause-refused
 returns-in-Err-2-clause-refused g c = λ is. absurd (omega (arith, is))

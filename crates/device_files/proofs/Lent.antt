@@ -4,7 +4,7 @@ use Rattle.std.specs.Prelude.{Bool, Err, IfOk, IsTrue, Ok, Result, is_none}
 use Rattle.std.specs.Option.{option_map}
 use Rattle.std.proofs.Math.ListN.{get_or-map}
 use Rattle.std.proofs.lemmas.Result.{IfOk-weaker}
-use Rattle.device_files.specs.BankFiles.{BeginsWithFiles, contents_by}
+use Rattle.device_files.specs.BankFiles.{AreAllSafe, BeginsWithFiles, contents_by}
 use Rattle.sector_model.specs.DeviceFiles.{Contents}
 use Rattle.sector_model.specs.Files.{BeginsIn, BeginsWith, file_at, told_in}
 use Rattle.sector_model.specs.History.{History}
@@ -37,3 +37,9 @@ pub begins_on : {F B E : Type 0} (tells : Bool) (told left : F → List ℕ) (fi
     → IfOk over (λ bank. BeginsWithFiles tells told left files (history bank))
 begins_on tells told left files h history over begins same = under_premise (IsTrue tells) (λ bank. BeginsWith (contents_by told left) files (history bank)) over
     (λ is. IfOk-weaker over _ _ (λ bank eq. subst (BeginsWith (contents_by told left) files) (sym eq) (begins is)) (same is))
+
+-- a run that begins with a slice of all files begins with them
+pub begins_with_slice : {F : Type 0} (IsSafe : F → Type 0) (tells : Bool) (told left : F → List ℕ) (files slice : List (Option F)) (h : History)
+    → slice ≡ files → AreAllSafe IsSafe files → (AreAllSafe IsSafe slice → BeginsWithFiles tells told left slice h) → BeginsWithFiles tells told left files h
+begins_with_slice IsSafe tells told left files slice h same safe begun =
+    subst (λ (all : List (Option _)). BeginsWithFiles tells told left all h) same (begun (subst (AreAllSafe IsSafe) (sym same) safe))

@@ -147,11 +147,15 @@ IsStillOpen None new Holds = new ≡ None
 IsStillOpen (Some old) (Some new) Holds = Holds old new
 IsStillOpen (Some old) None Holds = ⊥
 
+-- of a file that was opened so this holds now, and nothing of it was changed since
+abbrev pub IsSince : {F : Type 0} → (tells : Bool) (told : F → List ℕ) (Holds : F → Type 0) → F → Type 0
+IsSince tells told Holds opened = (file : _) × Holds file × (IsTrue tells → told file ≡ told opened)
+
 -- A file that was opened was made safe as it stands, or its sync failed: then there is none, and its slot is marked.
 abbrev pub IsMadeSafe : {F : Type 0} → (tells : Bool) (told : F → List ℕ) (IsSafe HasFailed : F → Type 0) → (old new : Option F) (unsynced : Bool) → Type 0
 IsMadeSafe tells told IsSafe HasFailed None new unsynced = (new ≡ None) × (unsynced ≡ false)
 IsMadeSafe tells told IsSafe HasFailed (Some old) (Some new) unsynced = (IsSafe new × (IsTrue tells → told new ≡ told old)) × (unsynced ≡ false)
-IsMadeSafe tells told IsSafe HasFailed (Some old) None unsynced = ((file : _) × HasFailed file) × (unsynced ≡ true)
+IsMadeSafe tells told IsSafe HasFailed (Some old) None unsynced = IsSince tells told HasFailed old × (unsynced ≡ true)
 
 -- so was that of each of ten slots
 abbrev pub AreMadeSafe : {F : Type 0} → (tells : Bool) (told : F → List ℕ) (IsSafe HasFailed : F → Type 0) → (old new : List (Option F)) (unsynced : List Bool)

@@ -1,6 +1,6 @@
 -- What stops a call over the device files of a folder, and the line that tells it.
 use Rattle.std.specs.Prelude.{◌≡◌, ◌≢◌, ◌⊎◌, ◌≤◌, ◌<◌, ℕ, zero, suc, Bool, true, pos, List, [], ◌∷◌, ◌++◌, codes, Option, None, Some, Result, Ok, Err}
-use Rattle.std.specs.Prelude.{IfErr}
+use Rattle.std.specs.Prelude.{IfErr, IsSomeAnd}
 use Rattle.std.specs.declared.io.Error.{Error}
 use Rattle.std.specs.declared.io.ErrorKind.TheVariants.{NotADirectory, NotFound}
 use Rattle.std.specs.Io.KnownBytes.{Appends}
@@ -8,7 +8,7 @@ use Rattle.std.specs.IoError.{error_kind, raw_os_error}
 use Rattle.sector_model.specs.declared.refusal.Refusal.TheVariants.{Memory, Worn}
 use Rattle.report.specs.Replies.{refusal_line, slot_line}
 use Rattle.report.specs.Written.{AppendsPart}
-use Rattle.device_files.specs.DeviceFiles.{barred_in, flag_in}
+use Rattle.device_files.specs.DeviceFiles.{barred_in, file_in, flag_in}
 use Rattle.device_files.specs.declared.Reason.{Reason}
 use Rattle.device_files.specs.declared.Shortage.{Shortage}
 use Rattle.device_files.specs.declared.Shortage.TheVariants.{Quota, Space}
@@ -138,10 +138,10 @@ Passes contents barred old new = PassesBelow contents barred 10 old new
 
 -- ---- what a call is stopped by
 
--- the file of a slot is there, and could not be opened for its reason
-abbrev pub IsBarredIn : List (Option Reason) → FolderFault → Type 0
-IsBarredIn barred (NotOpened slot reason) = (slot < 10) × (barred_in barred slot ≡ Some reason)
-IsBarredIn barred fault = ⊥
+-- the file of a slot, from one on and below another, is there, and could not be opened for its reason
+abbrev pub IsBarredIn : List (Option Reason) → (first end : ℕ) → FolderFault → Type 0
+IsBarredIn barred first end (NotOpened slot reason) = (first ≤ slot) × (slot < end) × (slot < 10) × (barred_in barred slot ≡ Some reason)
+IsBarredIn barred first end fault = ⊥
 
 -- so it is with one that is needed, or that could not be looked for
 abbrev pub IsPassingFault : List (Option Reason) → FolderFault → Type 0
@@ -166,12 +166,12 @@ IsOpenFault (NotSafe slot shortage) = slot < 10
 IsOpenFault (Refused refusal) = refusal ≡ Memory
 IsOpenFault fault = ⊥
 
--- the file of the slot that is named was not opened, as that of its path came to, or a call of a file failed and there is no room, or memory ran out
+-- the file of the slot that is named was not opened, as that of its path came to, or was, and then a call of it failed for want of room, or memory ran out
 abbrev pub IsFailedOpening : {F : Type 0} → (Opens : (slot : ℕ) → Result (Option F) OpenFault → Type 0) (HasFailed : F → Type 0) → FolderFault → Type 0
 IsFailedOpening Opens HasFailed (InUse slot) = Opens slot (Err OpenFault.Busy)
 IsFailedOpening Opens HasFailed (NotOpened slot reason) = Opens slot (Err (OpenFault.Barred reason))
 IsFailedOpening Opens HasFailed (NotRegular slot) = Opens slot (Err OpenFault.NotRegular)
-IsFailedOpening Opens HasFailed (NotSafe slot shortage) = (file : _) × HasFailed file
+IsFailedOpening Opens HasFailed (NotSafe slot shortage) = (opened : _) × Opens slot (Ok (Some opened)) × HasFailed opened
 IsFailedOpening Opens HasFailed (Refused refusal) = refusal ≡ Memory
 IsFailedOpening Opens HasFailed fault = ⊥
 
@@ -184,15 +184,15 @@ abbrev pub IsShort : {F : Type 0} → (SyncFailed : F → Error → Type 0) → 
 IsShort SyncFailed (NotSafe slot shortage) = (file : _) × (error : Error) × SyncFailed file error × SaysShort error shortage
 IsShort SyncFailed fault = Unit {0}
 
--- there is no room to make safe what the file of this very slot holds
-abbrev pub IsUnsafeSlot : {F : Type 0} → (HasFailed : F → Type 0) → ℕ → FolderFault → Type 0
-IsUnsafeSlot HasFailed slot (NotSafe other shortage) = (other ≡ slot) × ((file : _) × HasFailed file)
-IsUnsafeSlot HasFailed slot fault = ⊥
+-- there is no room to make safe what the file of this very slot holds, of which this holds
+abbrev pub IsUnsafeSlot : {F : Type 0} → (HasFailed : F → Type 0) → (slot : ℕ) → Option F → FolderFault → Type 0
+IsUnsafeSlot HasFailed slot file (NotSafe other shortage) = (other ≡ slot) × IsSomeAnd file HasFailed
+IsUnsafeSlot HasFailed slot file fault = ⊥
 
 -- there is none for the file of a slot
-abbrev pub IsUnsafe : {F : Type 0} → (HasFailed : F → Type 0) → FolderFault → Type 0
-IsUnsafe HasFailed (NotSafe slot shortage) = (slot < 10) × ((file : _) × HasFailed file)
-IsUnsafe HasFailed fault = ⊥
+abbrev pub IsUnsafe : {F : Type 0} → (HasFailed : F → Type 0) → List (Option F) → FolderFault → Type 0
+IsUnsafe HasFailed files (NotSafe slot shortage) = (slot < 10) × IsSomeAnd (file_in files slot) HasFailed
+IsUnsafe HasFailed files fault = ⊥
 
 -- one of these slots is named, of which that is marked
 abbrev pub IsUnsyncedIn : (unsynced : List Bool) (first end : ℕ) → FolderFault → Type 0

@@ -1,6 +1,6 @@
 -- What is promised of the files of slots by the calls that make one of them long enough or anew.
 -- A disk is told by what its files tell, whether that is safe, whether a call of one failed, and what creating the file at a path came to.
-use Rattle.std.specs.Prelude.{◌≡◌, ◌≢◌, ◌<◌, ℕ, Bool, List, Option, Result, Ok, IfErr, IsSomeAnd, IsTrue, OnOk}
+use Rattle.std.specs.Prelude.{◌≡◌, ◌≢◌, ◌<◌, ℕ, Bool, List, Option, Result, Ok, IfErr, IsSomeAnd, IsTrue, OnOk, length}
 use Rattle.std.specs.declared.io.Error.{Error}
 use Rattle.device_files.specs.declared.FolderFault.{FolderFault}
 use Rattle.device_files.specs.declared.FolderFault.TheVariants.{NoFile}
@@ -55,4 +55,5 @@ TakesBack tells told HasFailed Removes paths was is notes result = record {
   each : (slot : ℕ) → slot < 10
       → IsTakenBackOrFailed tells told HasFailed (Removes (path_in paths slot)) (before_in notes slot) (file_in was slot) (file_in is slot);
   same : (slot : ℕ) → before_in notes slot ≡ Same → file_in is slot ≡ file_in was slot;
+  long : length is ≡ length was;
 }

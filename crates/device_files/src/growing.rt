@@ -6,6 +6,7 @@ ghost use Rattle.std.specs.declared.io.Error.{Error};
 ghost use Rattle.device_files.specs.DeviceFiles.{Begins, lengthened};
 
 use super::{Lock, Locked};
+use sector_model::{DeviceFile, SystemFile};
 use std::fs::OpenFile;
 use std::io::{self, ErrorKind};
 use std::os::unix::fs::FileExt;
@@ -80,7 +81,7 @@ impl<F: OpenFile + FileExt + Lock> Growing for Locked<F> {
     ghost sync_failed = { λ _ _. ⊤ };
 
     fn size(&self) -> io::Result<u64> {
-        Ok(self.file.metadata()?.len())
+        SystemFile { of: &self.file }.size()
     }
 
     fn append(&mut self, bytes: &[u8]) -> io::Result<usize> {

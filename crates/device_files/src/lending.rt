@@ -9,7 +9,7 @@ ghost use Rattle.device_files.specs.BankFiles.{AreAllSafe, BeginsWithFiles, cont
 
 use super::growing::Growing;
 use super::{DeviceFiles, Lock, Locked};
-use sector_model::{Bank, DeviceFile, FileBank, NoRecord, Refusal, RunRecord};
+use sector_model::{Bank, DeviceFile, FileBank, NoRecord, Refusal, RunRecord, SystemFile};
 use std::alloc::{AllocError, Global};
 use std::fs::OpenFile;
 use std::io::{self, ErrorKind};
@@ -71,16 +71,16 @@ impl<F: OpenFile + FileExt + Lock + Drop + 'static> BankFile for Locked<F> {
     ghost left = { λ _. [] };
 
     fn read_part(&self, place: u64, to: &mut [u8]) -> io::Result<usize> {
-        self.file.read_at(to, place)
+        SystemFile { of: &self.file }.read_part(place, to)
     }
 
     fn write_part(&mut self, place: u64, from: &[u8]) -> io::Result<usize> {
         self.is_synced = false;
-        self.file.write_at(from, place)
+        SystemFile { of: &self.file }.write_part(place, from)
     }
 
     fn sync_written(&mut self) -> io::Result<()> {
-        self.file.sync_data()
+        SystemFile { of: &self.file }.sync()
     }
 
     fn record(_alloc: Global, _files: &[Option<Self>]) -> Result<NoRecord, AllocError> {
@@ -118,14 +118,14 @@ impl<F: BankFile> DeviceFile for LentFile<'_, F> {
 
 /// A file that is read, and never written, and stays with whoever opened it. It tells what that file does.
 #[derive(Drop)]
-pub struct SeenFile<'a, F> {
+pub struct ReadOnlyFile<'a, F> {
     file: &'a F,
 }
 
-impl<F: BankFile> DeviceFile for SeenFile<'_, F> {
+impl<F: BankFile> DeviceFile for ReadOnlyFile<'_, F> {
     ghost tells = { F.tells };
 
-    ghost told = { λ seen. contents_by F.told F.left seen.file.now };
+    ghost told = { λ read. contents_by F.told F.left read.file.now };
 
     fn size(&self) -> io::Result<u64> {
         self.file.size()
@@ -193,66 +193,48 @@ pub fn bank_on<'a, F: BankFile>(
 }
 
 // The file of a slot, to be read.
-fn see_one<'a, F>(slot: &'a Option<F>) -> Option<SeenFile<'a, F>>
-    ensures { option_map (λ seen. seen.file.now) result ≡ slot.now }
+fn read_one<'a, F>(slot: &'a Option<F>) -> Option<ReadOnlyFile<'a, F>>
+    ensures { option_map (λ read. read.file.now) result ≡ slot.now }
 {
     match slot {
-        Some(file) => Some(SeenFile { file }),
+        Some(file) => Some(ReadOnlyFile { file }),
         None => None,
     }
 }
 
 // The files of the slots, to be read.
-fn see_all<'a, F: Drop>(
+fn read_all<'a, F: Drop>(
     alloc: Global,
     files: &'a [Option<F>],
-) -> Result<Vec<Option<SeenFile<'a, F>>>, AllocError>
-    ensures { IfOk result (λ seen. map (option_map (λ one. one.file.now)) seen.items ≡ files.now) }
+) -> Result<Vec<Option<ReadOnlyFile<'a, F>>>, AllocError>
+    ensures { IfOk result (λ read. map (option_map (λ one. one.file.now)) read.items ≡ files.now) }
 {
-    let mut seen = Vec::with_capacity(alloc, files.len())?;
+    let mut read = Vec::with_capacity(alloc, files.len())?;
     for slot in files {
-        seen.push(see_one(slot))?;
+        read.push(read_one(slot))?;
     }
-    Ok(seen)
-}
-
-// A bank over the files of ten slots, each of which is safe, that only reads them.
-fn see_safe<'a, F: BankFile>(
-    alloc: Global,
-    files: &'a [Option<F>],
-) -> Result<FileBank<SeenFile<'a, F>, F::Record>, Refusal>
-    requires ten { length files.now ≡ 10 }
-    requires safe { AreAllSafe F.is_safe files.now }
-    ensures honest { IsTrue F.tells → IfOk result (λ bank.
-        ⟦<FileBank<SeenFile<'a, F>, F::Record> as Bank>⟧.honest bank) }
-    ensures begins { IfOk result (λ bank. BeginsWithFiles F.tells F.told F.left files.now
-        (⟦<FileBank<SeenFile<'a, F>, F::Record> as Bank>⟧.history bank)) }
-    ensures devices { IfOk result (λ bank.
-        (⟦<FileBank<SeenFile<'a, F>, F::Record> as Bank>⟧.panel bank).devices ≡ 10) }
-    ensures err { IfErr result (λ refusal. refusal ≡ Memory) }
-{
-    let notes = F::record(alloc, files)?;
-    FileBank::over(alloc, see_all(alloc, files)?, notes)
+    Ok(read)
 }
 
 /// A bank over the files of a folder, each of which is safe (condition), as `bank_on` puts over them, but one that only
 /// reads: a write or a sync of a file is a fault.
 ///
 /// `Memory` where an allocation was refused.
-pub fn bank_to_look<'a, F: BankFile>(
+pub fn bank_to_inspect<'a, F: BankFile>(
     alloc: Global,
     files: &'a DeviceFiles<F>,
-) -> Result<FileBank<SeenFile<'a, F>, F::Record>, Refusal>
+) -> Result<FileBank<ReadOnlyFile<'a, F>, F::Record>, Refusal>
     requires safe { AreAllSafe F.is_safe files.now.files.items }
     ensures honest { IsTrue F.tells → IfOk result (λ bank.
-        ⟦<FileBank<SeenFile<'a, F>, F::Record> as Bank>⟧.honest bank) }
+        ⟦<FileBank<ReadOnlyFile<'a, F>, F::Record> as Bank>⟧.honest bank) }
     ensures begins { IfOk result (λ bank. BeginsWithFiles F.tells F.told F.left files.now.files.items
-        (⟦<FileBank<SeenFile<'a, F>, F::Record> as Bank>⟧.history bank)) }
+        (⟦<FileBank<ReadOnlyFile<'a, F>, F::Record> as Bank>⟧.history bank)) }
     ensures devices { IfOk result (λ bank.
-        (⟦<FileBank<SeenFile<'a, F>, F::Record> as Bank>⟧.panel bank).devices ≡ 10) }
+        (⟦<FileBank<ReadOnlyFile<'a, F>, F::Record> as Bank>⟧.panel bank).devices ≡ 10) }
     ensures err { IfErr result (λ refusal. refusal ≡ Memory) }
 {
-    see_safe(alloc, &files.files)
+    let notes = F::record(alloc, &files.files)?;
+    FileBank::over(alloc, read_all(alloc, &files.files)?, notes)
 }
 
 #[cfg(test)]

@@ -22,10 +22,10 @@ mod slot_files;
 
 pub use folders::{FolderSync, SystemFolders, sync_folders};
 pub use growing::Growing;
-pub use inspecting::{InspectFiles, ReadOnlyFile, bank_to_read, inspect_folder};
+pub use inspecting::{InspectFiles, InspectedFile, inspect_folder};
 use layout_map::Geometry;
-pub use lending::{BankFile, LentFile, SeenFile, bank_on, bank_to_look};
-pub use locked::{Before, DeviceFiles, Lock, Locked};
+pub use lending::{BankFile, LentFile, ReadOnlyFile, bank_on, bank_to_inspect};
+pub use locked::{Before, DeviceFiles, Lock, Locked, UndoLog};
 pub use memory::HeldFile;
 pub use opening::{open_folder, refuse_unsynced};
 pub use passing::{pass_over, refuse_barred};

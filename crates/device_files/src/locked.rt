@@ -86,16 +86,34 @@ pub enum Before {
     Shorter(u64),
 }
 
-/// The files of a folder's ten slots, and what each was before.
+/// The files of a folder's ten slots, and what each was before a command made it longer.
 #[derive(Drop)]
 pub struct DeviceFiles<F: Drop> {
     /// The file of each slot, where its device is there.
     pub files: Vec<Option<F>>,
-    /// What each was.
-    pub before: [Before; SLOTS],
+    // What each was.
+    pub(super) before: [Before; SLOTS],
     /// Whether the sync of a slot's file failed when it was opened, so that it is used no more.
     pub unsynced: [bool; SLOTS],
     /// Why the file of a slot, which is there, could not be opened.
     pub barred: [Option<Reason>; SLOTS],
     ghost ten: { vec_len files ≡ 10 },
+}
+
+impl<F: Drop> DeviceFiles<F> {
+    /// The files of the slots, of which there are ten, and what each was before.
+    pub fn into_parts(self) -> (Vec<Option<F>>, UndoLog)
+        ensures files { result.0 ≡ self.files }
+        ensures log { result.1.before ≡ self.before }
+    {
+        let DeviceFiles { files, before, .. } = self;
+        (files, UndoLog { before })
+    }
+}
+
+/// What each file of a folder's slots was before a command made it longer. There is one, which `undo` consumes: who
+/// still has it has taken nothing back.
+#[derive(Drop)]
+pub struct UndoLog {
+    pub(super) before: [Before; SLOTS],
 }

@@ -5,7 +5,8 @@ ghost use Rattle.std.specs.IoError.{raw_os_error};
 ghost use Rattle.device_files.specs.declared.Reason.{Reason};
 ghost use Rattle.device_files.specs.declared.Shortage.{Shortage};
 ghost use Rattle.device_files.specs.DeviceFiles.{AreMadeSafe, AreOtherFlagsKept, AreOthersKept, IsMadeSafe, IsOpenedAs};
-ghost use Rattle.device_files.specs.DeviceFiles.{IsStillOpen, WereMadeSafe, barred_in, file_in, flag_in, slot_path};
+ghost use Rattle.device_files.specs.DeviceFiles.{IsSince, IsStillOpen, WereMadeSafe, barred_in, file_in, flag_in};
+ghost use Rattle.device_files.specs.DeviceFiles.{slot_path};
 ghost use Rattle.device_files.specs.Faults.{IsFailedOpening, IsOpenFault, IsOpenFaultOf, IsGivenUp, IsOpening, IsShort};
 ghost use Rattle.device_files.specs.Faults.{IsUnclaimed, IsUnsafe, IsUnsafeSlot, IsUnsyncedIn, LeadsElsewhere, LeadsTo};
 ghost use Rattle.device_files.specs.Faults.{SaysAbsent, SaysNoShortage, SaysShort, WasAbsent, WasNotAbsent, code_of};
@@ -46,7 +47,7 @@ pub fn open_folder<D: SlotFiles>(
     ensures noted { IfOk result (λ files. files.before ≡ replicate 10 Before.Same) }
     ensures fault { IfErr result IsOpenFault }
     ensures blamed { IfErr result (IsFailedOpening (λ slot. D.opens disk.now (slot_path folder.now slot))
-        D.File.has_failed) }
+        (IsSince D.File.tells D.File.told D.File.has_failed)) }
     ensures short { IfErr result (IsShort D.File.sync_failed) }
 {
     let mut files = open_all(alloc, disk, folder)?;
@@ -68,7 +69,7 @@ fn open_all<D: SlotFiles>(
     ensures noted { IfOk result (λ files. files.before ≡ replicate 10 Before.Same) }
     ensures fault { IfErr result IsOpenFault }
     ensures blamed { IfErr result (IsFailedOpening (λ slot. D.opens disk.now (slot_path folder.now slot))
-        D.File.has_failed) }
+        (IsSince D.File.tells D.File.told D.File.has_failed)) }
     ensures short { IfErr result (IsShort D.File.sync_failed) }
 {
     let mut files = Vec::with_capacity(alloc, SLOTS)?;
@@ -99,7 +100,7 @@ fn open_slot<D: SlotFiles>(
     ensures locked { IfOk result (λ found. IfSome found.0 D.File.is_locked) }
     ensures fault { IfErr result (IsOpenFaultOf slot) }
     ensures blamed { IfErr result (IsFailedOpening (λ other. D.opens disk.now (slot_path folder.now other))
-        D.File.has_failed) }
+        (IsSince D.File.tells D.File.told D.File.has_failed)) }
     ensures short { IfErr result (IsShort D.File.sync_failed) }
 {
     let path = path_of(alloc, folder, slot)?;
@@ -119,7 +120,7 @@ pub(super) fn make_safe<G: Growing + Drop>(files: &mut DeviceFiles<G>) -> Result
         → (slot : ℕ) → slot < 10 → IfSome (file_in files.new.files.items slot) G.is_locked }
     ensures noted { files.new.before ≡ files.old.before }
     ensures barred { files.new.barred ≡ files.old.barred }
-    ensures fault { IfErr result (IsUnsafe G.has_failed) }
+    ensures fault { IfErr result (IsUnsafe (IsSince G.tells G.told G.has_failed) files.old.files.items) }
     ensures short { IfErr result (IsShort G.sync_failed) }
 {
     for slot in 0..SLOTS {
@@ -143,7 +144,8 @@ fn make_slot_safe<G: Growing + Drop>(
     ensures other_flags { AreOtherFlagsKept files.old.unsynced files.new.unsynced slot }
     ensures noted { files.new.before ≡ files.old.before }
     ensures barred { files.new.barred ≡ files.old.barred }
-    ensures fault { IfErr result (IsUnsafeSlot G.has_failed slot) }
+    ensures fault { IfErr result (IsUnsafeSlot (IsSince G.tells G.told G.has_failed) slot
+        (file_in files.old.files.items slot)) }
     ensures short { IfErr result (IsShort G.sync_failed) }
 {
     let at = slot as usize;

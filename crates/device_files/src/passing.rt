@@ -11,7 +11,7 @@ ghost use Rattle.device_files.specs.DeviceFiles.{IsMissingBy, IsMissingIn, IsNoT
 ghost use Rattle.device_files.specs.declared.FolderFault.{FolderFault};
 ghost use Rattle.device_files.specs.Faults.{IsBarredIn, IsPassingFault, Passes};
 
-use super::{BankFile, DeviceFiles, FolderFault, Reason, SLOTS, bank_to_look, words_of};
+use super::{BankFile, DeviceFiles, FolderFault, Reason, SLOTS, bank_to_inspect, words_of};
 use recovery::chosen_table;
 use report::replies::write_slot_line;
 use sector_model::Refusal;
@@ -24,7 +24,7 @@ use superblock::{State, Table};
 pub fn refuse_barred<G: Drop>(files: &DeviceFiles<G>, first: u8, end: u8) -> Result<(), FolderFault>
     ensures none { OnOk result ((slot : ℕ) → first ≤ slot → slot < end → slot < 10
         → barred_in files.now.barred slot ≡ None) }
-    ensures fault { IfErr result (IsBarredIn files.now.barred) }
+    ensures fault { IfErr result (IsBarredIn files.now.barred first end) }
 {
     for slot in first..end.min(SLOTS as u8) {
         if let Some(reason) = files.barred[slot as usize] {
@@ -77,7 +77,7 @@ fn table_over<F: BankFile>(
     ensures cause { IfErr result (λ refusal. refusal ≢ Memory
         → IsNoTableIn (IsTrue F.tells) (BeginsWithFiles F.tells F.told F.left files.now.files.items) id refusal) }
 {
-    let mut bank = bank_to_look(alloc, files)?;
+    let mut bank = bank_to_inspect(alloc, files)?;
     chosen_table(&mut bank, id)
 }
 
@@ -85,7 +85,7 @@ fn table_over<F: BankFile>(
 fn refuse_needed(barred: &[Option<Reason>; SLOTS], table: &Option<Table>) -> Result<(), FolderFault>
     ensures missing { OnOk result ((slot : ℕ) → slot < 10 → IsSome (barred_in barred.now slot)
         → IsMissingBy table.now slot) }
-    ensures fault { IfErr result (IsBarredIn barred.now) }
+    ensures fault { IfErr result (IsBarredIn barred.now 0 10) }
 {
     for slot in 0..SLOTS as u8 {
         if let Some(reason) = barred[slot as usize] {

@@ -1,17 +1,18 @@
 //! Device files that a command makes, and takes back where it is not done.
-ghost use Rattle.std.specs.Prelude.{◌≡◌, ◌≢◌, ◌<◌, IfErr, IfOk, IsSome, IsSomeAnd, IsTrue, None, OnOk, Ok, map};
+ghost use Rattle.std.specs.Prelude.{◌≡◌, ◌≢◌, ◌<◌, IfErr, IfOk, IsSome, IsSomeAnd, IsTrue, None, OnOk, Ok, length, map};
 ghost use Rattle.std.specs.Prelude.{string_bytes, vec_len, ℕ};
 ghost use Rattle.device_files.specs.declared.FolderFault.{FolderFault};
 ghost use Rattle.device_files.specs.declared.locked.Before.{Before};
-ghost use Rattle.device_files.specs.DeviceFiles.{AreOtherNotesKept, AreOthersKept, Begins, HasFile, IsCutBack, IsNoted};
-ghost use Rattle.device_files.specs.DeviceFiles.{IsCutOrFailed, IsRenewedTo, IsTakenBack, IsTakenBackOrFailed, IsThere};
-ghost use Rattle.device_files.specs.DeviceFiles.{StaysThere, before_in, file_in, lengthened, path_in, slot_path};
+ghost use Rattle.device_files.specs.DeviceFiles.{AreOtherNotesKept, AreOthersKept, Begins, HasFile, IsCutBack};
+ghost use Rattle.device_files.specs.DeviceFiles.{IsCutOrFailed, IsNoted, IsNotedOf, IsRenewedTo, IsTakenBack};
+ghost use Rattle.device_files.specs.DeviceFiles.{IsTakenBackOrFailed, IsThere, StaysThere, before_in, file_in};
+ghost use Rattle.device_files.specs.DeviceFiles.{lengthened, path_in, slot_path};
 ghost use Rattle.device_files.specs.Faults.{IsFailedCreating, IsFileFaultOf};
 ghost use Rattle.device_files.specs.SlotCalls.{LengthensSlot, RenewsSlot, TakesBack};
 
 use super::growing::{Growing, lengthen, renew};
 use super::slot_files::{CreateFault, SlotFiles};
-use super::{Before, DeviceFiles, FolderFault, SLOTS, path_of};
+use super::{Before, DeviceFiles, FolderFault, SLOTS, UndoLog, path_of};
 use std::alloc::{AllocError, Global};
 use std::io;
 
@@ -70,6 +71,10 @@ pub fn renew_slot<D: SlotFiles>(
     requires { slot < 10 }
     ensures made { RenewsSlot D.File.tells D.File.told D.File.is_safe D.File.has_failed (D.creates disk.now)
         folder.now slot bytes files.old.files.items files.new.files.items result }
+    ensures noted { IsNotedOf D.File.told (D.creates disk.now (slot_path folder.now slot)) 0
+        (before_in files.old.before slot) (file_in files.old.files.items slot) (file_in files.new.files.items slot)
+        (before_in files.new.before slot) }
+    ensures other_notes { AreOtherNotesKept files.old.before files.new.before slot }
     ensures fault { IfErr result (IsFileFaultOf slot) }
     ensures blamed { IfErr result (λ fault. fault ≢ FolderFault.NoFile slot
         → IsFailedCreating (λ other. D.creates disk.now (slot_path folder.now other)) fault) }
@@ -182,16 +187,16 @@ pub fn slot_paths(alloc: Global, folder: &str) -> Result<SlotPaths, AllocError>
 pub fn undo<D: SlotFiles>(
     disk: &D,
     paths: &SlotPaths,
-    before: &[Before; SLOTS],
+    log: UndoLog,
     files: &mut [Option<D::File>],
 ) -> io::Result<()>
     ensures { TakesBack D.File.tells D.File.told D.File.has_failed (D.removes disk.now)
-        (map string_bytes paths.now.paths.items) files.old files.new before.now result }
+        (map string_bytes paths.now.paths.items) files.old files.new log.before result }
 {
     let mut done = Ok(());
     for slot in 0..SLOTS {
         let path = paths.paths[slot].as_str();
-        done = done.and(undo_slot(disk, path, slot, before[slot], files));
+        done = done.and(undo_slot(disk, path, slot, log.before[slot], files));
     }
     done
 }
@@ -210,6 +215,7 @@ fn undo_slot<D: SlotFiles>(
         before (file_in files.old slot) (file_in files.new slot) }
     ensures same { before ≡ Before.Same → file_in files.new slot ≡ file_in files.old slot }
     ensures others { AreOthersKept files.old files.new slot }
+    ensures long { length files.new ≡ length files.old }
 {
     if slot >= files.len() {
         return undo_file(disk, path, before, &mut None);

@@ -1,6 +1,9 @@
 -- Why a line was refused.
-use Rattle.std.proofs.Common.{◌≡◌, ◌≢◌, ◌⊎◌, ◌+◌, ◌<◌, ◌≤◌, inl, inr, refl, arith, ℕ, List, Result, Ok, Err, sym, subst}
-use Rattle.std.specs.Prelude.{IfErr, IsTrue, Option}
+use Rattle.std.proofs.Common.{◌≡◌, ◌≢◌, ◌⊎◌, ◌+◌, ◌≤◌, inl, inr, refl, arith, ℕ, List, Result, Ok, Err, sym, subst}
+use Rattle.std.specs.Borrow.{Bor}
+use Rattle.clap.specs.Words.{Text}
+use Rattle.device_files.specs.declared.slot_files.OpenFault.{OpenFault}
+use Rattle.std.specs.Prelude.{IfErr, IsTrue, Option, Bool}
 use Rattle.std.proofs.lemmas.Result.{IfErr-weaker}
 use Rattle.sector_model.specs.Bank.{Panel}
 use Rattle.sector_model.specs.declared.refusal.Refusal.{Refusal}
@@ -12,7 +15,9 @@ use Rattle.array_io.specs.Believed.Views.{EndsIt}
 use Rattle.sector_model.specs.History.{History}
 use Rattle.recovery.specs.Making.{BankView, IsNoMake}
 use Rattle.device_files.specs.BankFiles.{AreAllSafe}
-use Rattle.device_files.specs.DeviceFiles.{IsNoTableIn}
+use Rattle.device_files.specs.DeviceFiles.{IsNoTableIn, WereMadeSafe}
+use Rattle.device_files.specs.Faults.{IsGivenUp}
+use Rattle.device_files.specs.declared.Reason.{Reason}
 use Rattle.device_files.specs.declared.growing.Growing.{Ghosts}
 use Rattle.device_files.specs.declared.FolderFault.{FolderFault}
 use Rattle.device_files.specs.declared.FolderFault.TheVariants.{Refused}
@@ -21,11 +26,10 @@ use Rattle.set_commands.specs.Serving.{IsEnd, IsNotOpened, LosesOn, ServesOn}
 use Rattle.command_line.specs.declared.Invocation.{Invocation}
 use Rattle.command_line.specs.declared.Invocation.TheVariants.{Examine, Fail, Make, Rebuild, Replace, Run, Scrub, Status, Upgrade}
 use Rattle.command_line.proofs.Asked.{SameInvocation}
-use Rattle.raidtool.specs.Begun.{BeginsOver, BeginsSafely, IsNoTableOver}
+use Rattle.raidtool.specs.Begun.{BeginsOpened, BeginsOver, BeginsSafely, IsNoTableOver}
 use Rattle.raidtool.specs.Causes.{HasCause, IsCaused, IsCausedBy, IsCauseOfMake, IsCauseOver, IsPlainEnd}
 use Rattle.raidtool.specs.Done.{HasSizes}
 use Rattle.raidtool.specs.OtherSets.{IsRefusedMake, IsUntoldIn}
-use Rattle.raidtool.specs.Tool.{IsServed}
 
 pub not_memory : (refusal : Refusal) → ¬ IsPlainEnd refusal → refusal ≢ Memory
 not_memory refusal other is = other (subst IsPlainEnd (sym is) tt)
@@ -97,21 +101,33 @@ module _ {F : Type 0} (growing : Ghosts F) (left : F → List ℕ) where
 
   -- ---- a line that needs no file to be made
 
-  pub served_cause : (line : Invocation) (refusal : Refusal) → IsServed line → IsCauseOver growing left line refusal → HasCause growing left line refusal
-  served_cause (Run folder id) refusal served cause = cause
-  served_cause (Make folder id members chunk stripes) refusal served cause = absurd served
-  served_cause (Status folder id json check) refusal served cause = cause
-  served_cause (Fail folder id slot) refusal served cause = cause
-  served_cause (Replace folder id slot) refusal served cause = absurd served
-  served_cause (Rebuild folder id steps) refusal served cause = cause
-  served_cause (Scrub folder id) refusal served cause = cause
-  served_cause (Upgrade folder id) refusal served cause = cause
-  served_cause (Examine folder id json check) refusal served cause = absurd served
+  pub served_cause : {L : Type 0} (reading : Ghosts L) (left_read : L → List ℕ) (Opens : (path : List ℕ) → Result (Option F) OpenFault → Type 0)
+      (Inspects : (path : List ℕ) → Result (Option L) OpenFault → Type 0) (line : Invocation) (refusal : Refusal)
+      → ((folder : Bor Text) (id : List ℕ) (members chunk stripes : ℕ) → line ≡ Make folder id members chunk stripes → ⊥)
+      → ((folder : Bor Text) (id : List ℕ) (slot : ℕ) → line ≡ Replace folder id slot → ⊥)
+      → ((folder : Bor Text) (id : Option (List ℕ)) (json check : Bool) → line ≡ Examine folder id json check → ⊥)
+      → IsCauseOver growing left Opens line refusal → HasCause growing left reading left_read Opens Inspects line refusal
+  served_cause reading left_read Opens Inspects (Make folder id members chunk stripes) refusal no_make no_replace no_inspection cause =
+      absurd (no_make folder id members chunk stripes refl)
+  served_cause reading left_read Opens Inspects (Replace folder id slot) refusal no_make no_replace no_inspection cause = absurd (no_replace folder id slot
+      refl)
+  served_cause reading left_read Opens Inspects (Examine folder id json check) refusal no_make no_replace no_inspection cause =
+      absurd (no_inspection folder id json check refl)
+  served_cause reading left_read Opens Inspects line refusal no_make no_replace no_inspection cause = cause
 
   -- a table that could not be sought over these files could not be over some that are safe
   pub no_table_safely : (id : List ℕ) (files : List (Option F)) (refusal : Refusal) → AreAllSafe growing.is_safe files
       → IsNoTableIn (IsTrue growing.tells) (BeginsOver growing left files) id refusal → IsNoTableOver growing left id refusal
   no_table_safely id files refusal safe is = (is.0, is.1, (files, safe, is.2), is.3)
+
+  -- so it could not over these files as they were opened
+  pub no_table_opened : (Opens : (slot : ℕ) → Result (Option F) OpenFault → Type 0) (id : List ℕ) (files : List (Option F)) (unsynced : List Bool)
+      (barred : List (Option Reason)) (refusal : Refusal)
+      → WereMadeSafe growing.tells growing.told growing.is_safe (IsGivenUp growing.has_failed growing.sync_failed) Opens files unsynced barred
+      → IsNoTableIn (IsTrue growing.tells) (BeginsOver growing left files) id refusal
+      → IsNoTableIn (IsTrue growing.tells) (BeginsOpened growing left Opens) id refusal
+  no_table_opened Opens id files unsynced barred refusal made is =
+      (is.0, is.1, record { files = files; unsynced = unsynced; barred = barred; made_safe = made; begins = is.2 }, is.3)
 
 -- a script
 module _ (honest : Type 0) (id : List ℕ) (bank : BankView) where
@@ -147,17 +163,19 @@ pub done_for : (result : Result (Unit {0}) Refusal) (Cause : Refusal → Type 0)
 done_for result Cause = IfErr-weaker result _ _ (λ refusal cause other. cause (not_cut refusal other))
 
 -- of two lines that the same words ask for, the cause is the same
-pub caused_too : {F : Type 0} (growing : Ghosts F) (left : F → List ℕ) (a b : Invocation) (refusal : Refusal) → SameInvocation a b
-    → IsCaused growing left b refusal → IsCaused growing left a refusal
-caused_too growing left (Run f i) (Run g j) refusal same cause = rw same.1 cause
-caused_too growing left (Make f i members chunk stripes) (Make g j m c s) refusal same cause =
-    let sizes = same.2 in
-    rw (same.1, sizes.members_same, sizes.chunk_same, sizes.stripes_same) cause
-caused_too growing left (Status f i json check) (Status g j as_json as_check) refusal same cause = rw same.1 cause
-caused_too growing left (Fail f i slot) (Fail g j k) refusal same cause = rw (same.1, same.2) cause
-caused_too growing left (Replace f i slot) (Replace g j k) refusal same cause = rw (same.1, same.2) cause
-caused_too growing left (Rebuild f i steps) (Rebuild g j t) refusal same cause = rw (same.1, same.2) cause
-caused_too growing left (Scrub f i) (Scrub g j) refusal same cause = rw same.1 cause
-caused_too growing left (Upgrade f i) (Upgrade g j) refusal same cause = rw same.1 cause
-caused_too growing left (Examine f i json check) (Examine g j as_json as_check) refusal same cause = rw (same.1, same.2) cause
-caused_too growing left a b refusal same cause = absurd same
+module _ {F L : Type 0} (growing : Ghosts F) (left : F → List ℕ) (reading : Ghosts L) (left_read : L → List ℕ)
+    (Opens : (path : List ℕ) → Result (Option F) OpenFault → Type 0) (Inspects : (path : List ℕ) → Result (Option L) OpenFault → Type 0) where
+  pub caused_too : (a b : Invocation) (refusal : Refusal) → SameInvocation a b → IsCaused growing left reading left_read Opens Inspects b refusal
+      → IsCaused growing left reading left_read Opens Inspects a refusal
+  caused_too (Run f i) (Run g j) refusal same cause = rw (same.0, same.1) cause
+  caused_too (Make f i members chunk stripes) (Make g j m c s) refusal same cause =
+      let sizes = same.2 in
+      rw (same.1, sizes.members_same, sizes.chunk_same, sizes.stripes_same) cause
+  caused_too (Status f i json check) (Status g j as_json as_check) refusal same cause = rw (same.0, same.1) cause
+  caused_too (Fail f i slot) (Fail g j k) refusal same cause = rw (same.0, same.1, same.2) cause
+  caused_too (Replace f i slot) (Replace g j k) refusal same cause = rw (same.1, same.2) cause
+  caused_too (Rebuild f i steps) (Rebuild g j t) refusal same cause = rw (same.0, same.1, same.2) cause
+  caused_too (Scrub f i) (Scrub g j) refusal same cause = rw (same.0, same.1) cause
+  caused_too (Upgrade f i) (Upgrade g j) refusal same cause = rw (same.0, same.1) cause
+  caused_too (Examine f i json check) (Examine g j as_json as_check) refusal same cause = rw (same.0, same.1, same.2) cause
+  caused_too a b refusal same cause = absurd same

@@ -18,18 +18,16 @@ use Rattle.device_files.specs.declared.slot_files.OpenFault.{OpenFault}
 use Rattle.device_files.specs.declared.FolderFault.TheVariants.{InUse, NoFile, NotOpened, NotRegular, NotSafe, NotSynced, OtherSet, Refused}
 use Rattle.device_files.specs.declared.growing.Growing.{Ghosts}
 use Rattle.device_files.specs.declared.locked.Before.{Before}
-use Rattle.raidtool.specs.Done.{DoesOn, HasSizes, IsExamined, OfFiles}
-use Rattle.raidtool.specs.DoneOver.{HealthOf, IsDone, IsMadeIn, IsReplacedIn, IsServedOver, folder_text}
+use Rattle.raidtool.specs.Done.{DoesOn, HasSizes}
+use Rattle.raidtool.specs.DoneOver.{HealthOf, IsDone, IsMadeIn, IsReplacedIn, IsServedOver}
 use Rattle.command_line.specs.Invocations.{AsksFor}
-use Rattle.raidtool.specs.FolderFiles.{WereOpened}
-use Rattle.set_commands.specs.Healths.{InspectsHealth}
 use Rattle.set_commands.specs.declared.serving.health.Health.{Health}
 use Rattle.device_files.specs.Faults.{fault_line}
 use Rattle.raidtool.specs.Stops.{IsBlamed}
 use Rattle.set_commands.specs.Run.{Streams}
 use Rattle.raidtool.specs.Tool.{IsBlamedIn, IsChecked, IsCutOff, IsEndOf, IsEndOfLine, IsFirst, IsMisshapen, IsNone, IsPartWritten, IsStopOf}
 use Rattle.raidtool.specs.Tool.{IsWritten, PassesNone, WasRefused, WasStopped}
-use Rattle.raidtool.specs.Causes.{id_text}
+use Rattle.raidtool.specs.Causes.{folder_text, id_text}
 use Rattle.command_line.proofs.Asked.{SameInvocation}
 use Rattle.raidtool.proofs.InspectionsTold.{inspections_written}
 use Rattle.raidtool.proofs.Repaired.{told_progress, told_scrub}
@@ -51,16 +49,18 @@ written_by (Examine folder id json check) honest bank was is does = inspections_
 same_sizes : (a b c m n k : ℕ) (geometry : Geometry) → a ≡ m → b ≡ n → c ≡ k → HasSizes m n k geometry → HasSizes a b c geometry
 same_sizes a b c m n k geometry first second third has = rw (first, second, third) has
 
-module _ {F L : Type 0} (growing : Ghosts F) (left : F → List ℕ) (Opens : (path : List ℕ) → Result (Option F) OpenFault → Type 0)
+module _ {F L : Type 0} (growing : Ghosts F) (left : F → List ℕ) (reading : Ghosts L) (left_read : L → List ℕ)
+    (Opens : (path : List ℕ) → Result (Option F) OpenFault → Type 0)
     (Creates : (path : List ℕ) → Result (F × Before) CreateFault → Type 0) (Inspects : (path : List ℕ) → Result (Option L) OpenFault → Type 0)
     (IsSynced : (folder : List ℕ) → Type 0) where
   abbrev Does : Invocation → (was is : Streams) (before after : Health) → Type 0
-  Does = IsDone growing left Opens Creates Inspects IsSynced
+  Does = IsDone growing left reading left_read Opens Creates Inspects IsSynced
 
   pub written_of : (line : Invocation) (was is : Streams) (before after : Health) → Does line was is before after → IsWritten line was.contents is.contents
   written_of (Make folder id members chunk stripes) was is before after done = (done.0.1.within, done.2)
   written_of (Replace folder id slot) was is before after done = done.2
-  written_of (Examine folder id json check) was is before after done = inspections_written OfFiles id json done.1.0 was.contents is.contents done.1.1
+  written_of (Examine folder id json check) was is before after done =
+      inspections_written (IsTrue reading.tells) id json done.bank was.contents is.contents done.examines
   written_of (Run folder id) was is before after done = tt
   written_of (Status folder id json check) was is before after done = written_by (Status folder id json check) _ done.over.bank was is done.over.does
   written_of (Fail folder id slot) was is before after done = written_by (Fail folder id slot) _ done.over.bank was is done.over.does
@@ -75,13 +75,11 @@ module _ {F L : Type 0} (growing : Ghosts F) (left : F → List ℕ) (Opens : (p
       → IsServedOver growing left Opens b was is before after → IsServedOver growing left Opens a was is before after
   served_too a b was is before after folder id does health done = record {
     taken = record {
-      opened = done.taken.opened;
       files = done.taken.files;
+      unsynced = done.taken.unsynced;
       barred = done.taken.barred;
-      opens = λ slot under. rw folder (done.taken.opens slot under);
+      made_safe = rw folder done.taken.made_safe;
       passed = λ slot under some. rw id (done.taken.passed slot under some);
-      safe = done.taken.safe;
-      same = done.taken.same;
       kept = done.taken.kept;
     };
     over = record {
@@ -121,7 +119,14 @@ module _ {F L : Type 0} (growing : Ghosts F) (left : F → List ℕ) (Opens : (p
   done_too (Upgrade f i) (Upgrade g j) was is before after same done =
       served_too (Upgrade f i) (Upgrade g j) was is before after same.0 same.1 (λ bank d. rw same.1 d) (λ bank d. d) done
   done_too (Examine f i json check) (Examine g j as_json as_check) was is before after same done =
-      (rw same.0 done.0, rw (same.1, same.2) done.1, rw same.1 done.2)
+      record {
+        files = done.files;
+        inspected = λ slot under. rw same.0 (done.inspected slot under);
+        bank = done.bank;
+        begins = done.begins;
+        examines = rw (same.1, same.2) done.examines;
+        health = rw same.1 done.health;
+      }
   done_too a b was is before after same done = absurd same
 
   -- a set was made
@@ -138,13 +143,6 @@ module _ {F L : Type 0} (growing : Ghosts F) (left : F → List ℕ) (Opens : (p
       → OnOk done (Appends was.contents is.contents (reply_text Done)) → OnOk done (Does (Replace folder id slot) was is health health)
   replaced_done folder id slot (Ok value) was is health replaced synced written = (replaced, synced, written, refl)
   replaced_done folder id slot (Err fault) was is health replaced synced written = tt
-
-  -- the sets of a folder were inspected
-  pub examined_done : (folder : Bor Text) (id : Option (List ℕ)) (json check : Bool) (done : Result (Unit {0}) FolderFault) (was is : Streams)
-      (before after : Health) → OnOk done (WereOpened Inspects folder.now) → OnOk done (IsExamined id json was.contents is.contents)
-      → OnOk done ((bank : BankView) × InspectsHealth OfFiles id bank before after) → OnOk done (Does (Examine folder id json check) was is before after)
-  examined_done folder id json check (Ok value) was is before after opened examined health = (opened, examined, health)
-  examined_done folder id json check (Err fault) was is before after opened examined health = tt
 
   -- a line that needs no file to be made was done over the files of its folder
   pub served_done : (line : Invocation) (done : Result (Unit {0}) FolderFault) (was is : Streams) (before after : Health)

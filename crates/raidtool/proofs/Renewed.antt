@@ -3,12 +3,15 @@ use Rattle.std.proofs.Common.{◌≡◌, inl, inr, refl, ℕ, List, Option, Some
 use Rattle.std.specs.Prelude.{◌≢◌, IsSomeAnd, Result}
 use Rattle.device_files.specs.declared.FolderFault.{FolderFault}
 use Rattle.device_files.specs.declared.FolderFault.TheVariants.{InUse, NoFile, Refused}
+use Rattle.device_files.specs.declared.growing.Growing.{Ghosts}
+use Rattle.device_files.specs.declared.locked.Before.{Before}
 use Rattle.device_files.specs.declared.slot_files.CreateFault.{CreateFault}
 use Rattle.device_files.specs.declared.slot_files.OpenFault.{OpenFault}
-use Rattle.device_files.specs.DeviceFiles.{file_in, slot_path}
+use Rattle.device_files.specs.DeviceFiles.{AreOtherNotesKept, AreOthersKept, IsNotedOf, before_in, file_in, slot_path}
 use Rattle.device_files.specs.Faults.{IsFailedCreating, IsFileFaultOf, IsUnmadeFile}
 use Rattle.sector_model.specs.declared.refusal.Refusal.{Refusal}
 use Rattle.std.proofs.lemmas.Result.{IfErr-weaker, on_ok_weaker}
+use Rattle.raidtool.specs.FolderFiles.{PreparesSlot}
 use Rattle.raidtool.specs.Replacing.{Replaces}
 use Rattle.raidtool.specs.Stops.{IsBlamed, IsRefusal}
 use Rattle.raidtool.proofs.Causes.{caused_as}
@@ -22,6 +25,20 @@ has_such P None is = absurd is
 pub is_none_of : {A : Type 0} (found : Option A) → ((one : A) → found ≡ Some one → ⊥) → found ≡ None
 is_none_of (Some one) never = absurd (never one refl)
 is_none_of None never = refl
+
+-- a file of which it was noted that it was created was prepared
+pub prepared_by : {F : Type 0} (growing : Ghosts F) (Creates : (path : List ℕ) → Result (F × Before) CreateFault → Type 0) (folder : List ℕ) (slot : ℕ)
+    (was is : List (Option F)) (notes_were notes_are : List Before) → AreOthersKept was is slot
+    → IsNotedOf growing.told (Creates (slot_path folder slot)) 0 (before_in notes_were slot) (file_in was slot) (file_in is slot) (before_in notes_are slot)
+    → AreOtherNotesKept notes_were notes_are slot → PreparesSlot growing Creates folder slot was is notes_were notes_are
+prepared_by growing Creates folder slot was is notes_were notes_are others noted other_notes =
+    record { others = others; noted = inl noted; other_notes = other_notes }
+
+-- so is one that is not touched
+pub prepared_already : {F : Type 0} (growing : Ghosts F) (Creates : (path : List ℕ) → Result (F × Before) CreateFault → Type 0) (folder : List ℕ) (slot : ℕ)
+    (files : List (Option F)) (notes : List Before) → PreparesSlot growing Creates folder slot files files notes notes
+prepared_already growing Creates folder slot files notes =
+    record { others = λ other apart. refl; noted = inr (refl, refl); other_notes = λ other apart. refl }
 
 -- the file that is named could not be created, or a call of it failed
 pub renewed_blamed : {F Made : Type 0} (Opens : (path : List ℕ) → Result (Option F) OpenFault → Type 0)

@@ -1,17 +1,17 @@
 -- What follows for a command from files that were opened and made safe, and where that failed.
-use Rattle.std.proofs.Common.{◌≡◌, ◌∙◌, ◌<◌, ◌≤◌, ◌+◌, ℕ, ap, inl, inr, refl, Bool, List, [], Option, Some, None, Ok, Err, IfSome, IsSome, OnOk, arith, subst}
+use Rattle.std.proofs.Common.{◌≡◌, ◌∙◌, ◌<◌, ◌≤◌, ◌+◌, ℕ, inl, inr, refl, Bool, List, [], Option, Some, None, Ok, Err, IsSome, OnOk, arith, subst}
 use Rattle.std.proofs.Common.{sym, true, false}
 use Rattle.std.proofs.lemmas.Bool.{false≢true}
-use Rattle.std.specs.Prelude.{IsSomeAnd, IsTrue, Result, is_some, zero, suc}
+use Rattle.std.specs.Prelude.{Result, zero, suc}
 use Rattle.std.specs.declared.io.Error.{Error}
 use Rattle.sector_model.specs.declared.refusal.Refusal.{Refusal}
 use Rattle.array_io.specs.Believed.Views.{EndsIt}
+use Rattle.device_files.specs.declared.growing.Growing.{Ghosts}
 use Rattle.device_files.specs.declared.FolderFault.{FolderFault}
 use Rattle.device_files.specs.declared.FolderFault.TheVariants.{NoFile, NotOpened, Refused}
 use Rattle.device_files.specs.declared.Reason.{Reason}
 use Rattle.device_files.specs.declared.slot_files.CreateFault.{CreateFault}
 use Rattle.device_files.specs.declared.slot_files.OpenFault.{OpenFault}
-use Rattle.device_files.proofs.MadeSafe.{all_safe}
 use Rattle.device_files.specs.DeviceFiles.{IsMadeSafe, IsOpenedAs, WereMadeSafe, barred_in, file_in, flag_in, slot_path}
 use Rattle.device_files.specs.Faults.{IsBarredIn, IsGivenUp, IsPassingFault, IsToldLine, IsUnsyncedIn, PassesBelow}
 use Rattle.raidtool.specs.FolderFiles.{WereTaken}
@@ -23,58 +23,22 @@ pub at_any_rate : {T E P : Type 0} (result : Result T E) → P → OnOk result P
 at_any_rate (Ok value) holds = holds
 at_any_rate (Err error) holds = tt
 
--- and tells what it did when it was opened
-same_of : {F : Type 0} (tells : Bool) (told : F → List ℕ) (IsSafe HasFailed : F → Type 0) (old new : Option F) (flag : Bool)
-    → IsMadeSafe tells told IsSafe HasFailed old new flag
-    → IfSome new (λ file. IsSomeAnd old (λ one. IsTrue tells → told file ≡ told one))
-same_of tells told IsSafe HasFailed None new flag is = rw is.0 tt
-same_of tells told IsSafe HasFailed (Some old) (Some new) flag is = is.0.1
-same_of tells told IsSafe HasFailed (Some old) None flag is = tt
-
--- where the slot is not marked, a file that was there is
-pub kept_of : {F : Type 0} (tells : Bool) (told : F → List ℕ) (IsSafe HasFailed : F → Type 0) (old new : Option F) (flag : Bool)
-    → IsMadeSafe tells told IsSafe HasFailed old new flag → flag ≡ false → is_some new ≡ is_some old
-kept_of tells told IsSafe HasFailed None new flag is unmarked = ap is_some is.0
-kept_of tells told IsSafe HasFailed (Some old) (Some new) flag is unmarked = refl
-kept_of tells told IsSafe HasFailed (Some old) None flag is unmarked = absurd (false≢true (sym unmarked ∙ is.1))
-
 -- where it is marked, a call of a file failed
 pub failed_of : {F : Type 0} (tells : Bool) (told : F → List ℕ) (IsSafe HasFailed : F → Type 0) (old new : Option F) (flag : Bool)
     → IsMadeSafe tells told IsSafe HasFailed old new flag → flag ≡ true → (file : F) × HasFailed file
 failed_of tells told IsSafe HasFailed None new flag is marked = absurd (false≢true (sym is.1 ∙ marked))
 failed_of tells told IsSafe HasFailed (Some old) (Some new) flag is marked = absurd (false≢true (sym is.1 ∙ marked))
-failed_of tells told IsSafe HasFailed (Some old) None flag is marked = is.0
+failed_of tells told IsSafe HasFailed (Some old) None flag is marked = (is.0.0, is.0.1)
 
--- the files were taken, and none of which this holds was given up, where no such slot is marked
-were_taken : {F : Type 0} (tells : Bool) (told : F → List ℕ) (IsSafe HasFailed : F → Type 0) (Opens : (slot : ℕ) → Result (Option F) OpenFault → Type 0)
-    (files : List (Option F)) (unsynced : List Bool) (barred : List (Option Reason)) (IsNeeded : ℕ → Type 0) (MayLack : List (Option F) → ℕ → Type 0)
-    → WereMadeSafe tells told IsSafe HasFailed Opens files unsynced barred
+-- the files were taken, and none of which this holds was given up, where no such slot is marked; and this was done over them
+pub taken_over : {F : Type 0} (growing : Ghosts F) (Opens : (slot : ℕ) → Result (Option F) OpenFault → Type 0) (files : List (Option F)) (unsynced : List Bool)
+    (barred : List (Option Reason)) (IsNeeded : ℕ → Type 0) (MayLack : List (Option F) → ℕ → Type 0) (Over : List (Option F) → Type 0)
+    → WereMadeSafe growing.tells growing.told growing.is_safe (IsGivenUp growing.has_failed growing.sync_failed) Opens files unsynced barred
     → ((slot : ℕ) → slot < 10 → IsNeeded slot → flag_in unsynced slot ≡ false)
     → ((slot : ℕ) → slot < 10 → IsSome (barred_in barred slot) → MayLack files slot)
-    → WereTaken IsSafe (λ old new. IsTrue tells → told new ≡ told old) Opens IsNeeded MayLack
-were_taken tells told IsSafe HasFailed Opens files unsynced barred IsNeeded MayLack made unmarked lacking = record {
-  opened = made.opened;
-  files = files;
-  barred = barred;
-  opens = made.opens;
-  passed = lacking;
-  safe = all_safe tells told IsSafe HasFailed Opens files unsynced barred made;
-  same = λ slot under. same_of tells told IsSafe HasFailed (file_in made.opened slot) (file_in files slot) (flag_in unsynced slot) (made.made_safe slot under);
-  kept = λ slot under needed. kept_of tells told IsSafe HasFailed (file_in made.opened slot) (file_in files slot) (flag_in unsynced slot)
-      (made.made_safe slot under)
-      (unmarked slot under needed);
-}
-
--- and this was done over them
-pub taken_over : {F : Type 0} (tells : Bool) (told : F → List ℕ) (IsSafe HasFailed : F → Type 0) (Opens : (slot : ℕ) → Result (Option F) OpenFault → Type 0)
-    (files : List (Option F)) (unsynced : List Bool) (barred : List (Option Reason)) (IsNeeded : ℕ → Type 0) (MayLack : List (Option F) → ℕ → Type 0)
-    (Over : List (Option F) → Type 0) → WereMadeSafe tells told IsSafe HasFailed Opens files unsynced barred
-    → ((slot : ℕ) → slot < 10 → IsNeeded slot → flag_in unsynced slot ≡ false)
-    → ((slot : ℕ) → slot < 10 → IsSome (barred_in barred slot) → MayLack files slot)
-    → Over files → (taken : WereTaken IsSafe (λ old new. IsTrue tells → told new ≡ told old) Opens IsNeeded MayLack) × Over taken.files
-unfolding were_taken
-taken_over tells told IsSafe HasFailed Opens files unsynced barred IsNeeded MayLack Over made unmarked lacking over =
-    (were_taken tells told IsSafe HasFailed Opens files unsynced barred IsNeeded MayLack made unmarked lacking, over)
+    → Over files → (taken : WereTaken growing Opens IsNeeded MayLack) × Over taken.files
+taken_over growing Opens files unsynced barred IsNeeded MayLack Over made unmarked lacking over =
+    (record { files = files; unsynced = unsynced; barred = barred; made_safe = made; passed = lacking; kept = unmarked }, over)
 
 -- ---- where that failed
 
@@ -129,13 +93,15 @@ barred_blamed tells told IsSafe GivenUp HasFailed files unsynced barred Opens Cr
 barred_blamed tells told IsSafe GivenUp HasFailed files unsynced barred Opens Creates folder (Refused refusal) made is = tt
 barred_blamed tells told IsSafe GivenUp HasFailed files unsynced barred Opens Creates folder fault made is = absurd is
 
-pub barred_passing : (barred : List (Option Reason)) (fault : FolderFault) → IsBarredIn barred fault → IsPassingFault barred fault
-barred_passing barred (NotOpened slot reason) is = is
-barred_passing barred fault is = absurd is
+pub barred_passing : (barred : List (Option Reason)) (first end : ℕ) (fault : FolderFault) → IsBarredIn barred first end fault
+    → IsPassingFault barred fault
+barred_passing barred first end (NotOpened slot reason) is = (is.2, is.3)
+barred_passing barred first end fault is = absurd is
 
-pub barred_unmade : (barred : List (Option Reason)) (members : ℕ) (fault : FolderFault) → IsBarredIn barred fault → IsUnmade members fault
-barred_unmade barred members (NotOpened slot reason) is = is.0
-barred_unmade barred members fault is = absurd is
+pub barred_unmade : (barred : List (Option Reason)) (first end members : ℕ) (fault : FolderFault) → IsBarredIn barred first end fault
+    → IsUnmade members fault
+barred_unmade barred first end members (NotOpened slot reason) is = is.2
+barred_unmade barred first end members fault is = absurd is
 
 pub passing_slot : (barred : List (Option Reason)) (slot : ℕ) (fault : FolderFault) → IsPassingFault barred fault → IsSlotFault IsReplaceEnd slot fault
 passing_slot barred slot (NotOpened other reason) is = is.0

@@ -1,5 +1,5 @@
 -- Why a line was refused: on some bank over files that are safe, which is honest where they tell what they hold, and begins with that.
-use Rattle.std.specs.Prelude.{◌≡◌, ◌⊎◌, ℕ, Bool, IsTrue, List, [], Option}
+use Rattle.std.specs.Prelude.{◌≡◌, ◌⊎◌, ℕ, Bool, IsTrue, List, [], Option, Result}
 use Rattle.sector_model.specs.declared.refusal.Refusal.{Refusal}
 use Rattle.sector_model.specs.declared.refusal.Refusal.TheVariants.{BadGeometry, Memory, ReadFault, WriteFault}
 use Rattle.layout_map.specs.declared.format.Format.TheVariants.{One}
@@ -13,12 +13,38 @@ use Rattle.command_line.specs.declared.Invocation.TheVariants.{Examine, Fail, Ma
 use Rattle.device_files.specs.declared.growing.Growing.{Ghosts}
 use Rattle.device_files.specs.declared.FolderFault.{FolderFault}
 use Rattle.device_files.specs.declared.FolderFault.TheVariants.{Refused}
-use Rattle.raidtool.specs.Begun.{BeginsSafely, IsNoTableOver}
-use Rattle.raidtool.specs.Done.{HasSizes, OfFiles}
+use Rattle.device_files.specs.declared.slot_files.OpenFault.{OpenFault}
+use Rattle.device_files.specs.DeviceFiles.{IsNoTableIn, slot_path}
+use Rattle.raidtool.specs.Begun.{BeginsInspected, BeginsOpened, BeginsSafely, IsNoTableOver}
+use Rattle.raidtool.specs.Done.{HasSizes}
 use Rattle.raidtool.specs.OtherSets.{IsRefusedMake, StopsMaking}
 use Rattle.set_commands.specs.Examining.{RefusesInspecting}
 use Rattle.set_commands.specs.Run.{StoppedByStore, Streams}
 use Rattle.set_commands.specs.Serving.{IsNotOpened, RefusesOn, ServesOn, StopsRebuildingOn}
+
+-- the folder of a line
+abbrev pub folder_text : Invocation → List ℕ
+folder_text (Run folder id) = folder.now
+folder_text (Make folder id members chunk stripes) = folder.now
+folder_text (Status folder id json check) = folder.now
+folder_text (Fail folder id slot) = folder.now
+folder_text (Replace folder id slot) = folder.now
+folder_text (Rebuild folder id steps) = folder.now
+folder_text (Scrub folder id) = folder.now
+folder_text (Upgrade folder id) = folder.now
+folder_text (Examine folder id json check) = folder.now
+
+-- the id of the set of a line; of one that may look at each set, none
+abbrev pub id_text : Invocation → List ℕ
+id_text (Run folder id) = id
+id_text (Make folder id members chunk stripes) = id
+id_text (Status folder id json check) = id
+id_text (Fail folder id slot) = id
+id_text (Replace folder id slot) = id
+id_text (Rebuild folder id steps) = id
+id_text (Scrub folder id) = id
+id_text (Upgrade folder id) = id
+id_text (Examine folder id json check) = []
 
 -- memory ran out, or a reader or a writer failed: that is cause enough
 abbrev pub IsPlainEnd : Refusal → Type 0
@@ -65,36 +91,36 @@ IsReplaceRefused growing left id slot refusal =
 abbrev pub IsCauseOfReplace : {F : Type 0} → (growing : Ghosts F) (left : F → List ℕ) (id : List ℕ) (slot : ℕ) → Refusal → Type 0
 IsCauseOfReplace growing left id slot refusal = IsReplaceRefused growing left id slot refusal ⊎ IsNoTableOver growing left id refusal
 
--- why no set was told of: on some bank over files that are opened for reading alone, which tell nothing
-abbrev pub IsCauseOfExamine : (id : Option (List ℕ)) (json : Bool) → Refusal → Type 0
-IsCauseOfExamine id json refusal = (bank : BankView) × RefusesInspecting OfFiles id json bank refusal
+-- why no set was told of: on a bank over the files of a folder, as they were opened for reading alone
+abbrev pub IsCauseOfExamine : {L : Type 0} → (reading : Ghosts L) (left_read : L → List ℕ) (Inspects : (path : List ℕ) → Result (Option L) OpenFault → Type 0)
+    → (folder : List ℕ) (id : Option (List ℕ)) (json : Bool) → Refusal → Type 0
+IsCauseOfExamine reading left_read Inspects folder id json refusal =
+    (bank : BankView) × BeginsInspected reading left_read (λ slot. Inspects (slot_path folder slot)) bank.history
+    × RefusesInspecting (IsTrue reading.tells) id json bank refusal
 
--- the id of the set of a line; of one that may look at each set, none
-abbrev pub id_text : Invocation → List ℕ
-id_text (Run folder id) = id
-id_text (Make folder id members chunk stripes) = id
-id_text (Status folder id json check) = id
-id_text (Fail folder id slot) = id
-id_text (Replace folder id slot) = id
-id_text (Rebuild folder id steps) = id
-id_text (Scrub folder id) = id
-id_text (Upgrade folder id) = id
-id_text (Examine folder id json check) = []
-
--- what a line asks for, which makes no file, was refused on some bank of such files, or in seeking the table of its set, for whether a slot is missing whose
--- file can't be opened
-abbrev pub IsCauseOver : {F : Type 0} → (growing : Ghosts F) (left : F → List ℕ) → Invocation → Refusal → Type 0
-IsCauseOver growing left line refusal =
-    ((bank : BankView) × BeginsSafely growing left bank.history × IsCauseOn line (IsTrue growing.tells) bank refusal)
-    ⊎ IsNoTableOver growing left (id_text line) refusal
+-- what a line asks for, which makes no file, was refused on a bank over the files of its folder, as they were opened; or in seeking the table of its set on
+-- these, for whether a slot is missing whose file can't be opened
+abbrev pub IsCauseOver : {F : Type 0} → (growing : Ghosts F) (left : F → List ℕ) (Opens : (path : List ℕ) → Result (Option F) OpenFault → Type 0)
+    → Invocation → Refusal → Type 0
+IsCauseOver growing left Opens line refusal =
+    ((bank : BankView) × BeginsOpened growing left (λ slot. Opens (slot_path (folder_text line) slot)) bank.history
+    × IsCauseOn line (IsTrue growing.tells) bank refusal)
+    ⊎ IsNoTableIn (IsTrue growing.tells) (BeginsOpened growing left (λ slot. Opens (slot_path (folder_text line) slot))) (id_text line) refusal
 
 -- why a line was refused
-abbrev pub HasCause : {F : Type 0} → (growing : Ghosts F) (left : F → List ℕ) → Invocation → Refusal → Type 0
-HasCause growing left (Make folder id members chunk stripes) refusal = IsCauseOfMake growing left id members chunk stripes refusal
-HasCause growing left (Replace folder id slot) refusal = IsCauseOfReplace growing left id slot refusal
-HasCause growing left (Examine folder id json check) refusal = IsCauseOfExamine id json refusal
-HasCause growing left line refusal = IsCauseOver growing left line refusal
+abbrev pub HasCause : {F L : Type 0} → (growing : Ghosts F) (left : F → List ℕ) (reading : Ghosts L) (left_read : L → List ℕ)
+    (Opens : (path : List ℕ) → Result (Option F) OpenFault → Type 0) (Inspects : (path : List ℕ) → Result (Option L) OpenFault → Type 0)
+    → Invocation → Refusal → Type 0
+HasCause growing left reading left_read Opens Inspects (Make folder id members chunk stripes) refusal =
+    IsCauseOfMake growing left id members chunk stripes refusal
+HasCause growing left reading left_read Opens Inspects (Replace folder id slot) refusal = IsCauseOfReplace growing left id slot refusal
+HasCause growing left reading left_read Opens Inspects (Examine folder id json check) refusal =
+    IsCauseOfExamine reading left_read Inspects folder.now id json refusal
+HasCause growing left reading left_read Opens Inspects line refusal = IsCauseOver growing left Opens line refusal
 
 -- a refusal has its cause, unless memory, a reader or a writer is cause enough
-abbrev pub IsCaused : {F : Type 0} → (growing : Ghosts F) (left : F → List ℕ) → Invocation → Refusal → Type 0
-IsCaused growing left line refusal = ¬ IsPlainEnd refusal → HasCause growing left line refusal
+abbrev pub IsCaused : {F L : Type 0} → (growing : Ghosts F) (left : F → List ℕ) (reading : Ghosts L) (left_read : L → List ℕ)
+    (Opens : (path : List ℕ) → Result (Option F) OpenFault → Type 0) (Inspects : (path : List ℕ) → Result (Option L) OpenFault → Type 0)
+    → Invocation → Refusal → Type 0
+IsCaused growing left reading left_read Opens Inspects line refusal =
+    ¬ IsPlainEnd refusal → HasCause growing left reading left_read Opens Inspects line refusal

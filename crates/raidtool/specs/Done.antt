@@ -1,5 +1,5 @@
 -- What was done where a line ended well: with the id, the slot, the sizes and the steps that its words name.
-use Rattle.std.specs.Prelude.{◌≡◌, ◌≢◌, ℕ, Bool, List, Option, Result, Ok, Err, IsTrue, false}
+use Rattle.std.specs.Prelude.{◌≡◌, ◌≢◌, ℕ, Bool, List, Option, Result, Ok, Err}
 use Rattle.std.specs.Io.KnownBytes.{Appends}
 use Rattle.sector_model.specs.declared.refusal.Refusal.{Refusal}
 use Rattle.sector_model.specs.declared.refusal.Refusal.TheVariants.{WriteFault}
@@ -51,17 +51,10 @@ DoesOn (Scrub folder id) honest bank was is = ScrubsOn honest id bank (Appends w
 DoesOn (Upgrade folder id) honest bank was is = UpgradesOn honest id bank (Ok tt) × Appends was.contents is.contents (reply_text Done)
 DoesOn (Examine folder id json check) honest bank was is = ExaminesOn honest id json bank was.contents is.contents
 
--- what is known of the contents of files that are opened for reading alone: they tell nothing
-abbrev pub OfFiles : Type 0
-OfFiles = IsTrue false
-
--- the set of an id, or each set, was inspected on some bank of such files, and what was found was written
-abbrev pub IsExamined : (id : Option (List ℕ)) (json : Bool) (was is : Option (List ℕ)) → Type 0
-IsExamined id json was is = (bank : BankView) × ExaminesOn OfFiles id json bank was is
-
--- or a beginning of it
-abbrev pub IsPartExamined : (id : Option (List ℕ)) (json : Bool) (was is : Option (List ℕ)) → Type 0
-IsPartExamined id json was is = (bank : BankView) × ExaminesPartOn OfFiles id json bank was is
+-- a beginning of what is told of the set of an id, or of each set, was written, which was inspected on a bank that is honest where this holds, and whose run
+-- began so
+abbrev pub IsPartExamined : (honest : Type 0) (Begins : History → Type 0) (id : Option (List ℕ)) (json : Bool) (was is : Option (List ℕ)) → Type 0
+IsPartExamined honest Begins id json was is = (bank : BankView) × Begins bank.history × ExaminesPartOn honest id json bank was is
 
 -- by the superblocks on a bank that is honest where this holds, and whose run began so, the file of a slot has this need
 abbrev pub IsNeedIn : (honest : Type 0) (Begins : History → Type 0) (id : List ℕ) (slot : ℕ) → Option ℕ → Type 0

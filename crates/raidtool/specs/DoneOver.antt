@@ -7,34 +7,23 @@ use Rattle.recovery.specs.Making.{BankView}
 use Rattle.volume_table.specs.VolumeStep.{Done}
 use Rattle.report.specs.Replies.{made_line, reply_text}
 use Rattle.command_line.specs.declared.Invocation.{Invocation}
-use Rattle.command_line.specs.declared.Invocation.TheVariants.{Examine, Fail, Make, Rebuild, Replace, Run, Scrub, Status, Upgrade}
+use Rattle.command_line.specs.declared.Invocation.TheVariants.{Examine, Make, Replace, Status}
 use Rattle.device_files.specs.declared.growing.Growing.{Ghosts}
 use Rattle.device_files.specs.declared.locked.Before.{Before}
 use Rattle.device_files.specs.declared.slot_files.CreateFault.{CreateFault}
 use Rattle.device_files.specs.declared.slot_files.OpenFault.{OpenFault}
-use Rattle.device_files.specs.DeviceFiles.{slot_path}
+use Rattle.device_files.specs.DeviceFiles.{file_in, slot_path}
 use Rattle.device_files.specs.SlotCalls.{RenewsSlot}
+use Rattle.set_commands.specs.Examining.{ExaminesOn}
 use Rattle.set_commands.specs.Healths.{HealthOn, InspectsHealth}
 use Rattle.set_commands.specs.Run.{Streams}
 use Rattle.set_commands.specs.Serving.{ReplacesOn}
 use Rattle.set_commands.specs.declared.serving.health.Health.{Health}
-use Rattle.raidtool.specs.Begun.{BeginsOver, IsMissingOver, TellsSame}
-use Rattle.raidtool.specs.Causes.{id_text}
-use Rattle.raidtool.specs.Done.{DoesOn, HasSizes, IsExamined, IsNeedIn, OfFiles}
-use Rattle.raidtool.specs.FolderFiles.{MakesFiles, WereOpened, WereTaken}
+use Rattle.raidtool.specs.Begun.{BeginsOver, IsMissingOver}
+use Rattle.raidtool.specs.Causes.{folder_text, id_text}
+use Rattle.raidtool.specs.Done.{DoesOn, HasSizes, IsNeedIn}
+use Rattle.raidtool.specs.FolderFiles.{MakesFiles, WereTaken}
 use Rattle.raidtool.specs.OtherSets.{IsMadeAlone}
-
--- the folder of a line
-abbrev pub folder_text : Invocation → List ℕ
-folder_text (Run folder id) = folder.now
-folder_text (Make folder id members chunk stripes) = folder.now
-folder_text (Status folder id json check) = folder.now
-folder_text (Fail folder id slot) = folder.now
-folder_text (Replace folder id slot) = folder.now
-folder_text (Rebuild folder id steps) = folder.now
-folder_text (Scrub folder id) = folder.now
-folder_text (Upgrade folder id) = folder.now
-folder_text (Examine folder id json check) = folder.now
 
 -- so well is the set of a line on a bank; of other lines it is what was
 abbrev pub HealthOf : Invocation → (honest : Type 0) (bank : BankView) (was is : Health) → Type 0
@@ -56,7 +45,7 @@ pub record DoesOver {F : Type 0} (growing : Ghosts F) (left : F → List ℕ) (f
 -- makes no file, was done. One that is there and could not be opened was passed over only where the set, by the table on these files, calls its slot missing.
 pub record IsServedOver {F : Type 0} (growing : Ghosts F) (left : F → List ℕ) (Opens : (path : List ℕ) → Result (Option F) OpenFault → Type 0)
     (line : Invocation) (was is : Streams) (before after : Health) : Type 0 where
-  pub taken : WereTaken growing.is_safe (TellsSame growing) (λ slot. Opens (slot_path (folder_text line) slot)) (λ _. ⊥)
+  pub taken : WereTaken growing (λ slot. Opens (slot_path (folder_text line) slot)) (λ _. ⊥)
       (IsMissingOver growing left (id_text line))
   pub over : DoesOver growing left taken.files line was is before after
 
@@ -92,27 +81,39 @@ pub record IsReplacedOver {F : Type 0} (growing : Ghosts F) (left : F → List �
 -- The files of the folder were opened, each that was used is safe, none of the set's was given up for its sync, and the set was made over them.
 pub record IsMadeIn {F : Type 0} (growing : Ghosts F) (left : F → List ℕ) (Creates : (path : List ℕ) → Result (F × Before) CreateFault → Type 0)
     (folder : List ℕ) (Opens : (path : List ℕ) → Result (Option F) OpenFault → Type 0) (id : List ℕ) (geometry : Geometry) : Type 0 where
-  pub taken : WereTaken growing.is_safe (TellsSame growing) (λ slot. Opens (slot_path folder slot)) (λ slot. slot < geometry.members + 2) (λ _ _. ⊥)
+  pub taken : WereTaken growing (λ slot. Opens (slot_path folder slot)) (λ slot. slot < geometry.members + 2) (λ _ _. ⊥)
   pub over : IsMadeOver growing left Creates folder id geometry taken.files
 
 -- The files of the folder were opened, each that was used is safe, that of the slot was not given up for its sync, and the slot was given a device over
 -- them. One of another slot that is there and could not be opened was passed over only where the set, by the table on these files, calls its slot missing.
 pub record IsReplacedIn {F : Type 0} (growing : Ghosts F) (left : F → List ℕ) (Creates : (path : List ℕ) → Result (F × Before) CreateFault → Type 0)
     (folder : List ℕ) (Opens : (path : List ℕ) → Result (Option F) OpenFault → Type 0) (id : List ℕ) (slot : ℕ) : Type 0 where
-  pub taken : WereTaken growing.is_safe (TellsSame growing) (λ other. Opens (slot_path folder other)) (λ other. other ≡ slot)
+  pub taken : WereTaken growing (λ other. Opens (slot_path folder other)) (λ other. other ≡ slot)
       (λ files other. (other ≢ slot) × IsMissingOver growing left id files other)
   pub over : IsReplacedOver growing left Creates folder id slot taken.files
 
+-- The files of a folder were opened for reading alone, and the set of an id, or each set, was inspected on a bank whose run began with them; what was found was
+-- written, and so well are the sets.
+pub record IsExaminedIn {F : Type 0} (growing : Ghosts F) (left : F → List ℕ) (Inspects : (path : List ℕ) → Result (Option F) OpenFault → Type 0)
+    (folder : List ℕ) (id : Option (List ℕ)) (json : Bool) (was is : Option (List ℕ)) (before after : Health) : Type 0 where
+  pub files : List (Option F)
+  pub inspected : (slot : ℕ) → slot < 10 → Inspects (slot_path folder slot) (Ok (file_in files slot))
+  pub bank : BankView
+  pub begins : BeginsOver growing left files bank.history
+  pub examines : ExaminesOn (IsTrue growing.tells) id json bank was is
+  pub health : InspectsHealth (IsTrue growing.tells) id bank before after
+
 -- What a line asks for was done over the files of its folder, what it writes was written, and so well is the set of one that asks for it. The folder was
--- synced where a set was made, and where a slot was given a device. Inspected is what was opened for reading alone, on some bank of which nothing is known.
-abbrev pub IsDone : {F L : Type 0} → (growing : Ghosts F) (left : F → List ℕ) (Opens : (path : List ℕ) → Result (Option F) OpenFault → Type 0)
+-- synced where a set was made, and where a slot was given a device. Files that were opened for reading alone have a type of their own.
+abbrev pub IsDone : {F L : Type 0} → (growing : Ghosts F) (left : F → List ℕ) (reading : Ghosts L) (left_read : L → List ℕ)
+    (Opens : (path : List ℕ) → Result (Option F) OpenFault → Type 0)
     (Creates : (path : List ℕ) → Result (F × Before) CreateFault → Type 0) (Inspects : (path : List ℕ) → Result (Option L) OpenFault → Type 0)
     (IsSynced : (folder : List ℕ) → Type 0) → Invocation → (was is : Streams) (before after : Health) → Type 0
-IsDone growing left Opens Creates Inspects IsSynced (Make folder id members chunk stripes) was is before after =
+IsDone growing left reading left_read Opens Creates Inspects IsSynced (Make folder id members chunk stripes) was is before after =
     ((geometry : Geometry) × HasSizes members chunk stripes geometry × IsMadeIn growing left Creates folder.now Opens id geometry)
     × IsSynced folder.now × Appends was.contents is.contents made_line × (after ≡ before)
-IsDone growing left Opens Creates Inspects IsSynced (Replace folder id slot) was is before after =
+IsDone growing left reading left_read Opens Creates Inspects IsSynced (Replace folder id slot) was is before after =
     IsReplacedIn growing left Creates folder.now Opens id slot × IsSynced folder.now × Appends was.contents is.contents (reply_text Done) × (after ≡ before)
-IsDone growing left Opens Creates Inspects IsSynced (Examine folder id json check) was is before after =
-    WereOpened Inspects folder.now × IsExamined id json was.contents is.contents × ((bank : BankView) × InspectsHealth OfFiles id bank before after)
-IsDone growing left Opens Creates Inspects IsSynced line was is before after = IsServedOver growing left Opens line was is before after
+IsDone growing left reading left_read Opens Creates Inspects IsSynced (Examine folder id json check) was is before after =
+    IsExaminedIn reading left_read Inspects folder.now id json was.contents is.contents before after
+IsDone growing left reading left_read Opens Creates Inspects IsSynced line was is before after = IsServedOver growing left Opens line was is before after

@@ -1,6 +1,6 @@
 -- What becomes of the device files of a folder in a command over them.
-use Rattle.std.specs.Prelude.{◌≡◌, ◌⊎◌, ◌<◌, ◌≤◌, ◌+◌, ◌*◌, ℕ, Bool, List, Option, Result, Ok, Err, IfErr, IfSome, IsErr, IsOk, IsSome, IsSomeAnd, IsTrue}
-use Rattle.std.specs.Prelude.{OnOk, is_some}
+use Rattle.std.specs.Prelude.{◌≡◌, ◌⊎◌, ◌<◌, ◌≤◌, ◌+◌, ◌*◌, ℕ, Bool, List, Option, Result, Ok, Err, IfErr, IsSome, IsSomeAnd, IsTrue}
+use Rattle.std.specs.Prelude.{OnOk, false}
 use Rattle.std.specs.declared.io.Error.{Error}
 use Rattle.layout_map.specs.declared.geometry.Geometry.{Geometry}
 use Rattle.superblock.specs.Counted.{least_sectors}
@@ -9,29 +9,25 @@ use Rattle.device_files.specs.declared.FolderFault.TheVariants.{InUse, NoFile}
 use Rattle.device_files.specs.declared.Reason.{Reason}
 use Rattle.device_files.specs.declared.growing.Growing.{Ghosts}
 use Rattle.device_files.specs.declared.locked.Before.{Before}
+use Rattle.device_files.specs.declared.locked.UndoLog.{UndoLog}
 use Rattle.device_files.specs.declared.slot_files.CreateFault.{CreateFault}
 use Rattle.device_files.specs.declared.slot_files.OpenFault.{OpenFault}
-use Rattle.device_files.specs.DeviceFiles.{AreOthersKept, Begins, HasMade, IsCreated, IsNotedOf, IsOpenedAs, StaysOrMade, barred_in}
-use Rattle.device_files.specs.DeviceFiles.{before_in, file_in, lengthened, slot_path}
-use Rattle.device_files.specs.Faults.{IsUnmadeFile}
+use Rattle.device_files.specs.DeviceFiles.{AreOtherNotesKept, AreOthersKept, Begins, HasMade, IsCreated, IsNotedOf, StaysOrMade, WereMadeSafe}
+use Rattle.device_files.specs.DeviceFiles.{barred_in, before_in, file_in, flag_in, lengthened, slot_path}
+use Rattle.device_files.specs.Faults.{IsGivenUp, IsUnmadeFile}
 use Rattle.device_files.specs.SlotCalls.{TakesBack}
+use Rattle.raidtool.specs.Done.{IsUndone}
 
--- The files of ten slots were opened, each that was used is safe, and the same as when it was opened, none of which this holds was given up for its sync, and
--- one that is there was passed over because it could not be opened only where its slot may be lacking by the files that were used.
-pub record WereTaken {F : Type 0} (IsSafe : F → Type 0) (IsSame : F → F → Type 0) (Opens : (slot : ℕ) → Result (Option F) OpenFault → Type 0)
-    (IsNeeded : ℕ → Type 0) (MayLack : List (Option F) → ℕ → Type 0) : Type 0 where
-  pub opened : List (Option F)
+-- The files of ten slots were opened and made safe, and each that is there was used, none of which this holds was given up for its sync, and one that is there
+-- was passed over because it could not be opened only where its slot may be lacking by the files that were used.
+pub record WereTaken {F : Type 0} (growing : Ghosts F) (Opens : (slot : ℕ) → Result (Option F) OpenFault → Type 0) (IsNeeded : ℕ → Type 0)
+    (MayLack : List (Option F) → ℕ → Type 0) : Type 0 where
   pub files : List (Option F)
+  pub unsynced : List Bool
   pub barred : List (Option Reason)
-  pub opens : (slot : ℕ) → slot < 10 → IsOpenedAs (Opens slot) (file_in opened slot) (barred_in barred slot)
+  pub made_safe : WereMadeSafe growing.tells growing.told growing.is_safe (IsGivenUp growing.has_failed growing.sync_failed) Opens files unsynced barred
   pub passed : (slot : ℕ) → slot < 10 → IsSome (barred_in barred slot) → MayLack files slot
-  pub safe : (slot : ℕ) → slot < 10 → IfSome (file_in files slot) IsSafe
-  pub same : (slot : ℕ) → slot < 10 → IfSome (file_in files slot) (λ file. IsSomeAnd (file_in opened slot) (λ old. IsSame old file))
-  pub kept : (slot : ℕ) → slot < 10 → IsNeeded slot → is_some (file_in files slot) ≡ is_some (file_in opened slot)
-
--- the files of a folder's ten slots were opened: each is what the opening of its path came to
-abbrev pub WereOpened : {F Fault : Type 0} → (Opens : (path : List ℕ) → Result (Option F) Fault → Type 0) → (folder : List ℕ) → Type 0
-WereOpened Opens folder = (files : List (Option _)) × ((slot : ℕ) → slot < 10 → Opens (slot_path folder slot) (Ok (file_in files slot)))
+  pub kept : (slot : ℕ) → slot < 10 → IsNeeded slot → flag_in unsynced slot ≡ false
 
 -- that is noted of the file of a slot, or neither it nor what is noted of it was touched
 abbrev pub IsNotedIn : {F Fault : Type 0} → (told : F → List ℕ) (Creates : Result (F × Before) Fault → Type 0) → ℕ
@@ -79,30 +75,42 @@ pub record AreTakenBack {F : Type 0} (growing : Ghosts F) (Removes : (path : Lis
   pub result : Result (Unit {0}) Error
   pub taken_back : TakesBack growing.tells growing.told growing.has_failed Removes paths left is notes result
 
--- Files stay as they were left where a command was done, and what was noted of them was taken back where it was not. Over a bank that was dropped nothing is
--- known of what it left in its files.
-pub record AreSettled {F : Type 0} (growing : Ghosts F) (Removes : (path : List ℕ) → Result (Unit {0}) Error → Type 0) (paths : List (List ℕ))
-    (notes : List Before) (is : List (Option F)) (Done Undone : Type 0) : Type 0 where
-  pub left : List (Option F)
-  pub kept : Done → is ≡ left
-  pub undone : Undone → AreTakenBack growing Removes paths notes left is
-
--- the files of a set that was to be made over them, where that was done so or not: made, and kept; or taken back
-pub record MakesOrUndoes {F : Type 0} (growing : Ghosts F) (Creates : (path : List ℕ) → Result (F × Before) CreateFault → Type 0)
-    (Removes : (path : List ℕ) → Result (Unit {0}) Error → Type 0) (folder : List ℕ) (paths : List (List ℕ)) (geometry : Geometry)
-    (was : List (Option F)) (notes_were : List Before) (done : Result (Unit {0}) FolderFault) : Type 0 where
-  pub made : List (Option F)
-  pub notes : List Before
-  pub ready : Result (Unit {0}) FolderFault
-  pub leaves : LeavesFiles growing Creates folder geometry was made notes_were notes ready
-  pub is : List (Option F)
-  pub settled : AreSettled growing Removes paths notes is (IsOk done) (IsErr done)
-
--- The files of a folder over which a slot was to be given a device: the file of no other slot was touched before, and they were kept then; or taken back.
-pub record ReplacesOrUndoes {F : Type 0} (growing : Ghosts F) (Removes : (path : List ℕ) → Result (Unit {0}) Error → Type 0) (paths : List (List ℕ))
-    (slot : ℕ) (was : List (Option F)) (IsUndone : Type 0) : Type 0 where
+-- How a command ended over the files of a folder, as it made them ready by one step and was done over them by another: as that step was refused, and then
+-- what was noted was taken back from the files as that step left them; or, where the command was not done, from the files as the other one left them, of
+-- which nothing is known, since its bank was dropped. Where it was done, that was over the very files that were made ready, and the log is still there by
+-- which they would be taken back.
+pub record EndsOver {F : Type 0} (growing : Ghosts F) (Removes : (path : List ℕ) → Result (Unit {0}) Error → Type 0) (paths : List (List ℕ))
+    (Ready : (ready : Result (Unit {0}) FolderFault) (is : List (Option F)) (notes : List Before) → Type 0) (Does : List (Option F) → Type 0)
+    (is : List (Option F)) (log : Option UndoLog) (done : Result (Unit {0}) FolderFault) : Type 0 where
   pub prepared : List (Option F)
   pub notes : List Before
-  pub others : AreOthersKept was prepared slot
-  pub is : List (Option F)
-  pub settled : AreSettled growing Removes paths notes is (¬ IsUndone) IsUndone
+  pub ready : Result (Unit {0}) FolderFault
+  pub readied : Ready ready prepared notes
+  pub refused : (fault : FolderFault) → ready ≡ Err fault → (done ≡ Err fault) × AreTakenBack growing Removes paths notes prepared is
+  pub undone : IsUndone done → (left : List (Option F)) × AreTakenBack growing Removes paths notes left is
+  pub does : ¬ IsUndone done → Does prepared
+  pub kept : ¬ IsUndone done → IsSomeAnd log (λ one. one.before ≡ notes)
+
+-- the files of a set that was to be made over them were made long enough, and then kept or taken back; this was done over them
+abbrev pub MakesOrUndoes : {F : Type 0} → (growing : Ghosts F) (Creates : (path : List ℕ) → Result (F × Before) CreateFault → Type 0)
+    (Removes : (path : List ℕ) → Result (Unit {0}) Error → Type 0) (folder : List ℕ) (paths : List (List ℕ)) (geometry : Geometry)
+    (Does : List (Option F) → Type 0) (was : List (Option F)) (notes_were : List Before) (is : List (Option F)) (log : Option UndoLog)
+    (done : Result (Unit {0}) FolderFault) → Type 0
+MakesOrUndoes growing Creates Removes folder paths geometry Does was notes_were is log done =
+    EndsOver growing Removes paths (λ ready made notes. LeavesFiles growing Creates folder geometry was made notes_were notes ready) Does is log done
+
+-- of the file of a slot alone it was noted that it was created, if it was, and no other was touched
+pub record PreparesSlot {F : Type 0} (growing : Ghosts F) (Creates : (path : List ℕ) → Result (F × Before) CreateFault → Type 0) (folder : List ℕ) (slot : ℕ)
+    (was is : List (Option F)) (notes_were notes_are : List Before) : Type 0 where
+  pub others : AreOthersKept was is slot
+  pub noted : IsNotedIn growing.told (Creates (slot_path folder slot)) 0 (before_in notes_were slot) (file_in was slot) (file_in is slot)
+      (before_in notes_are slot)
+  pub other_notes : AreOtherNotesKept notes_were notes_are slot
+
+-- the file of a slot that was to be given a device was prepared, and then kept or taken back; this was done over the files
+abbrev pub ReplacesOrUndoes : {F : Type 0} → (growing : Ghosts F) (Creates : (path : List ℕ) → Result (F × Before) CreateFault → Type 0)
+    (Removes : (path : List ℕ) → Result (Unit {0}) Error → Type 0) (folder : List ℕ) (paths : List (List ℕ)) (slot : ℕ)
+    (Does : List (Option F) → Type 0) (was : List (Option F)) (notes_were : List Before) (is : List (Option F)) (log : Option UndoLog)
+    (done : Result (Unit {0}) FolderFault) → Type 0
+ReplacesOrUndoes growing Creates Removes folder paths slot Does was notes_were is log done =
+    EndsOver growing Removes paths (λ ready prepared notes. PreparesSlot growing Creates folder slot was prepared notes_were notes) Does is log done

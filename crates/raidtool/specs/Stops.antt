@@ -1,5 +1,5 @@
 -- What stops a command over the device files of a folder, and what is told of it.
-use Rattle.std.specs.Prelude.{◌≡◌, ◌⊎◌, ◌≤◌, ◌<◌, ◌+◌, ℕ, List, Option, Result, Err}
+use Rattle.std.specs.Prelude.{◌≡◌, ◌⊎◌, ◌≤◌, ◌<◌, ◌+◌, ℕ, List, Option, Some, Result, Ok, Err}
 use Rattle.sector_model.specs.declared.refusal.Refusal.{Refusal}
 use Rattle.sector_model.specs.declared.refusal.Refusal.TheVariants.{BadGeometry, Memory, NotUsable, Worn, WriteFault}
 use Rattle.report.specs.Replies.{refusal_line}
@@ -37,7 +37,8 @@ IsBlamed Opens Creates HasFailed folder (InUse slot) = Opens (slot_path folder s
     ⊎ Creates (slot_path folder slot) (Err CreateFault.Busy)
 IsBlamed Opens Creates HasFailed folder (NotOpened slot reason) = Opens (slot_path folder slot) (Err (OpenFault.Barred reason))
 IsBlamed Opens Creates HasFailed folder (NotRegular slot) = Opens (slot_path folder slot) (Err OpenFault.NotRegular)
-IsBlamed Opens Creates HasFailed folder (NotSafe slot shortage) = (file : _) × HasFailed file
+IsBlamed Opens Creates HasFailed folder (NotSafe slot shortage) =
+    ((opened : _) × Opens (slot_path folder slot) (Ok (Some opened))) × ((file : _) × HasFailed file)
 IsBlamed Opens Creates HasFailed folder fault = Unit {0}
 
 -- the file of a slot is named as not opened for reading only where that is what opening its path came to

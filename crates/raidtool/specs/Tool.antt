@@ -1,5 +1,5 @@
 -- What the program's exit status says, and what standard output and standard error get.
-use Rattle.std.specs.Prelude.{◌≡◌, ◌≢◌, ◌⊎◌, ◌<◌, ◌≤◌, ◌+◌, ◌++◌, ◌∷◌, ℕ, Bool, true, List, [], Option, None, Result, Ok, Err, IfSome, codes}
+use Rattle.std.specs.Prelude.{◌≡◌, ◌≢◌, ◌⊎◌, ◌≤◌, ◌++◌, ◌∷◌, ℕ, Bool, true, List, [], Option, None, Result, Ok, Err, IfSome, codes}
 use Rattle.std.specs.Io.KnownBytes.{Appends}
 use Rattle.clap.specs.Words.{Text}
 use Rattle.clap.specs.Values.{kind_of}
@@ -17,13 +17,13 @@ use Rattle.scrub.specs.Scrubbing.{Report}
 use Rattle.volume_table.specs.declared.status.Status.{Status as SetStatus}
 use Rattle.volume_table.specs.VolumeStep.{Done}
 use Rattle.command_line.specs.Invocations.{AsksFor}
-use Rattle.raidtool.specs.DoneOver.{folder_text}
 use Rattle.set_commands.specs.declared.serving.health.Health.{Health}
 use Rattle.set_commands.specs.declared.serving.health.Health.TheVariants.{Complete, Incomplete, Unassembled}
 use Rattle.set_commands.specs.Examining.{IsExamineEnd, IsInspectionText}
 use Rattle.set_commands.specs.Fresh.{IsFreshEnd}
 use Rattle.report.specs.Replies.{made_line, progress_line, refusal_line, reply_text, scrub_line}
 use Rattle.device_files.specs.Faults.{fault_line, IsToldLine}
+use Rattle.raidtool.specs.Causes.{folder_text}
 use Rattle.raidtool.specs.Stops.{IsBlamed, IsInspectionBlamed, IsMakeEnd, IsMakeFault, IsServeFault, IsSlotFault, IsTold}
 use Rattle.set_commands.specs.Serving.{IsEnd, IsFailEnd, IsRebuildEnd, IsReplaceEnd, IsScrubEnd, IsTellEnd, told_text}
 use Rattle.report.specs.Written.{AppendsPart}

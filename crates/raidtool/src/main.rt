@@ -13,6 +13,7 @@ mod console;
 mod make;
 mod replacing;
 mod tool;
+mod undoing;
 
 use console::{Output, Replies, Script};
 use device_files::SystemFolders;

@@ -13,15 +13,16 @@ ghost use Rattle.raidtool.specs.Causes.{IsCausedBy};
 ghost use Rattle.raidtool.specs.DoneOver.{IsMadeIn, IsMadeOver};
 ghost use Rattle.raidtool.specs.OtherSets.{IsAloneIn, IsMadeAlone, IsRefusedMake, IsUntoldIn};
 ghost use Rattle.raidtool.specs.Stops.{IsBlamed, IsFileFault, IsMakeFault, IsOtherFault, IsStoppedOver, IsUnmade};
-ghost use Rattle.raidtool.specs.FolderFiles.{AreSettled, AreTakenBack, LeavesFiles, MakesFiles, MakesOrUndoes};
+ghost use Rattle.raidtool.specs.FolderFiles.{LeavesFiles, MakesFiles, MakesOrUndoes};
 
 mod on_bank;
 mod other_set;
 
+use crate::undoing::{Ended, settle};
 use device_files::{
-    BankFile, Before, DeviceFiles, FolderFault, FolderSync, Growing, SLOTS, SlotFiles, SlotPaths,
-    bank_on, bank_to_look, bytes_of, lengthen_slot, open_folder, refuse_barred, refuse_unsynced,
-    slot_paths, sync_folders, undo,
+    BankFile, DeviceFiles, FolderFault, FolderSync, Growing, SLOTS, SlotFiles, SlotPaths, bank_on,
+    bank_to_inspect, bytes_of, lengthen_slot, open_folder, refuse_barred, refuse_unsynced,
+    slot_paths, sync_folders,
 };
 use layout_map::Geometry;
 use on_bank::make_alone;
@@ -99,7 +100,7 @@ where
     let files = open_folder(rt.alloc(), disk, folder)?;
     refuse_barred(&files, 0, SLOTS as u8)?;
     refuse_unsynced(&files, 0, geometry.members + 2)?;
-    make_or_undo(rt, disk, folder, &paths, id, geometry, files)
+    make_or_undo(rt, disk, folder, &paths, id, geometry, files).done
 }
 
 // Makes the set over the files of a folder, which have these paths, or takes back what was made of them.
@@ -111,36 +112,33 @@ fn make_or_undo<S, D>(
     id: [u8; 16],
     geometry: Geometry,
     files: DeviceFiles<D::File>,
-) -> Result<(), FolderFault>
+) -> Ended<D::File>
 where
     S: Meter + AllocGlobal,
     D: SlotFiles + FolderSync,
     D::File: BankFile,
     requires safe { AreAllSafe D.File.is_safe files.files.items }
-    ensures files { MakesOrUndoes ⟦<D::File as Growing>⟧ (D.creates disk.now) (D.removes disk.now) folder.now
-        (map string_bytes paths.now.paths.items) geometry files.files.items files.before result }
-    ensures synced { OnOk result (D.is_safe disk.now folder.now ⊎ D.is_never disk.now folder.now) }
-    ensures made { OnOk result
+    ensures ends { MakesOrUndoes ⟦<D::File as Growing>⟧ (D.creates disk.now) (D.removes disk.now) folder.now
+        (map string_bytes paths.now.paths.items) geometry
+        (λ made. IsMadeAlone (IsTrue D.File.tells) (BeginsOver ⟦<D::File as Growing>⟧ D.File.left made) id geometry)
+        files.files.items files.before result.files.items result.log result.done }
+    ensures synced { OnOk result.done (D.is_safe disk.now folder.now ⊎ D.is_never disk.now folder.now) }
+    ensures made { OnOk result.done
         (IsMadeOver ⟦<D::File as Growing>⟧ D.File.left (D.creates disk.now) folder.now id geometry files.files.items) }
-    ensures fault { IfErr result (IsUnmade geometry.members) }
-    ensures cause { IfErr result (IsCausedBy
+    ensures fault { IfErr result.done (IsUnmade geometry.members) }
+    ensures cause { IfErr result.done (IsCausedBy
         (IsRefusedMake (IsTrue D.File.tells) (BeginsSafely ⟦<D::File as Growing>⟧ D.File.left) id geometry)) }
-    ensures named { IfErr result (IsBlamed (D.opens disk.now) (D.creates disk.now) D.File.has_failed folder.now) }
+    ensures named { IfErr result.done (IsBlamed (D.opens disk.now) (D.creates disk.now) D.File.has_failed folder.now) }
 {
     let mut files = files;
     let ready = ready_files(rt.alloc(), disk, folder, &id, &geometry, &mut files);
-    let DeviceFiles {
-        files: mut open,
-        before,
-        ..
-    } = files;
+    let (mut open, log) = files.into_parts();
     match ready {
-        Ok(entry) => make_ready(rt, disk, paths, entry, id, geometry, &before, &mut open),
-        Err(fault) => {
-            let unmade = Err(fault);
-            undo_unmade(disk, paths, &before, &unmade, &mut open);
-            unmade
+        Ok(entry) => {
+            let made = make_over(rt, entry, id, geometry, &mut open);
+            settle(disk, paths, made, log, open)
         }
+        Err(fault) => settle(disk, paths, Err(fault), log, open),
     }
 }
 
@@ -173,36 +171,6 @@ where
     Ok(entry)
 }
 
-// Makes the set over files that are long enough, or takes back what was made of them.
-fn make_ready<S, D>(
-    rt: &S,
-    disk: &D,
-    paths: &SlotPaths,
-    entry: Entry,
-    id: [u8; 16],
-    geometry: Geometry,
-    before: &[Before; SLOTS],
-    files: &mut [Option<D::File>],
-) -> Result<(), FolderFault>
-where
-    S: Meter + AllocGlobal,
-    D: SlotFiles,
-    D::File: BankFile,
-    requires ten { length files.old ≡ 10 }
-    requires safe { AreAllSafe D.File.is_safe files.old }
-    ensures settled { AreSettled ⟦<D::File as Growing>⟧ (D.removes disk.now) (map string_bytes paths.now.paths.items)
-        before.now files.new (IsOk result) (IsErr result) }
-    ensures made { OnOk result (IsMadeAlone (IsTrue D.File.tells)
-        (BeginsOver ⟦<D::File as Growing>⟧ D.File.left files.old) id geometry) }
-    ensures stopped { IfErr result (IsStoppedOver geometry.members) }
-    ensures cause { IfErr result (IsCausedBy
-        (IsRefusedMake (IsTrue D.File.tells) (BeginsSafely ⟦<D::File as Growing>⟧ D.File.left) id geometry)) }
-{
-    let made = make_over(rt, entry, id, geometry, files);
-    undo_unmade(disk, paths, before, &made, files);
-    made
-}
-
 // Makes the set over files that are long enough, and takes nothing back.
 fn make_over<S, F>(
     rt: &S,
@@ -227,23 +195,6 @@ where
     Ok(())
 }
 
-// Takes back what was made of files, where the set was not made. A fault of that has no place to be told.
-fn undo_unmade<D: SlotFiles>(
-    disk: &D,
-    paths: &SlotPaths,
-    before: &[Before; SLOTS],
-    made: &Result<(), FolderFault>,
-    files: &mut [Option<D::File>],
-)
-    ensures kept { OnOk made.now (files.new ≡ files.old) }
-    ensures undone { OnErr made.now (AreTakenBack ⟦<D::File as Growing>⟧ (D.removes disk.now)
-        (map string_bytes paths.now.paths.items) before.now files.old files.new) }
-{
-    if made.is_err() {
-        let _ = undo(disk, paths, before, files);
-    }
-}
-
 // Refuses a slot from this one on that has a superblock of this id, before a file is touched.
 fn refuse_other_set<F: BankFile>(
     alloc: Global,
@@ -258,7 +209,7 @@ fn refuse_other_set<F: BankFile>(
     ensures cause { IfErr result (IsCausedBy (IsUntoldIn (IsTrue F.tells)
         (BeginsOver ⟦<F as Growing>⟧ F.left files.now.files.items) id.now first)) }
 {
-    let mut bank = bank_to_look(alloc, files)?;
+    let mut bank = bank_to_inspect(alloc, files)?;
     refuse_other(&mut bank, id, first)
 }
 

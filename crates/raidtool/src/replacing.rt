@@ -7,19 +7,20 @@ ghost use Rattle.sector_model.specs.declared.refusal.Refusal.TheVariants.{Memory
 ghost use Rattle.device_files.specs.BankFiles.{AreAllSafe};
 ghost use Rattle.device_files.specs.DeviceFiles.{AreOthersKept, IsLinkSynced, IsNoTableIn};
 ghost use Rattle.device_files.specs.DeviceFiles.{slot_path};
-ghost use Rattle.raidtool.specs.FolderFiles.{AreSettled, AreTakenBack, ReplacesOrUndoes};
+ghost use Rattle.raidtool.specs.FolderFiles.{PreparesSlot, ReplacesOrUndoes};
 ghost use Rattle.raidtool.specs.Needs.{AreOthersWhole, FindsNeed, IsNeed, IsWhole};
 ghost use Rattle.raidtool.specs.Begun.{BeginsOver, IsNoTableOver};
 ghost use Rattle.raidtool.specs.Causes.{IsCauseOfReplace, IsCausedBy, IsReplaceRefused};
 ghost use Rattle.raidtool.specs.DoneOver.{IsPrepared, IsReplacedIn, IsReplacedOn, IsReplacedOver};
-ghost use Rattle.raidtool.specs.Done.{IsNeedIn, IsUndone};
+ghost use Rattle.raidtool.specs.Done.{IsNeedIn};
 ghost use Rattle.raidtool.specs.Replacing.{Replaces};
 ghost use Rattle.raidtool.specs.Stops.{HasPassed, IsBlamed, IsPreparingRefusal, IsRefusal, IsSlotFault};
 
+use crate::undoing::{Ended, settle};
 use device_files::{
-    BankFile, Before, DeviceFiles, FolderFault, FolderSync, Growing, SLOTS, SlotFiles, SlotPaths,
-    bank_on, bank_to_look, bytes_of, open_folder, pass_over, refuse_barred, refuse_unsynced,
-    renew_slot, slot_paths, sync_folders, undo,
+    BankFile, DeviceFiles, FolderFault, FolderSync, Growing, SlotFiles, SlotPaths, bank_on,
+    bank_to_inspect, bytes_of, open_folder, pass_over, refuse_barred, refuse_unsynced, renew_slot,
+    slot_paths, sync_folders,
 };
 use recovery::chosen_table;
 use sector_model::{Bank, Refusal};
@@ -64,12 +65,24 @@ where
         (IsBlamed (D.opens disk.now) (D.creates disk.now) D.File.has_failed folder.now)
         W.contents slot out.old out.new result }
 {
+    let entry = Entry::new(rt.alloc())?;
     let paths = slot_paths(rt.alloc(), folder)?;
     let files = open_folder(rt.alloc(), disk, folder)?;
     refuse_barred(&files, slot, slot.saturating_add(1))?;
     refuse_unsynced(&files, slot, slot.saturating_add(1))?;
     pass_over(rt.alloc(), &files, id, err)?;
-    replace_or_undo(rt.alloc(), disk, folder, &paths, id, slot, files, out)
+    replace_or_undo(
+        rt.alloc(),
+        disk,
+        folder,
+        &paths,
+        entry,
+        id,
+        slot,
+        files,
+        out,
+    )
+    .done
 }
 
 // Replaces the device of a slot over the files of a folder, which have these paths, or takes back what was made of
@@ -79,121 +92,37 @@ fn replace_or_undo<D, W: Write>(
     disk: &D,
     folder: &str,
     paths: &SlotPaths,
+    entry: Entry,
     id: [u8; 16],
     slot: u8,
     files: DeviceFiles<D::File>,
     out: &mut W,
-) -> Result<(), FolderFault>
+) -> Ended<D::File>
 where
     D: SlotFiles + FolderSync,
     D::File: BankFile,
     requires safe { AreAllSafe D.File.is_safe files.files.items }
-    ensures files { ReplacesOrUndoes ⟦<D::File as Growing>⟧ (D.removes disk.now)
-        (map string_bytes paths.now.paths.items) slot files.files.items (IsUndone result) }
+    ensures ends { ReplacesOrUndoes ⟦<D::File as Growing>⟧ (D.creates disk.now) (D.removes disk.now) folder.now
+        (map string_bytes paths.now.paths.items) slot
+        (λ prepared. IsReplacedOn ⟦<D::File as Growing>⟧ D.File.left prepared id slot)
+        files.files.items files.before result.files.items result.log result.done }
     ensures replaces { Replaces
         (IsReplacedOver ⟦<D::File as Growing>⟧ D.File.left (D.creates disk.now) folder.now id slot files.files.items)
         (D.is_safe disk.now folder.now ⊎ D.is_never disk.now folder.now)
         (IsCauseOfReplace ⟦<D::File as Growing>⟧ D.File.left id slot)
         (IsBlamed (D.opens disk.now) (D.creates disk.now) D.File.has_failed folder.now)
-        W.contents slot out.old out.new result }
+        W.contents slot out.old out.new result.done }
 {
     let mut files = files;
-    let ready = ready_slot(alloc, disk, folder, id, slot, &mut files);
-    let DeviceFiles {
-        files: mut open,
-        before,
-        ..
-    } = files;
+    let ready = prepare_file(alloc, disk, folder, id, slot, &mut files);
+    let (mut open, log) = files.into_parts();
     match ready {
-        Ok(entry) => replace_ready(alloc, disk, paths, entry, id, slot, &before, &mut open, out),
-        Err(fault) => {
-            let unmade = Err(fault);
-            undo_undone(disk, paths, &before, &unmade, &mut open);
-            unmade
+        Ok(()) => {
+            let done = replace_over(alloc, entry, id, slot, &mut open, out);
+            settle(disk, paths, done, log, open)
         }
+        Err(fault) => settle(disk, paths, Err(fault), log, open),
     }
-}
-
-// Makes the file of a slot anew where it has to be; its device is not replaced yet.
-fn ready_slot<D>(
-    alloc: Global,
-    disk: &D,
-    folder: &str,
-    id: [u8; 16],
-    slot: u8,
-    files: &mut DeviceFiles<D::File>,
-) -> Result<Entry, FolderFault>
-where
-    D: SlotFiles + FolderSync,
-    D::File: BankFile,
-    requires safe { AreAllSafe D.File.is_safe files.old.files.items }
-    ensures prepared { OnOk result (IsPrepared ⟦<D::File as Growing>⟧ D.File.left (D.creates disk.now) folder.now
-        id slot files.old.files.items files.new.files.items) }
-    ensures safe { OnOk result (AreAllSafe D.File.is_safe files.new.files.items) }
-    ensures synced { OnOk result (D.is_safe disk.now folder.now ⊎ D.is_never disk.now folder.now) }
-    ensures others { AreOthersKept files.old.files.items files.new.files.items slot }
-    ensures fault { IfErr result (IsSlotFault IsPreparingRefusal slot) }
-    ensures cause { IfErr result (IsCausedBy (IsNoTableOver ⟦<D::File as Growing>⟧ D.File.left id)) }
-    ensures named { IfErr result (IsBlamed (D.opens disk.now) (D.creates disk.now) D.File.has_failed folder.now) }
-{
-    let entry = Entry::new(alloc)?;
-    prepare_file(alloc, disk, folder, id, slot, files)?;
-    Ok(entry)
-}
-
-// Replaces the device of a slot over files that are prepared, or takes back what was made of them.
-fn replace_ready<D, W: Write>(
-    alloc: Global,
-    disk: &D,
-    paths: &SlotPaths,
-    entry: Entry,
-    id: [u8; 16],
-    slot: u8,
-    before: &[Before; SLOTS],
-    files: &mut [Option<D::File>],
-    out: &mut W,
-) -> Result<(), FolderFault>
-where
-    D: SlotFiles,
-    D::File: BankFile,
-    requires ten { length files.old ≡ 10 }
-    requires safe { AreAllSafe D.File.is_safe files.old }
-    ensures settled { AreSettled ⟦<D::File as Growing>⟧ (D.removes disk.now) (map string_bytes paths.now.paths.items)
-        before.now files.new (¬ IsUndone result) (IsUndone result) }
-    ensures replaces { Replaces (IsReplacedOn ⟦<D::File as Growing>⟧ D.File.left files.old id slot) ⊤
-        (IsReplaceRefused ⟦<D::File as Growing>⟧ D.File.left id slot) (λ fault. IsRefusal fault)
-        W.contents slot out.old out.new result }
-{
-    let done = replace_over(alloc, entry, id, slot, files, out);
-    undo_undone(disk, paths, before, &done, files);
-    done
-}
-
-// Takes back what was made of files, where a slot was not given its device. A fault of that has no place to be told.
-fn undo_undone<D: SlotFiles>(
-    disk: &D,
-    paths: &SlotPaths,
-    before: &[Before; SLOTS],
-    done: &Result<(), FolderFault>,
-    files: &mut [Option<D::File>],
-)
-    ensures kept { ¬ IsUndone done.now → files.new ≡ files.old }
-    ensures undone { IsUndone done.now → AreTakenBack ⟦<D::File as Growing>⟧ (D.removes disk.now)
-        (map string_bytes paths.now.paths.items) before.now files.old files.new }
-{
-    if is_undone(done) {
-        let _ = undo(disk, paths, before, files);
-    }
-}
-
-// Whether a slot was not given its device.
-fn is_undone(done: &Result<(), FolderFault>) -> bool
-    ensures { result ≡ true ↔ IsUndone done.now }
-{
-    !matches!(
-        done,
-        Ok(()) | Err(FolderFault::Refused(Refusal::WriteFault))
-    )
 }
 
 // Replaces the device of a slot over files that are prepared, and takes nothing back.
@@ -236,7 +165,8 @@ where
     ensures synced { OnOk result (D.is_safe disk.now folder.now ⊎ D.is_never disk.now folder.now) }
     ensures linked { slot < 10 → OnOk result (IsLinkSynced (D.is_no_link disk.now) (D.leads_to disk.now)
         (λ folder. D.is_safe disk.now folder ⊎ D.is_never disk.now folder) (slot_path folder.now slot)) }
-    ensures others { AreOthersKept files.old.files.items files.new.files.items slot }
+    ensures prepares { PreparesSlot ⟦<D::File as Growing>⟧ (D.creates disk.now) folder.now slot
+        files.old.files.items files.new.files.items files.old.before files.new.before }
     ensures fault { IfErr result (IsSlotFault IsPreparingRefusal slot) }
     ensures cause { IfErr result (IsCausedBy (IsNoTableOver ⟦<D::File as Growing>⟧ D.File.left id)) }
     ensures named { IfErr result (IsBlamed (D.opens disk.now) (D.creates disk.now) D.File.has_failed folder.now) }
@@ -263,7 +193,7 @@ fn need_over<F: BankFile>(
     ensures cause { IfErr result (λ refusal. refusal ≢ Memory → IsNoTableIn (IsTrue F.tells)
         (BeginsOver ⟦<F as Growing>⟧ F.left files.now.files.items) id refusal) }
 {
-    let mut bank = bank_to_look(alloc, files)?;
+    let mut bank = bank_to_inspect(alloc, files)?;
     need_on(&mut bank, id, slot)
 }
 

@@ -8,11 +8,12 @@ ghost use Rattle.command_line.specs.declared.Invocation.{Invocation};
 ghost use Rattle.command_line.specs.declared.InvocationFault.{InvocationFault};
 ghost use Rattle.device_files.specs.declared.FolderFault.{FolderFault};
 ghost use Rattle.command_line.specs.Invocations.{AsksFor, IsFaultOf};
-ghost use Rattle.raidtool.specs.FolderFiles.{WereOpened};
-ghost use Rattle.raidtool.specs.Causes.{HasCause, IsCauseOfExamine, IsCauseOn, IsCaused, IsCausedBy, IsPlainEnd};
-ghost use Rattle.raidtool.specs.Causes.{id_text};
-ghost use Rattle.raidtool.specs.Done.{DoesOn, IsExamined, IsPartExamined};
-ghost use Rattle.raidtool.specs.DoneOver.{HealthOf, IsDone, IsServedOver, folder_text};
+ghost use Rattle.device_files.specs.DeviceFiles.{slot_path};
+ghost use Rattle.raidtool.specs.Begun.{BeginsInspected};
+ghost use Rattle.raidtool.specs.Causes.{HasCause, IsCauseOfExamine, IsCauseOn, IsCauseOver, IsCaused, IsCausedBy};
+ghost use Rattle.raidtool.specs.Causes.{IsPlainEnd, folder_text, id_text};
+ghost use Rattle.raidtool.specs.Done.{DoesOn, IsPartExamined};
+ghost use Rattle.raidtool.specs.DoneOver.{HealthOf, IsDone, IsExaminedIn, IsServedOver};
 ghost use Rattle.set_commands.specs.Examining.{IsExamineEnd};
 ghost use Rattle.device_files.specs.Faults.{IsToldLine};
 ghost use Rattle.raidtool.specs.Stops.{HasPassed, IsBlamed, IsInspectionBlamed, IsServeFault, IsTold, IsToldAfter};
@@ -24,16 +25,13 @@ ghost use Rattle.raidtool.specs.Tool.{ComesFirst, IsAsked, IsBlamedIn, IsCutOff,
 ghost use Rattle.raidtool.specs.Tool.{IsFirst, IsMemoryFault, IsMisshapen, IsPartWritten, IsRun, PassesNone, IsServed};
 ghost use Rattle.raidtool.specs.Tool.{IsServing, IsStopOf, IsWritten, WasRefused, WasStopped, bad_id_line};
 ghost use Rattle.raidtool.specs.Tool.{IsChecked, WasUnassembled, checked_status};
-ghost use Rattle.set_commands.specs.Healths.{InspectsHealth};
-ghost use Rattle.raidtool.specs.Done.{OfFiles};
-ghost use Rattle.recovery.specs.Making.{BankView};
 
 use crate::make::make_set;
 use crate::replacing::replace_in_folder;
 use clap::error::ErrorKind;
 use command_line::{Invocation, InvocationFault, parse_invocation};
 use device_files::{
-    BankFile, FolderFault, FolderSync, Growing, InspectFiles, SlotFiles, bank_on, bank_to_read,
+    BankFile, FolderFault, FolderSync, Growing, InspectFiles, SlotFiles, bank_on, bank_to_inspect,
     folder_status, inspect_folder, open_folder, pass_over,
 };
 use layout_map::Geometry;
@@ -85,7 +83,8 @@ where
     // 0: it was asked for and done, a script was read to its end, and what the line writes was written.
     ensures done { result ≡ 0 → IsAsked (texts words.now) }
     ensures does { (line : Invocation) → AsksFor (texts words.now) line → result ≡ 0 → (health : Health)
-        × IsDone ⟦<D::File as Growing>⟧ D.File.left (D.opens disk.now) (D.creates disk.now) (D.inspects disk.now)
+        × IsDone ⟦<D::File as Growing>⟧ D.File.left ⟦<D::InspectedFile as Growing>⟧ D.InspectedFile.left
+        (D.opens disk.now) (D.creates disk.now) (D.inspects disk.now)
         (λ folder. D.is_safe disk.now folder ⊎ D.is_never disk.now folder)
         line (streams (R.remaining reader.old) (W.contents out.old))
         (streams (R.remaining reader.new) (W.contents out.new)) Health.Complete health }
@@ -100,7 +99,9 @@ where
         → IsWritten line (W.contents out.old) (W.contents out.new) }
 
     // 1: it was asked for, or memory ran out, and a refusal that has its cause was told, or the fault of a device file.
-    ensures refused { result ≡ 1 → WasRefused (IsEndOf (IsCaused ⟦<D::File as Growing>⟧ D.File.left) (texts words.now))
+    ensures refused { result ≡ 1 → WasRefused (IsEndOf (IsCaused ⟦<D::File as Growing>⟧ D.File.left
+        ⟦<D::InspectedFile as Growing>⟧ D.InspectedFile.left (D.opens disk.now) (D.inspects disk.now))
+        (texts words.now))
         (λ text. IsToldAfter E.contents text err.old err.new) ((reader.new ≡ reader.old) × (out.new ≡ out.old))
         ⊎ WasStopped (texts words.now) (IsBlamedIn (D.opens disk.now) (D.creates disk.now)
         D.File.has_failed (D.inspects disk.now))
@@ -124,20 +125,24 @@ where
     // says that each is complete.
     ensures checked { (line : Invocation) → AsksFor (texts words.now) line → 3 ≤ result → IsChecked line }
     ensures incomplete { (line : Invocation) → AsksFor (texts words.now) line → result ≡ 3
-        → IsDone ⟦<D::File as Growing>⟧ D.File.left (D.opens disk.now) (D.creates disk.now) (D.inspects disk.now)
+        → IsDone ⟦<D::File as Growing>⟧ D.File.left ⟦<D::InspectedFile as Growing>⟧ D.InspectedFile.left
+        (D.opens disk.now) (D.creates disk.now) (D.inspects disk.now)
         (λ folder. D.is_safe disk.now folder ⊎ D.is_never disk.now folder)
         line (streams (R.remaining reader.old) (W.contents out.old))
         (streams (R.remaining reader.new) (W.contents out.new)) Health.Complete Health.Incomplete }
     ensures unassembled { (line : Invocation) → AsksFor (texts words.now) line → result ≡ 4
         → WasUnassembled
-        (IsDone ⟦<D::File as Growing>⟧ D.File.left (D.opens disk.now) (D.creates disk.now) (D.inspects disk.now)
+        (IsDone ⟦<D::File as Growing>⟧ D.File.left ⟦<D::InspectedFile as Growing>⟧ D.InspectedFile.left
+        (D.opens disk.now) (D.creates disk.now) (D.inspects disk.now)
         (λ folder. D.is_safe disk.now folder ⊎ D.is_never disk.now folder)
         line (streams (R.remaining reader.old) (W.contents out.old))
         (streams (R.remaining reader.new) (W.contents out.new)) Health.Complete Health.Unassembled)
-        (IsCaused ⟦<D::File as Growing>⟧ D.File.left line)
+        (IsCaused ⟦<D::File as Growing>⟧ D.File.left ⟦<D::InspectedFile as Growing>⟧ D.InspectedFile.left
+        (D.opens disk.now) (D.inspects disk.now) line)
         (HasPassed E.contents err.old err.new) (λ text. IsToldAfter E.contents text err.old err.new) }
     ensures complete { (line : Invocation) → AsksFor (texts words.now) line → IsChecked line → result ≡ 0
-        → IsDone ⟦<D::File as Growing>⟧ D.File.left (D.opens disk.now) (D.creates disk.now) (D.inspects disk.now)
+        → IsDone ⟦<D::File as Growing>⟧ D.File.left ⟦<D::InspectedFile as Growing>⟧ D.InspectedFile.left
+        (D.opens disk.now) (D.creates disk.now) (D.inspects disk.now)
         (λ folder. D.is_safe disk.now folder ⊎ D.is_never disk.now folder)
         line (streams (R.remaining reader.old) (W.contents out.old))
         (streams (R.remaining reader.new) (W.contents out.new)) Health.Complete Health.Complete }
@@ -182,14 +187,16 @@ where
     S: Meter + AllocGlobal,
     D: SlotFiles + InspectFiles + FolderSync,
     D::File: BankFile,
-    ensures does { OnOk result (IsDone ⟦<D::File as Growing>⟧ D.File.left (D.opens disk.now) (D.creates disk.now)
-        (D.inspects disk.now)
+    ensures does { OnOk result (IsDone ⟦<D::File as Growing>⟧ D.File.left
+        ⟦<D::InspectedFile as Growing>⟧ D.InspectedFile.left
+        (D.opens disk.now) (D.creates disk.now) (D.inspects disk.now)
         (λ folder. D.is_safe disk.now folder ⊎ D.is_never disk.now folder)
         line.entry (streams (R.remaining reader.old) (W.contents out.old))
         (streams (R.remaining reader.new) (W.contents out.new)) health.old health.new) }
     ensures read { IsRun line.entry → R.remaining reader.old ≢ None → OnOk result (R.remaining reader.new ≡ Some []) }
     ensures stopped { IfErr result (IsStopOf line.entry) }
-    ensures cause { IfErr result (IsCausedBy (HasCause ⟦<D::File as Growing>⟧ D.File.left line.entry)) }
+    ensures cause { IfErr result (IsCausedBy (HasCause ⟦<D::File as Growing>⟧ D.File.left
+        ⟦<D::InspectedFile as Growing>⟧ D.InspectedFile.left (D.opens disk.now) (D.inspects disk.now) line.entry)) }
     ensures named { IfErr result (IsBlamedIn (D.opens disk.now) (D.creates disk.now)
         D.File.has_failed (D.inspects disk.now) line.entry) }
     ensures alone { IfErr result (λ fault. IsFirst fault → (reader.new ≡ reader.old) × (out.new ≡ out.old)) }
@@ -271,18 +278,23 @@ fn examine_folder<D: InspectFiles, W: Write>(
     out: &mut W,
     health: &mut Health,
 ) -> Result<(), FolderFault>
-    ensures health { OnOk result ((bank : BankView) × InspectsHealth OfFiles id bank health.old health.new) }
-    ensures inspected { OnOk result (WereOpened (D.inspects disk.now) folder.now) }
-    ensures examined { OnOk result (IsExamined id json (W.contents out.old) (W.contents out.new)) }
+    ensures examined { OnOk result (IsExaminedIn ⟦<D::InspectedFile as Growing>⟧ D.InspectedFile.left
+        (D.inspects disk.now) folder.now id json (W.contents out.old) (W.contents out.new) health.old health.new) }
     ensures stopped { IfErr result (IsServeFault IsExamineEnd) }
-    ensures cause { IfErr result (IsCausedBy (IsCauseOfExamine id json)) }
+    ensures cause { IfErr result (IsCausedBy
+        (IsCauseOfExamine ⟦<D::InspectedFile as Growing>⟧ D.InspectedFile.left
+        (D.inspects disk.now) folder.now id json)) }
     ensures named { IfErr result (IsInspectionBlamed (D.inspects disk.now) folder.now) }
     ensures unwritten { IfErr result (λ fault. fault ≢ FolderFault.Refused Refusal.WriteFault → out.new ≡ out.old) }
     ensures cut { IfErr result (λ fault. fault ≡ FolderFault.Refused Refusal.WriteFault
-        → IsPartExamined id json (W.contents out.old) (W.contents out.new)) }
+        → IsPartExamined (IsTrue D.InspectedFile.tells)
+        (BeginsInspected ⟦<D::InspectedFile as Growing>⟧ D.InspectedFile.left
+        (λ slot. D.inspects disk.now (slot_path folder.now slot)))
+        id json
+        (W.contents out.old) (W.contents out.new)) }
 {
     let files = inspect_folder(alloc, disk, folder)?;
-    let bank = bank_to_read(alloc, &files)?;
+    let bank = bank_to_inspect(alloc, &files)?;
     examine_on(alloc, bank, id, json, out, health)?;
     Ok(())
 }
@@ -309,7 +321,8 @@ where
     ensures passed { HasPassed E.contents err.old err.new }
     ensures read { IsRun line.entry → R.remaining reader.old ≢ None → OnOk result (R.remaining reader.new ≡ Some []) }
     ensures stopped { IfErr result (IsStopOf line.entry) }
-    ensures cause { IfErr result (IsCausedBy (HasCause ⟦<D::File as Growing>⟧ D.File.left line.entry)) }
+    ensures cause { IfErr result (IsCausedBy
+        (IsCauseOver ⟦<D::File as Growing>⟧ D.File.left (D.opens disk.now) line.entry)) }
     ensures named { IfErr result (IsBlamed (D.opens disk.now) (D.creates disk.now)
         D.File.has_failed (folder_text line.entry)) }
     ensures alone { IfErr result (λ fault. IsFirst fault → (reader.new ≡ reader.old) × (out.new ≡ out.old)) }

@@ -9,6 +9,7 @@ use Rattle.array_io.specs.Believed.Views.{ArrayView, EndsIt}
 use Rattle.recovery.specs.Making as recovery
 use Rattle.recovery.specs.Making.{BankView}
 use Rattle.recovery.specs.Assembling.{Assembles}
+use Rattle.recovery.specs.Unwritten.{RefusesUnwritten}
 use Rattle.rebuild.specs.Rebuilding.{Progress}
 use Rattle.scrub.specs.Scrubbing.{Report}
 use Rattle.volume_table.specs.declared.status.Status.{Status}
@@ -24,22 +25,25 @@ use Rattle.set_commands.specs.Run.{HasRun, StoppedByStore, Streams}
 use Rattle.set_commands.specs.Steps.{Rebuilds}
 use Rattle.report.specs.Written.{AppendsPart}
 
--- a set was assembled on a bank, and its volumes opened
+-- a set was assembled on a bank, where there was none to refuse before a write, and its volumes opened
 pub record IsOpened (honest : Type 0) (id : List ℕ) (bank : BankView) (store : StoreView) : Type 0 where
   pub array : ArrayView
   pub assembles : Assembles honest id bank (recovery.Opened array)
+  pub unwritten : RefusesUnwritten honest id bank (recovery.Opened array)
   pub opens : Opens honest array (Opened store)
 
 -- no set was assembled, for this refusal
 pub record IsUnassembled (honest : Type 0) (id : List ℕ) (bank : BankView) (refusal : Refusal) : Type 0 where
   pub back : BankView
   pub assembles : Assembles honest id bank (recovery.Returned back refusal)
+  pub unwritten : RefusesUnwritten honest id bank (recovery.Returned back refusal)
 
 -- a set was assembled, and its volumes could not be opened, for this refusal
 pub record IsUnread (honest : Type 0) (id : List ℕ) (bank : BankView) (refusal : Refusal) : Type 0 where
   pub array : ArrayView
   pub back : BankView
   pub assembles : Assembles honest id bank (recovery.Opened array)
+  pub unwritten : RefusesUnwritten honest id bank (recovery.Opened array)
   pub opens : Opens honest array (Returned back refusal)
 
 -- why there is no store on a bank

@@ -2,7 +2,7 @@
 ghost use Rattle.std.specs.Prelude.{◌≡◌, ◌<◌, IfOk, IfSome, true};
 ghost use Rattle.device_files.specs.BankFiles.{AreAllSafe};
 
-use super::{bank_on, bank_to_look};
+use super::{bank_on, bank_to_inspect};
 use crate::testing::same;
 use crate::{Before, DeviceFiles, HeldFile, SLOTS};
 use sector_model::{Bank, flush_device, read_sector, write_sector};
@@ -90,7 +90,7 @@ fn byte_at(file: &HeldFile, place: usize) -> u8 {
 #[test]
 fn a_bank_over_files_in_memory(rt: HostRuntime) {
     let files = files_of(rt.alloc()).expect(&rt, "memory");
-    match bank_to_look(rt.alloc(), &files) {
+    match bank_to_inspect(rt.alloc(), &files) {
         Ok(mut bank) => {
             let found = (read_second(&mut bank), write_second(&mut bank));
             same(&rt, found, (7, false));

@@ -11,12 +11,11 @@ use device_files::{
     Before, CreateFault, FolderSync, HeldFile, InspectFiles, Lock, OpenFault, SlotFiles,
 };
 use set_commands::Meter;
-use std::fs::{self, OpenOptions};
-use std::io;
 use std::os::unix::fs::FileExt;
 use std::path::PathBuf;
 use std::process::Abort;
 use std::rt::Files;
+use std::{fs, io};
 
 // A disk that opens a copy of each file of the system's, and keeps nothing of it.
 #[derive(Drop)]
@@ -60,16 +59,18 @@ where
 impl<S> InspectFiles for Copies<'_, S>
 where
     S: Files + AllocGlobal,
-    S::File: FileExt,
 {
     ghost use Rattle.std.specs.Prelude.{⊤};
 
-    type InspectedFile = S::File;
+    type InspectedFile = HeldFile;
 
     ghost inspects = { λ _ _ _. ⊤ };
 
-    fn inspect(&self, path: &str) -> Result<Option<S::File>, OpenFault> {
-        Ok(OpenOptions::new().read(true).open(self.rt, path).ok())
+    fn inspect(&self, path: &str) -> Result<Option<HeldFile>, OpenFault> {
+        let Ok(bytes) = fs::read(self.rt, path) else {
+            return Ok(None);
+        };
+        Ok(HeldFile::new(self.rt.alloc(), &bytes).ok())
     }
 }
 
@@ -125,6 +126,20 @@ where
     same(rt, said.as_slice(), text.as_bytes());
 }
 
+// The 64 blocks of a volume are zeroed by two entries, a third one has the table, and a fourth one the block that is
+// written.
+const INSPECTED: &str = "\
+set 000102030405060708090a0b0c0d0e0f
+members 3 chunk 8 stripes 32 rows 256
+generation 1 position 0 left 0
+ 0 member   there generation 1 incarnation 1 live
+ 1 member   there generation 1 incarnation 1 live
+ 2 member   there generation 1 incarnation 1 live
+ 3 journal  there generation 1 incarnation 1 entry 4 live
+ 4 journal  there generation 1 incarnation 1 entry 4 live
+would assemble: complete
+";
+
 static A_SET: &[Step] = &[
     Line(MAKE, UNREAD, 0, MADE),
     Line(RUN, "create a 64\nwrite a 8 33*512\n", 0, "ok\nok\n"),
@@ -139,6 +154,7 @@ fn lines_over_files_in_memory(rt: HostRuntime) {
     all_go(&rt, &folder, A_SET);
     is_said(&rt, &folder, RUN, "read a 8 1\n", "33*512\n");
     is_said(&rt, &folder, SCRUB, UNREAD, SOUND);
+    is_said(&rt, &folder, "examine|@", UNREAD, INSPECTED);
     is_said(&rt, &folder, MAKE, UNREAD, MADE);
     all_go(&rt, &folder, WITHOUT_A_MEMBER);
     is_said(&rt, &folder, REPLACE_2, UNREAD, OK);

@@ -1,7 +1,8 @@
 use Rattle.std.proofs.Common.{◌<◌, ◌≤◌, ◌∙◌, IfSome, arith, subst}
+use Rattle.std.proofs.lemmas.Result.{err_from_is_err_and}
 use Rattle.device_files.specs.DeviceFiles.{IsMadeSafe, file_in, flag_in}
 use Rattle.device_files.specs.Faults.{IsGivenUp}
-use Rattle.device_files.proofs.MadeSafe.{safe_next}
+use Rattle.device_files.proofs.MadeSafe.{safe_next, unsafe_at}
 use Rattle.device_files.proofs.SlotBySlot.{kept_at, untouched_next}
 use Rattle.device_files.proofs.opening.make_safe.Goals as goal
 
@@ -27,3 +28,10 @@ loop-slot-preserved g c =
       noted = done.noted ∙ inv.noted;
       barred = done.barred ∙ inv.barred;
     }
+
+pub returns-in_err-make_slot_safe-clause-fault : goal.returns-in_err-make_slot_safe-clause-fault
+returns-in_err-make_slot_safe-clause-fault g c =
+    let from = err_from_is_err_and c.from_residual.result c.from_residual.ensures.1 in
+    let on : c.loop-slot.slot ≤ c.loop-slot.slot = omega arith in
+    rw (from.1, from.2) (unsafe_at _ c.args.files.now.files.items c.loop-slot.slot (file_in c.loop-slot.files.files.items c.loop-slot.slot) _
+    (omega (arith, c.loop-slot-test.true)) (c.loop-slot.invariant.untouched c.loop-slot.slot on) c.in_err-make_slot_safe.ensures.fault)

@@ -12,8 +12,9 @@ returns-in_err-make_safe g c =
       safe = tt;
       locked = tt;
       noted = tt;
-      fault = unsafe_fault _ _ failed;
-      blamed = unsafe_blamed (λ slot. g.D.SlotFiles.opens c.args.disk.now (slot_path c.args.folder.now slot)) _ _ failed;
+      fault = unsafe_fault _ c.in_ok-files.files.files.items _ failed;
+      blamed = unsafe_blamed (λ slot. g.D.SlotFiles.opens c.args.disk.now (slot_path c.args.folder.now slot)) _ c.in_ok-files.files.files.items
+          c.in_ok-files.files.barred _ c.in_ok-files.ensures.opened failed;
       short = c.in_err-make_safe.ensures.short;
     })
 

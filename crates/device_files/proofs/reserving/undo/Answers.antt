@@ -20,7 +20,7 @@ loop-slot-preserved g c =
     let told = g.D.File.Growing.told in
     let tells = g.D.File.Growing.tells in
     let failed = g.D.File.Growing.has_failed in
-    let notes = c.args.before.now in
+    let notes = c.args.log.before in
     let note = before_in notes slot in
     record {
       undone = λ fair. rw c.and-done.ensures (and_ok c.loop-slot.done c.undo_slot.result _ _ _ (inv.undone fair) (this.undone fair)
@@ -31,5 +31,6 @@ loop-slot-preserved g c =
           notes notes first was is slot refl inv.each inv.untouched this.others
           (subst (λ (path : List ℕ). IsTakenBackOrFailed tells told failed (Removes path) note (file_in was slot) (file_in is slot)) path_is this.each);
       same = same_next notes notes first was is slot refl inv.same inv.untouched this.others this.same;
+      long = this.long ∙ inv.long;
       untouched = untouched_next first was is slot inv.untouched this.others;
     }

@@ -1,4 +1,4 @@
-use Rattle.std.proofs.Common.{◌≡◌, ◌≢◌, ◌+◌, ◌*◌, ◌<◌, ◌≤◌, IsSomeAnd, sym, subst, arith, rules}
+use Rattle.std.proofs.Common.{◌≡◌, ◌≢◌, ◌*◌, IsSomeAnd, sym, subst, arith, rules}
 use Rattle.std.proofs.lemmas.Result.{err_from_is_err_and}
 use Rattle.superblock.specs.Counted.{least_sectors}
 use Rattle.device_files.specs.DeviceFiles.{Begins, IsCreated, file_in, slot_path}

@@ -14,8 +14,8 @@ make_or_undo-requires-clause-safe g c κs within = all_safe _ _ _ _ _ c.in_ok-fi
     c.in_ok-files.files.barred c.in_ok-files.ensures.safe
 
 pub returns-clause-made : goal.returns-clause-made
-returns-clause-made g c = on_ok_weaker c.make_or_undo.result (λ made.
-    let both = taken_over _ _ _ _ (λ slot. g.D.SlotFiles.opens c.args.disk.now (slot_path c.args.folder.now slot))
+returns-clause-made g c = on_ok_weaker c.make_or_undo.result.done (λ made.
+    let both = taken_over g.D.File.Growing (λ slot. g.D.SlotFiles.opens c.args.disk.now (slot_path c.args.folder.now slot))
     c.in_ok-files.files.files.items c.in_ok-files.files.unsynced c.in_ok-files.files.barred (λ slot. slot < c.args.geometry.members + 2) (λ _ _. ⊥)
     (IsMadeOver g.D.File.Growing g.D.File.BankFile.left (g.D.SlotFiles.creates c.args.disk.now) c.args.folder.now c.args.id c.args.geometry)
     c.in_ok-files.ensures.safe (λ slot under needed. let from : 0 ≤ slot = omega arith in c.in_ok-refuse_unsynced.ensures.none slot from needed under)
@@ -34,14 +34,14 @@ returns-in_err-refuse_unsynced-clause-named g c =
 pub returns-in_err-refuse_barred-clause-fault : goal.returns-in_err-refuse_barred-clause-fault
 returns-in_err-refuse_barred-clause-fault g c =
     let from = err_from_is_err_and c.from_residual-in_err-refuse_barred.result c.from_residual-in_err-refuse_barred.ensures.1 in
-    rw (from.1, from.2) (barred_unmade c.in_ok-files.files.barred c.args.geometry.members _ c.in_err-refuse_barred.ensures.fault)
+    rw (from.1, from.2) (barred_unmade c.in_ok-files.files.barred _ _ c.args.geometry.members _ c.in_err-refuse_barred.ensures.fault)
 
 pub returns-in_err-refuse_barred-clause-named : goal.returns-in_err-refuse_barred-clause-named
 returns-in_err-refuse_barred-clause-named g c =
     let from = err_from_is_err_and c.from_residual-in_err-refuse_barred.result c.from_residual-in_err-refuse_barred.ensures.1 in
     rw (from.1, from.2) (barred_blamed _ _ _ _ _ c.in_ok-files.files.files.items c.in_ok-files.files.unsynced c.in_ok-files.files.barred
     (g.D.SlotFiles.opens c.args.disk.now) (g.D.SlotFiles.creates c.args.disk.now) c.args.folder.now _ c.in_ok-files.ensures.safe
-    (barred_passing c.in_ok-files.files.barred _ c.in_err-refuse_barred.ensures.fault))
+    (barred_passing c.in_ok-files.files.barred _ _ _ c.in_err-refuse_barred.ensures.fault))
 
 -- ---- why it was refused
 
@@ -53,7 +53,7 @@ returns-in_err-files-clause-cause g c =
 pub returns-in_err-refuse_barred-clause-cause : goal.returns-in_err-refuse_barred-clause-cause
 returns-in_err-refuse_barred-clause-cause g c =
     let from = err_from_is_err_and c.from_residual-in_err-refuse_barred.result c.from_residual-in_err-refuse_barred.ensures.1 in
-    rw (from.1, from.2) (by_memory (IsBarredIn c.in_ok-files.files.barred) _ _ (λ refusal never. absurd never) c.in_err-refuse_barred.ensures.fault)
+    rw (from.1, from.2) (by_memory (IsBarredIn c.in_ok-files.files.barred 0 10) _ _ (λ refusal never. absurd never) c.in_err-refuse_barred.ensures.fault)
 
 pub returns-in_err-refuse_unsynced-clause-cause : goal.returns-in_err-refuse_unsynced-clause-cause
 returns-in_err-refuse_unsynced-clause-cause g c =

@@ -1,7 +1,5 @@
 use contract.BorrowLft.{⊑_static, ⊑_trans}
-use Rattle.std.proofs.lemmas.Result.{IfErr-weaker, IfOk-weaker}
-use Rattle.recovery.specs.SeenBank.{bank_seen}
-use Rattle.raidtool.proofs.Needs.{need_not_found, need_over, need_refused, need_within}
+use Rattle.raidtool.proofs.Needs.{need_not_found, need_over, need_within}
 use Rattle.raidtool.proofs.replacing.need_over.Goals as goal
 
 pub need_on-requires-lives-B-Bank : goal.need_on-requires-lives-B-Bank

@@ -1,12 +1,11 @@
 use Rattle.std.proofs.Common.{IsTrue, ◌≤◌, ◌<◌, ap, arith, inl, inr, subst}
 use Rattle.std.proofs.lemmas.Result.{IfErr-weaker, err_from_is_err_and, on_ok_weaker}
-use Rattle.device_files.specs.DeviceFiles.{file_in}
 use Rattle.device_files.specs.Faults.{IsFileFaultOf, IsSyncFault}
 use Rattle.raidtool.specs.Done.{IsNeedIn}
 use Rattle.raidtool.specs.Begun.{BeginsOver}
 use Rattle.raidtool.proofs.Causes.{by_memory, by_refusal, no_table_safely, not_memory}
 use Rattle.raidtool.proofs.MadeFiles.{all_renewed_safe}
-use Rattle.raidtool.proofs.Renewed.{is_none_of, renewed_blamed}
+use Rattle.raidtool.proofs.Renewed.{is_none_of, prepared_already, prepared_by, renewed_blamed}
 use Rattle.raidtool.proofs.Taken.{at_any_rate}
 use Rattle.raidtool.proofs.replacing.prepare_file.Goals.{in-Some+in_ok-renew_slot, in_default}
 use Rattle.raidtool.proofs.replacing.prepare_file.Goals as goal
@@ -47,11 +46,20 @@ returns-clause-linked g c = λ under.
     let below : c.args.slot < c.saturating_add.result = omega (arith, under, c.saturating_add.ensures) in
     on_ok_weaker c.sync_folders.result (λ all. all c.args.slot from below) c.sync_folders.ensures.linked
 
-pub returns-clause-others : goal.returns-clause-others
-returns-clause-others g c = elim c.match-need.branch [
-  | in-Some+in_ok-renew_slot w ↦ rw w.files-is w.in_ok-renew_slot.ensures.made.others
-  | in_default w ↦ λ other apart. ap (λ files. file_in files.files.items other) w.files-is
+pub returns-clause-prepares : goal.returns-clause-prepares
+returns-clause-prepares g c = elim c.match-need.branch [
+  | in-Some+in_ok-renew_slot w ↦ rw w.files-is (prepared_by g.D.File.Growing (g.D.SlotFiles.creates c.args.disk.now) c.args.folder.now c.args.slot _ _ _ _
+      w.in_ok-renew_slot.ensures.made.others w.in_ok-renew_slot.ensures.noted w.in_ok-renew_slot.ensures.other_notes)
+  | in_default w ↦ rw w.files-is (prepared_already g.D.File.Growing (g.D.SlotFiles.creates c.args.disk.now) c.args.folder.now c.args.slot _ _)
 ]
+
+pub returns-in_err-renew_slot-clause-prepares : goal.returns-in_err-renew_slot-clause-prepares
+returns-in_err-renew_slot-clause-prepares g c = prepared_by g.D.File.Growing (g.D.SlotFiles.creates c.args.disk.now) c.args.folder.now c.args.slot _ _ _ _
+    c.in_err-renew_slot.ensures.made.others c.in_err-renew_slot.ensures.noted c.in_err-renew_slot.ensures.other_notes
+
+pub returns-in_err-need-clause-prepares : goal.returns-in_err-need-clause-prepares
+returns-in_err-need-clause-prepares g c =
+    prepared_already g.D.File.Growing (g.D.SlotFiles.creates c.args.disk.now) c.args.folder.now c.args.slot _ _
 
 -- ---- why it was refused
 

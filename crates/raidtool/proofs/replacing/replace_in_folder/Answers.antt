@@ -50,9 +50,10 @@ replace_or_undo-requires-clause-safe g c κs within = all_safe _ _ _ _ _ c.in_ok
     c.in_ok-files.files.barred c.in_ok-files.ensures.safe
 
 pub returns-clause-replaces : goal.returns-clause-replaces
-returns-clause-replaces g c = replaces_more _ _ _ _ _ _ _ _ g.W.Write.contents c.args.slot c.args.out.now c.replace_or_undo.new.out c.replace_or_undo.result
+returns-clause-replaces g c = replaces_more _ _ _ _ _ _ _ _ g.W.Write.contents c.args.slot c.args.out.now c.replace_or_undo.new.out
+    c.replace_or_undo.result.done
     (λ over.
-    let both = taken_over _ _ _ _ (λ other. g.D.SlotFiles.opens c.args.disk.now (slot_path c.args.folder.now other))
+    let both = taken_over g.D.File.Growing (λ other. g.D.SlotFiles.opens c.args.disk.now (slot_path c.args.folder.now other))
     c.in_ok-files.files.files.items c.in_ok-files.files.unsynced c.in_ok-files.files.barred (λ other. other ≡ c.args.slot)
     (λ files other. (other ≢ c.args.slot) × IsMissingOver g.D.File.Growing g.D.File.BankFile.left c.args.id files other)
     (IsReplacedOver g.D.File.Growing g.D.File.BankFile.left (g.D.SlotFiles.creates c.args.disk.now) c.args.folder.now c.args.id c.args.slot)
@@ -71,7 +72,7 @@ returns-clause-replaces g c = replaces_more _ _ _ _ _ _ _ _ g.W.Write.contents c
 pub returns-in_err-refuse_barred-clause-replaces : goal.returns-in_err-refuse_barred-clause-replaces
 returns-in_err-refuse_barred-clause-replaces g c =
     let from = err_from_is_err_and c.from_residual-in_err-refuse_barred.result c.from_residual-in_err-refuse_barred.ensures.1 in
-    let barred = barred_passing c.in_ok-files.files.barred _ c.in_err-refuse_barred.ensures.fault in
+    let barred = barred_passing c.in_ok-files.files.barred _ _ _ c.in_err-refuse_barred.ensures.fault in
     rw (from.1, from.2) (record {
       synced = tt;
       replaced = tt;
@@ -79,9 +80,11 @@ returns-in_err-refuse_barred-clause-replaces g c =
       fault = passing_slot c.in_ok-files.files.barred c.args.slot _ barred;
       blamed = barred_blamed _ _ _ _ _ c.in_ok-files.files.files.items c.in_ok-files.files.unsynced c.in_ok-files.files.barred
           (g.D.SlotFiles.opens c.args.disk.now) (g.D.SlotFiles.creates c.args.disk.now) c.args.folder.now _ c.in_ok-files.ensures.safe barred;
-      cause = by_memory (IsBarredIn c.in_ok-files.files.barred) _ _ (λ refusal never. absurd never) c.in_err-refuse_barred.ensures.fault;
+      cause = by_memory (IsBarredIn c.in_ok-files.files.barred c.args.slot c.saturating_add.result) _ _ (λ refusal never. absurd never)
+          c.in_err-refuse_barred.ensures.fault;
       unwritten = λ _. refl;
-      cut = λ cut. absurd (subst (λ (fault : FolderFault). IsBarredIn c.in_ok-files.files.barred fault) cut c.in_err-refuse_barred.ensures.fault);
+      cut = λ cut. absurd (subst (λ (fault : FolderFault). IsBarredIn c.in_ok-files.files.barred c.args.slot c.saturating_add.result fault) cut
+          c.in_err-refuse_barred.ensures.fault);
     })
 
 pub returns-in_err-pass_over-clause-replaces : goal.returns-in_err-pass_over-clause-replaces
@@ -122,7 +125,7 @@ returns-in_err-files-clause-replaces g c =
 
 pub returns-in_err-paths-clause-replaces : goal.returns-in_err-paths-clause-replaces
 returns-in_err-paths-clause-replaces g c =
-    let from = err_from_is_err_and c.from_residual.result c.from_residual.ensures.1 in
+    let from = err_from_is_err_and c.from_residual-in_err-paths.result c.from_residual-in_err-paths.ensures.1 in
     record {
       synced = search rules;
       replaced = search rules;
@@ -130,6 +133,20 @@ returns-in_err-paths-clause-replaces g c =
       fault = search rules;
       blamed = search rules;
       cause = rw (from.1, from.2) (by_refusal _ Memory (λ other. absurd (other tt)));
+      unwritten = search rules;
+      cut = search rules;
+    }
+
+pub returns-in_err-entry-clause-replaces : goal.returns-in_err-entry-clause-replaces
+returns-in_err-entry-clause-replaces g c =
+    let from = err_from_is_err_and c.from_residual.result c.from_residual.ensures.1 in
+    record {
+      synced = search rules;
+      replaced = search rules;
+      written = search rules;
+      fault = search rules;
+      blamed = search rules;
+      cause = rw (from.1, from.2) (by_refusal _ _ (λ other. absurd (not_memory _ other c.in_err-entry.ensures.err)));
       unwritten = search rules;
       cut = search rules;
     }

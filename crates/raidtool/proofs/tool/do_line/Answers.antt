@@ -1,17 +1,18 @@
 use Rattle.std.proofs.Common.{◌⊎◌, refl}
+use Rattle.std.specs.Prelude.{IsTrue}
 use Rattle.std.proofs.lemmas.Bool.{false≢true}
 use Rattle.std.proofs.lemmas.Result.{IfErr-weaker, err_from_is_err_and}
-use Rattle.raidtool.specs.Done.{OfFiles}
 use Rattle.set_commands.specs.Run.{streams}
-use Rattle.raidtool.proofs.Causes.{by_refusal, caused_as, no_sizes, sizes_make}
+use Rattle.raidtool.proofs.Causes.{by_refusal, caused_as, no_sizes, served_cause, sizes_make}
 use Rattle.raidtool.proofs.InspectionsTold.{inspections_cut}
-use Rattle.raidtool.proofs.DoneLines.{examined_done, made_done, no_make, passes_some, replaced_done, served_blamed, served_done}
+use Rattle.raidtool.proofs.DoneLines.{made_done, no_make, passes_some, replaced_done, served_blamed, served_done}
 use Rattle.raidtool.proofs.tool.do_line.Goals as goal
 
 pub returns-in_ok-geometry-in-Make-clause-does : goal.returns-in_ok-geometry-in-Make-clause-does
 returns-in_ok-geometry-in-Make-clause-does g c =
     let geometry = c.in_ok-geometry-in-Make in
-    rw c.in-Make.is (made_done g.D.File.Growing g.D.File.BankFile.left (g.D.SlotFiles.opens c.args.disk.now)
+    rw c.in-Make.is (made_done g.D.File.Growing g.D.File.BankFile.left g.D.InspectedFile.Growing g.D.InspectedFile.BankFile.left
+    (g.D.SlotFiles.opens c.args.disk.now)
     (g.D.SlotFiles.creates c.args.disk.now) (g.D.InspectFiles.inspects c.args.disk.now)
     (λ folder. g.D.FolderSync.is_safe c.args.disk.now folder ⊎ g.D.FolderSync.is_never c.args.disk.now folder)
     c.in-Make.folder c.in-Make.id c.in-Make.members c.in-Make.chunk c.in-Make.stripes geometry.geometry c.make_set.result
@@ -27,7 +28,8 @@ returns-in_ok-geometry-in-Make-clause-does g c =
 
 pub returns-in-Replace-clause-does : goal.returns-in-Replace-clause-does
 returns-in-Replace-clause-does g c =
-    rw c.in-Replace.is (replaced_done g.D.File.Growing g.D.File.BankFile.left (g.D.SlotFiles.opens c.args.disk.now)
+    rw c.in-Replace.is (replaced_done g.D.File.Growing g.D.File.BankFile.left g.D.InspectedFile.Growing g.D.InspectedFile.BankFile.left
+    (g.D.SlotFiles.opens c.args.disk.now)
     (g.D.SlotFiles.creates c.args.disk.now) (g.D.InspectFiles.inspects c.args.disk.now)
     (λ folder. g.D.FolderSync.is_safe c.args.disk.now folder ⊎ g.D.FolderSync.is_never c.args.disk.now folder)
     c.in-Replace.folder c.in-Replace.id c.in-Replace.slot c.replace_in_folder.result
@@ -39,13 +41,17 @@ pub returns-in_default : goal.returns-in_default
 returns-in_default g c =
     let served = c.serve_folder.ensures in
     record {
-      does = served_done g.D.File.Growing g.D.File.BankFile.left (g.D.SlotFiles.opens c.args.disk.now)
+      does = served_done g.D.File.Growing g.D.File.BankFile.left g.D.InspectedFile.Growing g.D.InspectedFile.BankFile.left
+          (g.D.SlotFiles.opens c.args.disk.now)
           (g.D.SlotFiles.creates c.args.disk.now) (g.D.InspectFiles.inspects c.args.disk.now)
           (λ folder. g.D.FolderSync.is_safe c.args.disk.now folder ⊎ g.D.FolderSync.is_never c.args.disk.now folder)
           c.args.line c.serve_folder.result _ _ _ _ c.in_default.not-Make c.in_default.not-Replace c.in_default.not-Examine served.served;
       read = served.read;
       stopped = served.stopped;
-      cause = served.cause;
+      cause = IfErr-weaker c.serve_folder.result _ _ (λ fault cause. caused_as _ _ fault (λ refusal. served_cause g.D.File.Growing g.D.File.BankFile.left
+          g.D.InspectedFile.Growing g.D.InspectedFile.BankFile.left (g.D.SlotFiles.opens c.args.disk.now) (g.D.InspectFiles.inspects c.args.disk.now)
+          c.args.line refusal c.in_default.not-Make c.in_default.not-Replace
+          c.in_default.not-Examine) cause) served.cause;
       named = served_blamed (g.D.SlotFiles.opens c.args.disk.now) (g.D.SlotFiles.creates c.args.disk.now) _ (g.D.InspectFiles.inspects c.args.disk.now)
           c.args.line c.serve_folder.result c.in_default.not-Examine served.named;
       alone = served.alone;
@@ -59,16 +65,11 @@ returns-in_default g c =
 
 pub returns-in-Examine-clause-cut : goal.returns-in-Examine-clause-cut
 returns-in-Examine-clause-cut g c = λ _. IfErr-weaker c.examine_folder.result _ _ (λ fault part cut.
-    rw c.in-Examine.is (inspections_cut OfFiles c.in-Examine.id c.in-Examine.json (part cut).0 _ _ (part cut).1)) c.examine_folder.ensures.cut
+    rw c.in-Examine.is (inspections_cut (IsTrue g.D.InspectedFile.Growing.tells) c.in-Examine.id c.in-Examine.json (part cut).0 _ _ (part cut).2))
+    c.examine_folder.ensures.cut
 
 pub returns-in-Examine-clause-does : goal.returns-in-Examine-clause-does
-returns-in-Examine-clause-does g c = rw c.in-Examine.is (examined_done g.D.File.Growing g.D.File.BankFile.left (g.D.SlotFiles.opens c.args.disk.now)
-    (g.D.SlotFiles.creates c.args.disk.now) (g.D.InspectFiles.inspects c.args.disk.now)
-    (λ folder. g.D.FolderSync.is_safe c.args.disk.now folder ⊎ g.D.FolderSync.is_never c.args.disk.now folder)
-    c.in-Examine.folder c.in-Examine.id c.in-Examine.json c.in-Examine.check c.examine_folder.result
-    (streams (g.R.Read.remaining c.args.reader.now) (g.W.Write.contents c.args.out.now))
-    (streams (g.R.Read.remaining c.args.reader.now) (g.W.Write.contents c.examine_folder.new.out)) c.args.health.now c.examine_folder.new.health
-    c.examine_folder.ensures.inspected c.examine_folder.ensures.examined c.examine_folder.ensures.health)
+returns-in-Examine-clause-does g c = rw c.in-Examine.is c.examine_folder.ensures.examined
 
 -- ---- why it was refused
 

@@ -5,11 +5,11 @@ use Rattle.device_files.specs.BankFiles.{AreAllSafe}
 use Rattle.device_files.specs.DeviceFiles.{slot_path}
 use Rattle.device_files.proofs.MadeSafe.{all_safe}
 use Rattle.set_commands.specs.Run.{streams}
-use Rattle.raidtool.specs.Begun.{IsMissingOver, IsNoTableOver}
-use Rattle.raidtool.specs.Causes.{id_text}
-use Rattle.raidtool.specs.DoneOver.{DoesOver, folder_text}
+use Rattle.raidtool.specs.Begun.{IsMissingOver}
+use Rattle.raidtool.specs.Causes.{folder_text, id_text}
+use Rattle.raidtool.specs.DoneOver.{DoesOver}
 use Rattle.device_files.specs.Faults.{IsOpenFault}
-use Rattle.raidtool.proofs.Causes.{by_memory, by_refusal, no_table_safely, not_memory, served_cause}
+use Rattle.raidtool.proofs.Causes.{by_memory, by_refusal, no_table_opened, not_memory}
 use Rattle.raidtool.proofs.Taken.{taken_over}
 use Rattle.raidtool.proofs.tool.serve_folder.Goals as goal
 
@@ -29,7 +29,7 @@ do_on-requires-lives-B-Destruct g c κs within = ⊑_trans _ _ _ (⊑_static _) 
 
 pub returns-clause-served : goal.returns-clause-served
 returns-clause-served g c =
-    let both = taken_over _ _ _ _ (λ slot. g.D.SlotFiles.opens c.args.disk.now (slot_path (folder_text c.args.line) slot))
+    let both = taken_over g.D.File.Growing (λ slot. g.D.SlotFiles.opens c.args.disk.now (slot_path (folder_text c.args.line) slot))
     c.in_ok-files.files.files.items c.in_ok-files.files.unsynced c.in_ok-files.files.barred (λ _. ⊥)
     (IsMissingOver g.D.File.Growing g.D.File.BankFile.left (id_text c.args.line))
     (λ files. DoesOver g.D.File.Growing g.D.File.BankFile.left files c.args.line
@@ -54,26 +54,25 @@ returns-clause-passed g c = (c.in_ok-files.files.barred, c.in_ok-pass_over.ensur
 pub returns-in_err-do_on-clause-cause : goal.returns-in_err-do_on-clause-cause
 returns-in_err-do_on-clause-cause g c =
     let from = err_from_is_err_and c.from_residual-in_err-do_on.result c.from_residual-in_err-do_on.ensures.1 in
-    rw (from.1, from.2) (by_refusal _ _ (λ other. served_cause g.D.File.Growing g.D.File.BankFile.left c.args.line _ c.requires
-    (inl (
+    rw (from.1, from.2) (by_refusal _ _ (λ other. inl (
       _,
-      (
-        c.deref_mut.result.now,
-        subst (AreAllSafe g.D.File.Growing.is_safe) (sym c.deref_mut.ensures.value)
-            (all_safe _ _ _ _ _ c.in_ok-files.files.files.items c.in_ok-files.files.unsynced c.in_ok-files.files.barred c.in_ok-files.ensures.safe),
-        c.in_ok-bank.ensures.begins,
-      ),
+      record {
+        files = c.in_ok-files.files.files.items;
+        unsynced = c.in_ok-files.files.unsynced;
+        barred = c.in_ok-files.files.barred;
+        made_safe = rw c.folder_of.ensures at c.in_ok-files.ensures.safe;
+        begins = rw c.deref_mut.ensures.value at c.in_ok-bank.ensures.begins;
+      },
       c.in_err-do_on.ensures.cause other,
-    ))))
+    )))
 
 pub returns-in_err-pass_over-clause-cause : goal.returns-in_err-pass_over-clause-cause
 returns-in_err-pass_over-clause-cause g c =
     let from = err_from_is_err_and c.from_residual-in_err-pass_over.result c.from_residual-in_err-pass_over.ensures.1 in
-    rw (from.1, from.2) (λ refusal same other. served_cause g.D.File.Growing g.D.File.BankFile.left c.args.line refusal c.requires
-    (inr (subst (λ (id : List ℕ). IsNoTableOver g.D.File.Growing g.D.File.BankFile.left id refusal) c.id_of.ensures
-    (no_table_safely g.D.File.Growing g.D.File.BankFile.left _ c.in_ok-files.files.files.items refusal
-    (all_safe _ _ _ _ _ c.in_ok-files.files.files.items c.in_ok-files.files.unsynced c.in_ok-files.files.barred c.in_ok-files.ensures.safe)
-    (c.in_err-pass_over.ensures.cause refusal same (not_memory refusal other))))))
+    rw (from.1, from.2) (λ refusal same other. inr (no_table_opened g.D.File.Growing g.D.File.BankFile.left
+    (λ slot. g.D.SlotFiles.opens c.args.disk.now (slot_path (folder_text c.args.line) slot)) (id_text c.args.line) c.in_ok-files.files.files.items
+    c.in_ok-files.files.unsynced c.in_ok-files.files.barred refusal (rw c.folder_of.ensures at c.in_ok-files.ensures.safe)
+    (rw c.id_of.ensures at (c.in_err-pass_over.ensures.cause refusal same (not_memory refusal other)))))
 
 pub returns-in_err-entry-clause-cause : goal.returns-in_err-entry-clause-cause
 returns-in_err-entry-clause-cause g c =

@@ -9,7 +9,7 @@ use Rattle.std.proofs.lemmas.Result.{IfErr-weaker}
 use Rattle.report.specs.Replies.{refusal_line}
 use Rattle.raidtool.specs.Stops.{IsToldAfter}
 use Rattle.raidtool.specs.Tool.{IsBlamedIn, IsRun}
-use Rattle.set_commands.specs.declared.serving.health.Health.TheVariants.{Complete, Incomplete, Unassembled}
+use Rattle.set_commands.specs.declared.serving.health.Health.TheVariants.{Complete}
 use Rattle.raidtool.proofs.Causes.{caused_too}
 use Rattle.raidtool.proofs.Checked.{checked_of, checked_too, complete_of, incomplete_of, well_of, misshapen_status, most_of, never_two}
 use Rattle.raidtool.proofs.Checked.{none_of_four, one_of, unassembled_of, zero_of}
@@ -55,7 +55,9 @@ returns-then-is_empty-clause-written g c = λ line asked is.
     absurd (no_line _ line (none_given c.args.words.now c.is_empty.result c.is_empty.ensures c.if-is_empty.true) asked)
 
 pub returns-then-is_empty-clause-refused : goal.returns-then-is_empty-clause-refused
-returns-then-is_empty-clause-refused g c = λ is. inl (fresh_refused (IsCaused g.D.File.Growing g.D.File.BankFile.left) _
+returns-then-is_empty-clause-refused g c = λ is. inl (fresh_refused (IsCaused g.D.File.Growing g.D.File.BankFile.left g.D.InspectedFile.Growing
+    g.D.InspectedFile.BankFile.left
+    (g.D.SlotFiles.opens c.args.disk.now) (g.D.InspectFiles.inspects c.args.disk.now)) _
     (none_given c.args.words.now c.is_empty.result c.is_empty.ensures c.if-is_empty.true) _
     (λ text. IsToldAfter g.E.Write.contents text c.args.err.now c.status_of.new.err) c.serve_fresh.result c.status_of.result c.status_of.ensures.status is
     c.serve_fresh.ensures.end (IfErr-weaker c.serve_fresh.result _ _ (λ refusal told. told_at_once g.E.Write.contents (refusal_line refusal) _ _ told)
@@ -112,7 +114,8 @@ returns-in-Ok-clause-done g c = λ is. inr (c.in-Ok.line, c.in-Ok.ensures.ok)
 pub returns-in-Ok-clause-does : goal.returns-in-Ok-clause-does
 returns-in-Ok-clause-does g c = λ line asked is. (
   c.do_line-done.new.health,
-  done_too g.D.File.Growing g.D.File.BankFile.left (g.D.SlotFiles.opens c.args.disk.now) (g.D.SlotFiles.creates c.args.disk.now)
+  done_too g.D.File.Growing g.D.File.BankFile.left g.D.InspectedFile.Growing g.D.InspectedFile.BankFile.left
+      (g.D.SlotFiles.opens c.args.disk.now) (g.D.SlotFiles.creates c.args.disk.now)
       (g.D.InspectFiles.inspects c.args.disk.now)
       (λ folder. g.D.FolderSync.is_safe c.args.disk.now folder ⊎ g.D.FolderSync.is_never c.args.disk.now folder)
       line c.in-Ok.line _ _ _ _ (one_invocation (texts c.args.words.now) line c.in-Ok.line asked c.in-Ok.ensures.ok)
@@ -150,7 +153,8 @@ returns-in-Ok-clause-silent g c = λ is none. absurd (no_line _ c.in-Ok.line (ap
 pub returns-in-Ok-clause-written : goal.returns-in-Ok-clause-written
 returns-in-Ok-clause-written g c = λ line asked is.
     written_too line c.in-Ok.line _ _ (one_invocation (texts c.args.words.now) line c.in-Ok.line asked c.in-Ok.ensures.ok)
-    (written_of g.D.File.Growing g.D.File.BankFile.left (g.D.SlotFiles.opens c.args.disk.now) (g.D.SlotFiles.creates c.args.disk.now)
+    (written_of g.D.File.Growing g.D.File.BankFile.left g.D.InspectedFile.Growing g.D.InspectedFile.BankFile.left (g.D.SlotFiles.opens c.args.disk.now)
+    (g.D.SlotFiles.creates c.args.disk.now)
     (g.D.InspectFiles.inspects c.args.disk.now)
     (λ folder. g.D.FolderSync.is_safe c.args.disk.now folder ⊎ g.D.FolderSync.is_never c.args.disk.now folder)
     c.in-Ok.line (streams (g.R.Read.remaining c.args.reader.now) (g.W.Write.contents c.args.out.now))
@@ -164,7 +168,8 @@ returns-in-Ok-clause-refused g c = λ is.
     let stop = stopped_by _ _ c.do_line-done.result c.folder_status-status.result c.folder_status-status.ensures.status
     (one_of c.in-Ok.line c.do_line-done.result c.folder_status-status.result c.do_line-done.new.health c.checked.result c.checked.ensures
     c.folder_status-status.ensures.status is) c.do_line-done.ensures.stopped c.folder_status-status.ensures.told in
-    was_stopped (texts c.args.words.now) (IsCaused g.D.File.Growing g.D.File.BankFile.left)
+    was_stopped (texts c.args.words.now) (IsCaused g.D.File.Growing g.D.File.BankFile.left g.D.InspectedFile.Growing g.D.InspectedFile.BankFile.left
+    (g.D.SlotFiles.opens c.args.disk.now) (g.D.InspectFiles.inspects c.args.disk.now))
     (IsBlamedIn (g.D.SlotFiles.opens c.args.disk.now) (g.D.SlotFiles.creates c.args.disk.now) _
     (g.D.InspectFiles.inspects c.args.disk.now)) c.in-Ok.line _
     (λ text. IsToldAfter g.E.Write.contents text c.args.err.now c.folder_status-status.new.err) _ stop.0
@@ -230,7 +235,8 @@ returns-in-Ok-clause-incomplete g c = λ line asked is.
     let same = one_invocation (texts c.args.words.now) line c.in-Ok.line asked c.in-Ok.ensures.ok in
     let both = incomplete_of c.in-Ok.line c.do_line-done.result c.folder_status-status.result c.do_line-done.new.health c.checked.result c.checked.ensures
     c.folder_status-status.ensures.status is in
-    done_too g.D.File.Growing g.D.File.BankFile.left (g.D.SlotFiles.opens c.args.disk.now) (g.D.SlotFiles.creates c.args.disk.now)
+    done_too g.D.File.Growing g.D.File.BankFile.left g.D.InspectedFile.Growing g.D.InspectedFile.BankFile.left
+    (g.D.SlotFiles.opens c.args.disk.now) (g.D.SlotFiles.creates c.args.disk.now)
     (g.D.InspectFiles.inspects c.args.disk.now)
     (λ folder. g.D.FolderSync.is_safe c.args.disk.now folder ⊎ g.D.FolderSync.is_never c.args.disk.now folder)
     line c.in-Ok.line _ _ _ _ same (rw both.1 at (done_by _ c.do_line-done.result c.folder_status-status.result c.folder_status-status.ensures.status both.0
@@ -242,7 +248,8 @@ returns-in-Ok-clause-unassembled g c = λ line asked is.
     elim (unassembled_of c.in-Ok.line c.do_line-done.result c.folder_status-status.result c.do_line-done.new.health c.checked.result c.checked.ensures
     c.folder_status-status.ensures.status is) [
       | inl both ↦ inl (
-        done_too g.D.File.Growing g.D.File.BankFile.left (g.D.SlotFiles.opens c.args.disk.now) (g.D.SlotFiles.creates c.args.disk.now)
+        done_too g.D.File.Growing g.D.File.BankFile.left g.D.InspectedFile.Growing g.D.InspectedFile.BankFile.left
+            (g.D.SlotFiles.opens c.args.disk.now) (g.D.SlotFiles.creates c.args.disk.now)
             (g.D.InspectFiles.inspects c.args.disk.now)
             (λ folder. g.D.FolderSync.is_safe c.args.disk.now folder ⊎ g.D.FolderSync.is_never c.args.disk.now folder)
             line c.in-Ok.line _ _ _ _ same
@@ -254,7 +261,9 @@ returns-in-Ok-clause-unassembled g c = λ line asked is.
       | inr (refusal, by, none) ↦ inr (
         refusal,
         none,
-        caused_too g.D.File.Growing g.D.File.BankFile.left line c.in-Ok.line refusal same ((rw by at c.do_line-done.ensures.cause) refusal refl),
+        caused_too g.D.File.Growing g.D.File.BankFile.left g.D.InspectedFile.Growing g.D.InspectedFile.BankFile.left
+            (g.D.SlotFiles.opens c.args.disk.now) (g.D.InspectFiles.inspects c.args.disk.now) line c.in-Ok.line refusal same ((rw by at
+            c.do_line-done.ensures.cause) refusal refl),
         (c.do_line-done.new.err, c.do_line-done.ensures.passed, rw by at c.folder_status-status.ensures.told),
       )
     ]
@@ -265,7 +274,8 @@ returns-in-Ok-clause-complete g c = λ line asked asks is.
     let other = one_invocation (texts c.args.words.now) c.in-Ok.line line c.in-Ok.ensures.ok asked in
     let whole = complete_of c.in-Ok.line c.do_line-done.result c.folder_status-status.result c.do_line-done.new.health c.checked.result c.checked.ensures
     c.folder_status-status.ensures.status (checked_too c.in-Ok.line line other asks) is in
-    done_too g.D.File.Growing g.D.File.BankFile.left (g.D.SlotFiles.opens c.args.disk.now) (g.D.SlotFiles.creates c.args.disk.now)
+    done_too g.D.File.Growing g.D.File.BankFile.left g.D.InspectedFile.Growing g.D.InspectedFile.BankFile.left
+    (g.D.SlotFiles.opens c.args.disk.now) (g.D.SlotFiles.creates c.args.disk.now)
     (g.D.InspectFiles.inspects c.args.disk.now)
     (λ folder. g.D.FolderSync.is_safe c.args.disk.now folder ⊎ g.D.FolderSync.is_never c.args.disk.now folder)
     line c.in-Ok.line _ _ _ _ same

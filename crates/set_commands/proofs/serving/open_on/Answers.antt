@@ -9,6 +9,7 @@ pub returns-in-Ok-open-clause-opened : goal.returns-in-Ok-open-clause-opened
 returns-in-Ok-open-clause-opened g c = record {
   array = _;
   assembles = c.in-Ok.ensures.assembled;
+  unwritten = c.in-Ok.ensures.unwritten;
   opens = opens_for _ _ _ _ c.in-Ok.ensures.honest_array.0 c.in-Ok-open.ensures.opened;
 }
 
@@ -17,6 +18,7 @@ returns-in-Err-open-clause-refused g c = inr (record {
   array = _;
   back = _;
   assembles = c.in-Ok.ensures.assembled;
+  unwritten = c.in-Ok.ensures.unwritten;
   opens = opens_for _ _ _ _ c.in-Ok.ensures.honest_array.0 c.in-Err-open.ensures.refused;
 })
 
@@ -24,7 +26,7 @@ pub returns-in-Err-open-clause-err : goal.returns-in-Err-open-clause-err
 returns-in-Err-open-clause-err g c = opening_refused _ _ _ c.in-Err-open.returned.refusal (c.in-Err-open.ensures.refused.cause _ _ refl)
 
 pub returns-in-Err-clause-refused : goal.returns-in-Err-clause-refused
-returns-in-Err-clause-refused g c = inl (record { back = _; assembles = c.in-Err.ensures.refused })
+returns-in-Err-clause-refused g c = inl (record { back = _; assembles = c.in-Err.ensures.refused; unwritten = c.in-Err.ensures.unwritten })
 
 pub returns-in-Ok-open-clause-honest : goal.returns-in-Ok-open-clause-honest
 returns-in-Ok-open-clause-honest g c =

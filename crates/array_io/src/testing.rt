@@ -4,11 +4,12 @@ ghost use Rattle.std.specs.Prelude.{◌≡◌, ◌≤◌, ◌<◌, false};
 ghost use Rattle.array_io.specs.Believed.Views.{HasItsSlots};
 ghost use Rattle.superblock.specs.Counted.{least_sectors};
 
+use layout_map::Format;
 use sector_model::{Bank, Image, MemBank, Plan, Sector, read_sector};
 use std::fmt::Debug;
 use std::process::Abort;
 use stripe_journal::{Entry, EntryView};
-use superblock::{Table, decode};
+use superblock::{Table, decode, least_of};
 
 /// Ends the test where `got` is not `want`. As a call it leaves the test a fraction of what `assert_eq!` would
 /// put into it, and so of the time that the test is checked in.
@@ -245,18 +246,14 @@ fn check_device<B: Bank>(rt: &impl Abort, table: &Table, bank: &B, slot: u8)
     ensures { (B.panel bank.now).down slot ≡ false
         → least_sectors table.now.geometry slot ≤ (B.panel bank.now).sectors slot }
 {
-    let least = if slot < table.geometry.members {
-        8 + table.geometry.rows()
-    } else {
-        520
-    };
-    assert!(rt; bank.is_down(slot) || u64::from(bank.sectors(slot)) >= least);
+    assert!(rt; bank.is_down(slot) || bank.sectors(slot) >= least_of(&table.geometry, slot));
 }
 
-/// The bank has the set's devices.
+/// The bank has the devices of a set of format 1.
 pub(crate) fn check_slots<B: Bank>(rt: &impl Abort, table: &Table, bank: &B)
     ensures { HasItsSlots table.now (B.panel bank.now) }
 {
+    assert!(rt; table.geometry.format == Format::One);
     let slots = table.geometry.members + 2;
     assert!(rt; slots <= bank.devices());
     for slot in 0..slots {

@@ -27,7 +27,6 @@ pub joined_is_table : (table : Table) (slot : ℕ) (state : State) → slot < sl
     → IsTable (table.generation + 1) table.geometry (slice_set table.states slot state)
     (slice_set table.incarnations slot (incarnation_at table.incarnations slot + 1)) 0
 joined_is_table table slot state of_set missing more more_of_slot of_member = record {
-  of_format_one = table.allowed.of_format_one;
   ten_states = length-set table.states slot state ∙ table.allowed.ten_states;
   ten_incarnations = length-set table.incarnations slot next ∙ table.allowed.ten_incarnations;
   generation_least = omega arith;

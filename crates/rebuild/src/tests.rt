@@ -8,6 +8,7 @@ ghost use Rattle.superblock.specs.Counted.{least_sectors};
 use crate::{Progress, rebuild_step, replace, steps_left, steps_left_of};
 use array_io::Array;
 use array_io::oracle::row_sources_in;
+use layout_map::Format;
 use sector_model::{Bank, Choice, Image, MemBank, Plan, Refusal, Sector};
 use std::fmt::Debug;
 use std::process::Abort;
@@ -182,10 +183,11 @@ fn check_device<B: Bank>(rt: &impl Abort, table: &Table, bank: &B, slot: u8)
     assert!(rt; bank.is_down(slot) || bank.sectors(slot) >= least_of(&table.geometry, slot));
 }
 
-// The bank has the set's devices.
+// The bank has the devices of a set of format 1.
 fn check_slots<B: Bank>(rt: &impl Abort, table: &Table, bank: &B)
     ensures { HasItsSlots table.now (B.panel bank.now) }
 {
+    assert!(rt; table.geometry.format == Format::One);
     let slots = table.geometry.members + 2;
     assert!(rt; slots <= bank.devices());
     for slot in 0..slots {

@@ -1,9 +1,13 @@
 -- What making a set answers, put together.
-use Rattle.std.proofs.Common.{◌≡◌, ℕ, ◌+◌, List, refl, sym, subst}
+use denote.Enum.Bare.{sameb}
+use Rattle.std.proofs.Common.{◌≡◌, ℕ, ◌+◌, List, false, not, refl, sym, subst}
 use Rattle.std.specs.Prelude.{None}
 use Rattle.sector_model.specs.declared.refusal.Refusal.{Refusal}
 use Rattle.sector_model.specs.Bank.{IsLater, Panel}
 use Rattle.sector_model.specs.History.{History}
+use Rattle.layout_map.specs.contracts.format.Format.{the_type}
+use Rattle.layout_map.specs.declared.format.Format.{Format}
+use Rattle.layout_map.specs.declared.format.Format.TheVariants.{One, Two}
 use Rattle.layout_map.specs.declared.geometry.Geometry.{Geometry}
 use Rattle.superblock.specs.declared.table.Table.{Table}
 use Rattle.superblock.specs.NextTables.{slots_of}
@@ -11,6 +15,11 @@ use Rattle.array_io.specs.Believed.Fresh.{zeros_of}
 use Rattle.array_io.specs.Believed.Settled.{IsSettled}
 use Rattle.array_io.specs.Believed.Views.{ArrayView, HasItsSlots, RestsOn, view_of}
 use Rattle.recovery.specs.Making.{BankView, IsFirstTable, IsQuietBeyond, Makes, Opened, Outcome, Returned, opened}
+
+-- the format is format 1, as the code asks for it
+pub is_format_one : (format : Format) → not (sameb the_type format One) ≡ false → format ≡ One
+is_format_one One is = refl
+is_format_one Two is = absurd cc
 
 -- what is said of the array of an outcome, and of none
 abbrev OnOpened : (ArrayView → Type 0) → Outcome → Type 0

@@ -3,7 +3,6 @@ use Rattle.std.proofs.Common.{◌≡◌, ◌≢◌, inl, inr, ℕ, ◌+◌, ◌<
 use Rattle.std.specs.Prelude.{slice_index_or, slice_set}
 use Rattle.std.proofs.lemmas.Bool.{cases_eq, cases_lt}
 use Rattle.std.proofs.lemmas.List.{get_or-replicate, get_or-set_same, get_or-set_other, get_or_past, length-replicate, length-set}
-use Rattle.layout_map.specs.declared.format.Format.TheVariants.{One}
 use Rattle.layout_map.specs.declared.geometry.Geometry.{Geometry}
 use Rattle.superblock.specs.declared.state.State.{State}
 use Rattle.superblock.specs.declared.state.State.TheVariants.{InSync, Missing, Rebuilding}
@@ -52,10 +51,9 @@ none_rebuilds n states is slot rebuilding = elim (cases_lt slot n) [
     missing : Missing ≡ Rebuilding → ⊥
     missing is = cc
 
-pub first_is_table : (geometry : Geometry) (n : ℕ) (states : List State) (incarnations : List ℕ) → geometry.format ≡ One → n ≡ geometry.members + 2
+pub first_is_table : (geometry : Geometry) (n : ℕ) (states : List State) (incarnations : List ℕ) → n ≡ geometry.members + 2
     → IsFilled State InSync Missing n states → IsFilled ℕ 1 0 n incarnations → IsTable 1 geometry states incarnations 0
-first_is_table geometry n states incarnations one all filled numbered = record {
-  of_format_one = one;
+first_is_table geometry n states incarnations all filled numbered = record {
   ten_states = filled.ten;
   ten_incarnations = numbered.ten;
   generation_least = omega arith;

@@ -17,7 +17,7 @@ use Rattle.superblock.specs.NextTables.{IsNotOlder, slots_of}
 use Rattle.superblock.specs.States.{position_in}
 use Rattle.array_io.specs.Believed.Moments.{HoldsNow, HoldsThroughout}
 use Rattle.array_io.specs.Believed.Views.{ArrayView, HasItsSlots, RestsAfter}
-use Rattle.recovery.specs.Making.{BankView, IsCarried, Opened, Outcome, Returned, bank_after, given_back, opened}
+use Rattle.recovery.specs.Making.{BankView, HasNoSet, IsCarried, Opened, Outcome, Returned, bank_after, given_back, opened}
 
 -- From what a set is assembled: nothing is pending, and all cases that a crash now may leave hold for X, with this lost before.
 pub record MayAssemble (base : Table) (lost : Option Lost) (X : List (List Bytes)) (bank : BankView) : Type 0 where
@@ -68,7 +68,7 @@ pub record IsWornThen (id : List ℕ) (devices : ℕ) (image : Slots) : Type 0 w
 
 -- why assembling was refused
 abbrev pub IsNoAssembly : List ℕ → (old bank : BankView) → Refusal → Type 0
-IsNoAssembly id old bank NoSet = ((slot : ℕ) → HasNone id bank.panel.devices slot (readable bank.history slot)) × HasRead old.history bank.history
+IsNoAssembly id old bank NoSet = HasNoSet id bank.panel.devices (readable bank.history) × HasRead old.history bank.history
 IsNoAssembly id old bank TwoLost = IsTwoLostThen id bank.panel.devices old.history bank.history
 IsNoAssembly id old bank Worn = (GREATEST_COUNT ≤ bank.panel.calls) ⊎ IsWornThen id bank.panel.devices (readable old.history)
 IsNoAssembly id old bank refusal = ⊥

@@ -16,10 +16,10 @@ mod clearing;
 use self::clearing::{clear_slots, flush_slots};
 use crate::Returned;
 use array_io::Array;
-use layout_map::Geometry;
+use layout_map::{Format, Geometry};
 use sector_model::{Bank, Refusal, Stop};
 use stripe_journal::Entry;
-use superblock::{State, Table, is_supported, least_of, publish};
+use superblock::{State, Table, least_of, publish};
 
 /// Makes a set of this id and geometry on the bank's first `members + 2` slots, whatever they held: clears both
 /// superblock places of each, both seals of each journal and all rows of each member, flushes, and publishes
@@ -42,7 +42,7 @@ pub fn make<B: Bank>(
     ensures refused { IfErr result
         (λ returned. Makes (B.honest bank) id geometry (bank_seen B.Bank bank) (given_back_as B.Bank returned)) }
 {
-    if !is_supported(geometry.format) {
+    if geometry.format != Format::One {
         return Err(Returned {
             bank,
             refusal: Refusal::BadGeometry,
@@ -60,9 +60,8 @@ pub fn make<B: Bank>(
     }
 }
 
-// The first table of a set, which is of format 1 (condition).
+// The first table of a set.
 fn first_table(id: [u8; 16], geometry: Geometry) -> Table
-    requires { geometry.format ≡ One }
     ensures { IsFirstTable id geometry result }
 {
     let mut states = [State::Missing; 10];
@@ -81,9 +80,10 @@ fn first_table(id: [u8; 16], geometry: Geometry) -> Table
     }
 }
 
-// Puts a new set with this first table on the bank.
+// Puts a new set of format 1 (condition) with this first table on the bank.
 fn put_set<B: Bank>(bank: &mut B, table: &Table) -> Result<(), Refusal>
     requires first { IsFirstTable table.now.id table.now.geometry table.now }
+    requires of_format_one { table.now.geometry.format ≡ One }
     ensures panel { IsLater (B.panel bank.old) (B.panel bank.new) }
     ensures honest { B.honest bank.old ↔ B.honest bank.new }
     ensures its_slots { OnOk result (HasItsSlots table.now (B.panel bank.new)) }

@@ -81,6 +81,7 @@ pub made_fresh : (id : List ℕ) (geometry : Geometry) (bank : BankView) (array 
     → IsQuietBeyond id 5 bank → Makes (Unit {0}) id geometry bank (recovery.Opened array) → IsMadeFresh array
 made_fresh id geometry bank array is_id members chunk stripes quiet makes = record {
   of_id = (makes.first array refl).of_id ∙ is_id;
+  of_format_one = (makes.its_slots array refl).of_format_one;
   members = ap (λ (g : Geometry). g.members) same ∙ members;
   chunk = ap (λ (g : Geometry). g.chunk) same ∙ chunk;
   stripes = ap (λ (g : Geometry). g.stripes) same ∙ stripes;
@@ -130,7 +131,7 @@ opened_fresh array store fresh opens = ∥∥₁_map (fresh_set_shows_none array
           settled = after.settled;
           extents = ap extents_in (opens.goes_on store refl).not_older.same_geometry
               ∙ extents_are array.table.geometry.format array.table.geometry.members array.table.geometry.chunk array.table.geometry.stripes
-              array.table.allowed.of_format_one fresh.members fresh.chunk fresh.stripes;
+              fresh.of_format_one fresh.members fresh.chunk fresh.stripes;
         }
 
 -- its zeros are a table, of no volume

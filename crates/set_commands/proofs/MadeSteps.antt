@@ -5,6 +5,7 @@ use Rattle.std.specs.Prelude.{unwrap_or}
 use Rattle.std.proofs.lemmas.Bool.{cases_lt, eqb-false}
 use Rattle.sector_model.specs.declared.refusal.Refusal.{Refusal}
 use Rattle.sector_model.specs.declared.refusal.Refusal.TheVariants.{NothingToRebuild, TwoLost, Worn}
+use Rattle.layout_map.specs.declared.format.Format.TheVariants.{One}
 use Rattle.layout_map.specs.declared.geometry.Geometry.{Geometry}
 use Rattle.layout_map.specs.declared.sizes.TheConstants.{REBUILD_ROWS}
 use Rattle.layout_map.specs.Formats.{rebuild_rows}
@@ -43,11 +44,11 @@ rebuilds_for honest other steps old new answer so rebuilds = record {
   all_made = rebuilds.all_made;
 }
 
--- the rows that a set's format gives a step are 64
+-- the rows that format 1 gives a step are 64
 pub of_its_step : (honest : Type 0) (rows : ℕ) (table : Table) (old new : StoreView) (answer : Result Progress Refusal)
-    → rows ≡ rebuild_rows table.geometry.format → RebuildsRows honest rows old new answer → RebuildsRows honest 64 old new answer
-of_its_step honest rows table old new answer is rebuilds =
-    subst (λ (n : ℕ). RebuildsRows honest n old new answer) (is ∙ ap rebuild_rows table.allowed.of_format_one) rebuilds
+    → table.geometry.format ≡ One → rows ≡ rebuild_rows table.geometry.format → RebuildsRows honest rows old new answer → RebuildsRows honest 64 old new answer
+of_its_step honest rows table old new answer one is rebuilds =
+    subst (λ (n : ℕ). RebuildsRows honest n old new answer) (is ∙ ap rebuild_rows one) rebuilds
 
 -- one more that is answered with a position, as a step's code answers it
 pub one_more : (honest other : Type 0) (before position : ℕ) (old mid new : StoreView) (answer : Result Progress Refusal) → (other → honest)

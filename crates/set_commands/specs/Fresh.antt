@@ -43,6 +43,7 @@ fresh_devices =
 -- a set with this id and geometry was made: none of its slots is lost, and its logical sectors are zeros
 pub record IsMadeFresh (array : ArrayView) : Type 0 where
   pub of_id : array.table.id ≡ fresh_id
+  pub of_format_one : array.table.geometry.format ≡ One
   pub members : array.table.geometry.members ≡ 3
   pub chunk : array.table.geometry.chunk ≡ 8
   pub stripes : array.table.geometry.stripes ≡ 32

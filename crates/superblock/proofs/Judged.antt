@@ -6,8 +6,6 @@ use Rattle.std.specs.Prelude.{IfOk, IsOk}
 use Rattle.std.specs.Result.{result_ok}
 use Rattle.sector_model.specs.declared.calls.TheConstants.{GREATEST_COUNT}
 use Rattle.layout_map.specs.declared.sizes.TheConstants.{MOST_MEMBERS}
-use Rattle.layout_map.specs.declared.format.Format.{Format}
-use Rattle.layout_map.specs.declared.format.Format.TheVariants.{One}
 use Rattle.layout_map.specs.declared.geometry.Geometry.{Geometry}
 use Rattle.layout_map.specs.Placement.{IsGeometry}
 use Rattle.superblock.specs.declared.fields.Fields.{Fields}
@@ -21,9 +19,9 @@ use Rattle.superblock.specs.Tables.{IsTable, state_at}
 use Rattle.superblock.proofs.Same.{same_geometry, same_superblock}
 use Rattle.superblock.proofs.Spelled.{fields_same}
 
--- the geometry is of format 1, with the fields' numbers
+-- the geometry is of the fields' format, with the fields' numbers
 pub record IsOfFields (fields : Fields) (geometry : Geometry) : Type 0 where
-  pub format : geometry.format ≡ One
+  pub format : geometry.format ≡ fields.format
   pub members : geometry.members ≡ fields.members
   pub chunk : geometry.chunk ≡ fields.chunk
   pub stripes : geometry.stripes ≡ fields.stripes
@@ -32,8 +30,8 @@ pub allowed_fields : (fields : Fields) (geometry : Geometry) (s : Superblock) �
     → IsTable fields.generation geometry fields.states fields.incarnations fields.position
 allowed_fields fields geometry s of_fields same =
     let geometry_is : geometry ≡ s.table.geometry =
-    same_geometry geometry s.table.geometry (of_fields.format ∙ sym s.table.allowed.of_format_one) (of_fields.members ∙ ap (λ (f : Fields). f.members) same)
-    (of_fields.chunk ∙ ap (λ (f : Fields). f.chunk) same) (of_fields.stripes ∙ ap (λ (f : Fields). f.stripes) same) in
+    same_geometry geometry s.table.geometry (of_fields.format ∙ ap (λ (f : Fields). f.format) same)
+    (of_fields.members ∙ ap (λ (f : Fields). f.members) same) (of_fields.chunk ∙ ap (λ (f : Fields). f.chunk) same) (of_fields.stripes ∙ ap (λ (f : Fields). f.stripes) same) in
     subst (λ (f : Fields). IsTable f.generation geometry f.states f.incarnations f.position) (sym same)
     (subst (λ (g : Geometry). IsTable s.table.generation g s.table.states s.table.incarnations s.table.position) (sym geometry_is) s.table.allowed)
 
@@ -42,14 +40,12 @@ ten_slots most = omega arith
 
 -- the rules of a table, one after another
 pub table_iff : (Position : Type 0) (generation : ℕ) (geometry : Geometry) (states : List State) (incarnations : List ℕ) (position : ℕ)
-    → geometry.format ≡ One → length states ≡ 10
-    → length incarnations ≡ 10
+    → length states ≡ 10 → length incarnations ≡ 10
     → 1 ≤ generation → generation ≤ GREATEST_COUNT → AreNumbered (geometry.members + 2) incarnations → AreMissingBeyond (geometry.members + 2) states
     → AreOutOnce (geometry.members + 2) states → Position ↔ IsPositionOf geometry states position → Position
     ↔ IsTable generation geometry states incarnations position
-table_iff Position generation geometry states incarnations position of_format_one ten_states ten_incarnations least most numbered missing out is_position = (
+table_iff Position generation geometry states incarnations position ten_states ten_incarnations least most numbered missing out is_position = (
   (λ is. let found = is_position.0 is in record {
-    of_format_one = of_format_one;
     ten_states = ten_states;
     ten_incarnations = ten_incarnations;
     generation_least = least;
@@ -82,7 +78,7 @@ pub table_out : {generation : ℕ} {geometry : Geometry} {states : List State} {
 table_out table = record { once = table.one_out }
 
 pub geometry_of_fields : {E : Type 0} (fields : Fields) (geometry : Geometry) (made : Result Geometry E) → Some geometry ≡ result_ok made
-    → IfOk made (λ g. g.format ≡ One) → IfOk made (λ g. g.members ≡ fields.members) → IfOk made (λ g. g.chunk ≡ fields.chunk)
+    → IfOk made (λ g. g.format ≡ fields.format) → IfOk made (λ g. g.members ≡ fields.members) → IfOk made (λ g. g.chunk ≡ fields.chunk)
     → IfOk made (λ g. g.stripes ≡ fields.stripes)
     → IsOfFields fields geometry
 geometry_of_fields fields geometry (Ok g) same format members chunk stripes =
@@ -100,15 +96,12 @@ pub fields_are : (fields : Fields) (s t : Superblock) → IsOfFields fields t.ta
     → t.table.generation ≡ fields.generation
     → t.role ≡ fields.role → t.table.states ≡ fields.states → t.table.incarnations ≡ fields.incarnations → t.table.position ≡ fields.position → t ≡ s
 fields_are fields s t of_fields same id generation role states incarnations position =
-    same_superblock t s (fields_same (fields_of t) fields id generation of_fields.members role of_fields.chunk of_fields.stripes states incarnations position
+    same_superblock t s (fields_same (fields_of t) fields of_fields.format id generation of_fields.members role of_fields.chunk of_fields.stripes states incarnations position
     ∙ same)
 
 -- where there is no geometry, no superblock has these fields
-pub fields_limits : (fields : Fields) (s : Superblock) → fields ≡ fields_of s → IsGeometry One fields.members fields.chunk fields.stripes
-fields_limits fields s same =
-    subst (λ (f : Fields). IsGeometry One f.members f.chunk f.stripes) (sym same)
-    (subst (λ (f : Format). IsGeometry f s.table.geometry.members s.table.geometry.chunk s.table.geometry.stripes) s.table.allowed.of_format_one
-    s.table.geometry.limits)
+pub fields_limits : (fields : Fields) (s : Superblock) → fields ≡ fields_of s → IsGeometry fields.format fields.members fields.chunk fields.stripes
+fields_limits fields s same = subst (λ (f : Fields). IsGeometry f.format f.members f.chunk f.stripes) (sym same) s.table.geometry.limits
 
 pub no_geometry : {E : Type 0} (made : Result Geometry E) → None ≡ result_ok made → IsOk made → ⊥
 no_geometry (Ok g) none is = absurd cc

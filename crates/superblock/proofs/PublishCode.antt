@@ -42,6 +42,7 @@ one_sector superblock table slot sector carries own_slot stands =
     let table_is : stands.superblock.table ≡ superblock.table = stands.carries ∙ sym carries in
     let role_is : stands.superblock.role ≡ superblock.role = stands.own_slot ∙ sym own_slot in
     let same : fields_of stands.superblock ≡ fields_of superblock = λ i. record {
+      format = (table_is i).geometry.format;
       id = (table_is i).id;
       generation = (table_is i).generation;
       members = (table_is i).geometry.members;

@@ -1,5 +1,5 @@
 -- A superblock is known by its fields.
-use Rattle.std.proofs.Common.{◌≡◌, ◌≢◌, ℕ, ◌+◌, ◌<◌, List, length, ap, sym, ◌∙◌}
+use Rattle.std.proofs.Common.{◌≡◌, ◌≢◌, ℕ, ◌+◌, ◌<◌, List, length, ap}
 use Rattle.std.proofs.Props.{props}
 use mathlib.Core.HLevel.{is_prop→PathP}
 use mathlib.Core.Sum.{⊎_set}
@@ -17,15 +17,12 @@ use Rattle.superblock.specs.Tables.{IsTable, state_at}
 State-set : IsSet State
 State-set = hlevel (props, ⊎_set)
 
-Format-set : IsSet Format
-Format-set = hlevel (props, ⊎_set)
-
 IsGeometry-prop : (format : Format) (members chunk stripes : ℕ) → IsProp (IsGeometry format members chunk stripes)
 IsGeometry-prop format members chunk stripes = hlevel props
 
 IsTable-prop : (generation : ℕ) (geometry : Geometry) (states : List State) (incarnations : List ℕ) (position : ℕ)
     → IsProp (IsTable generation geometry states incarnations position)
-IsTable-prop generation geometry states incarnations position = hlevel (props, State-set, Format-set)
+IsTable-prop generation geometry states incarnations position = hlevel (props, State-set)
 
 pub same_geometry : (a b : Geometry) → a.format ≡ b.format → a.members ≡ b.members → a.chunk ≡ b.chunk → a.stripes ≡ b.stripes → a ≡ b
 same_geometry a b format members chunk stripes = λ i. record {
@@ -64,7 +61,7 @@ pub same_superblock : (a b : Superblock) → fields_of a ≡ fields_of b → a �
 same_superblock a b same =
     same_in_table a b
     (same_table a.table b.table (ap (λ (f : Fields). f.id) same) (ap (λ (f : Fields). f.generation) same)
-    (same_geometry a.table.geometry b.table.geometry (a.table.allowed.of_format_one ∙ sym b.table.allowed.of_format_one)
+    (same_geometry a.table.geometry b.table.geometry (ap (λ (f : Fields). f.format) same)
     (ap (λ (f : Fields). f.members) same) (ap (λ (f : Fields). f.chunk) same) (ap (λ (f : Fields). f.stripes) same))
     (ap (λ (f : Fields). f.states) same) (ap (λ (f : Fields). f.incarnations) same) (ap (λ (f : Fields). f.position) same))
     (ap (λ (f : Fields). f.role) same)

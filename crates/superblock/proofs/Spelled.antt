@@ -13,20 +13,22 @@ use Rattle.superblock.specs.declared.state.State.{State}
 use Rattle.superblock.specs.declared.state.State.TheVariants.{Missing, InSync, Rebuilding}
 use Rattle.superblock.specs.declared.table.Superblock.{Superblock}
 use Rattle.superblock.specs.Reading.{fields_of}
-use Rattle.superblock.specs.Spelling.{begin_mark, end_mark, zeros, state_byte, entry_bytes, entries_bytes, head_bytes, tail_bytes, superblock_sector}
+use Rattle.superblock.specs.Spelling.{begin_mark, end_mark, format_digit, zeros, state_byte, entry_bytes, entries_bytes, head_bytes, tail_bytes, superblock_sector}
 use Rattle.superblock.specs.Tables.{state_at, incarnation_at}
 use Rattle.superblock.proofs.Parts.{HasAt, has_last, has_first, has_left, has_inner, read_number, read_byte, read_bytes, length-little_bytes}
 use Rattle.superblock.proofs.Same.{same_superblock}
 
 -- ---- lengths
 
-pub length-begin_mark : length begin_mark ≡ 8
+pub length-begin_mark : (format : Format) → length (begin_mark format) ≡ 8
 unfolding begin_mark
-length-begin_mark = refl
+length-begin_mark One = refl
+length-begin_mark Two = refl
 
-pub length-end_mark : length end_mark ≡ 8
+pub length-end_mark : (format : Format) → length (end_mark format) ≡ 8
 unfolding end_mark
-length-end_mark = refl
+length-end_mark One = refl
+length-end_mark Two = refl
 
 pub length-zeros : (n : ℕ) → length (zeros n) ≡ n
 unfolding zeros
@@ -57,7 +59,7 @@ length-entries_bytes (suc n) states incarnations =
 -- ---- the fields before the entries
 
 abbrev up_to_id : Superblock → List ℕ
-up_to_id s = begin_mark ++ s.table.id
+up_to_id s = begin_mark s.table.geometry.format ++ s.table.id
 
 abbrev up_to_generation : Superblock → List ℕ
 up_to_generation s = up_to_id s ++ little_bytes 8 s.table.generation
@@ -72,7 +74,7 @@ abbrev up_to_chunk : Superblock → List ℕ
 up_to_chunk s = up_to_role s ++ little_bytes 2 s.table.geometry.chunk
 
 length-up_to_id : (s : Superblock) → length (up_to_id s) ≡ 24
-length-up_to_id s = longer 8 16 24 begin_mark s.table.id length-begin_mark s.table.id_long refl
+length-up_to_id s = longer 8 16 24 (begin_mark s.table.geometry.format) s.table.id (length-begin_mark s.table.geometry.format) s.table.id_long refl
 
 length-up_to_generation : (s : Superblock) → length (up_to_generation s) ≡ 32
 length-up_to_generation s = longer 24 8 32 (up_to_id s) (little_bytes 8 s.table.generation) (length-up_to_id s) (length-little_bytes 8 s.table.generation) refl
@@ -105,9 +107,15 @@ in_members n s field has = in_head n s field (has_left n (up_to_members s) field
 in_generation : (n : ℕ) (s : Superblock) (field : List ℕ) → HasAt n (up_to_generation s) field → HasAt n (head_bytes s) field
 in_generation n s field has = in_members n s field (has_left n (up_to_generation s) field (s.table.geometry.members ∷ []) has)
 
+head_mark : (s : Superblock) → HasAt 0 (head_bytes s) (begin_mark s.table.geometry.format)
+head_mark s =
+    in_generation 0 s (begin_mark s.table.geometry.format)
+    (has_left 0 (up_to_id s) (begin_mark s.table.geometry.format) (little_bytes 8 s.table.generation)
+    (has_first (begin_mark s.table.geometry.format) s.table.id))
+
 head_id : (s : Superblock) → HasAt 8 (head_bytes s) s.table.id
 head_id s = in_generation 8 s s.table.id (has_left 8 (up_to_id s) s.table.id (little_bytes 8 s.table.generation)
-    (has_last 8 begin_mark s.table.id length-begin_mark))
+    (has_last 8 (begin_mark s.table.geometry.format) s.table.id (length-begin_mark s.table.geometry.format)))
 
 head_generation : (s : Superblock) → HasAt 24 (head_bytes s) (little_bytes 8 s.table.generation)
 head_generation s = in_generation 24 s (little_bytes 8 s.table.generation) (has_last 24 (up_to_id s) (little_bytes 8 s.table.generation) (length-up_to_id s))
@@ -167,18 +175,19 @@ length-up_to_own s =
     longer 8 8 16 (up_to_position s) (little_bytes 8 (incarnation_at s.table.incarnations s.role)) (length-little_bytes 8 s.table.position)
     (length-little_bytes 8 (incarnation_at s.table.incarnations s.role)) refl
 
-with_zeros : (n : ℕ) (front : List ℕ) → length front ≡ 16 → length (front ++ zeros n ++ end_mark) ≡ 16 + n + 8
-with_zeros n front long =
-    longer (16 + n) 8 (16 + n + 8) (front ++ zeros n) end_mark (longer 16 n (16 + n) front (zeros n) long (length-zeros n) refl) length-end_mark refl
+with_zeros : (n : ℕ) (front mark : List ℕ) → length front ≡ 16 → length mark ≡ 8 → length (front ++ zeros n ++ mark) ≡ 16 + n + 8
+with_zeros n front mark long mark_long =
+    longer (16 + n) 8 (16 + n + 8) (front ++ zeros n) mark (longer 16 n (16 + n) front (zeros n) long (length-zeros n) refl) mark_long refl
 
 pub length-tail_bytes : (s : Superblock) → length (tail_bytes s) ≡ 312
 unfolding tail_bytes
-length-tail_bytes s = with_zeros 288 (up_to_own s) (length-up_to_own s)
+length-tail_bytes s =
+    with_zeros 288 (up_to_own s) (end_mark s.table.geometry.format) (length-up_to_own s) (length-end_mark s.table.geometry.format)
 
 tail_position : (s : Superblock) → HasAt 0 (tail_bytes s) (little_bytes 8 s.table.position)
 unfolding tail_bytes
 tail_position s =
-    has_left 0 (up_to_own s ++ zeros 288) (up_to_position s) end_mark
+    has_left 0 (up_to_own s ++ zeros 288) (up_to_position s) (end_mark s.table.geometry.format)
     (has_left 0 (up_to_own s) (up_to_position s) (zeros 288)
     (has_first (up_to_position s) (little_bytes 8 (incarnation_at s.table.incarnations s.role))))
 
@@ -261,6 +270,35 @@ incarnation_fits s slot =
 
 -- ---- what is read
 
+-- the first mark begins with an R, and ends with the format's digit
+mark_letter : (format : Format) (rest : List ℕ) → get_or (begin_mark format ++ rest) 0 0 ≡ 82
+unfolding begin_mark
+mark_letter One rest = refl
+mark_letter Two rest = refl
+
+mark_digit : (format : Format) (rest : List ℕ) → get_or (begin_mark format ++ rest) 7 0 ≡ format_digit format
+unfolding begin_mark
+mark_digit One rest = refl
+mark_digit Two rest = refl
+
+empty_is : (xs : List ℕ) → length xs ≡ 0 → xs ≡ []
+empty_is [] none = refl
+empty_is (x ∷ xs) none = absurd (omega arith)
+
+sector_mark : (s : Superblock) → HasAt 0 (superblock_sector s) (begin_mark s.table.geometry.format)
+sector_mark s = of_head 0 s (begin_mark s.table.geometry.format) (head_mark s)
+
+sector_begins : (s : Superblock) → superblock_sector s ≡ begin_mark s.table.geometry.format ++ (sector_mark s).rest
+sector_begins s =
+    let has = sector_mark s in
+    has.parts ∙ ap (λ (p : List ℕ). p ++ (begin_mark s.table.geometry.format ++ has.rest)) (empty_is has.front has.front_long)
+
+pub read_letter : (s : Superblock) → get_or (superblock_sector s) 0 0 ≡ 82
+read_letter s = ap (λ (p : List ℕ). get_or p 0 0) (sector_begins s) ∙ mark_letter s.table.geometry.format (sector_mark s).rest
+
+pub read_digit : (s : Superblock) → get_or (superblock_sector s) 7 0 ≡ format_digit s.table.geometry.format
+read_digit s = ap (λ (p : List ℕ). get_or p 7 0) (sector_begins s) ∙ mark_digit s.table.geometry.format (sector_mark s).rest
+
 pub read_id : (s : Superblock) → take 16 (drop 8 (superblock_sector s)) ≡ s.table.id
 read_id s = read_bytes 8 16 (superblock_sector s) s.table.id (of_head 8 s s.table.id (head_id s)) s.table.id_long
 
@@ -317,6 +355,17 @@ same_state InSync Rebuilding same = absurd cc
 same_state Rebuilding Missing same = absurd cc
 same_state Rebuilding InSync same = absurd cc
 
+same_format : (a b : Format) → format_digit a ≡ format_digit b → a ≡ b
+same_format One One same = refl
+same_format Two Two same = refl
+same_format One Two same = absurd (omega arith)
+same_format Two One same = absurd (omega arith)
+
+format_same : (s t : Superblock) → superblock_sector s ≡ superblock_sector t → s.table.geometry.format ≡ t.table.geometry.format
+format_same s t same =
+    same_format s.table.geometry.format t.table.geometry.format
+    (sym (read_digit s) ∙ ap (λ (x : List ℕ). get_or x 7 0) same ∙ read_digit t)
+
 states_same : (s t : Superblock) → superblock_sector s ≡ superblock_sector t → s.table.states ≡ t.table.states
 states_same s t same =
     same_lists s.table.states t.table.states (s.table.allowed.ten_states ∙ sym t.table.allowed.ten_states) (λ slot d within.
@@ -336,10 +385,11 @@ incarnations_same s t same =
     ∙ read_incarnation t slot (48 + 16 * slot) below refl
     ∙ get_or_default t.table.incarnations slot 0 d (omega (arith, t.table.allowed.ten_incarnations)))
 
-pub fields_same : (a b : Fields) → a.id ≡ b.id → a.generation ≡ b.generation → a.members ≡ b.members → a.role ≡ b.role → a.chunk ≡ b.chunk
+pub fields_same : (a b : Fields) → a.format ≡ b.format → a.id ≡ b.id → a.generation ≡ b.generation → a.members ≡ b.members → a.role ≡ b.role → a.chunk ≡ b.chunk
     → a.stripes ≡ b.stripes
     → a.states ≡ b.states → a.incarnations ≡ b.incarnations → a.position ≡ b.position → a ≡ b
-fields_same a b id generation members role chunk stripes states incarnations position = λ i. record {
+fields_same a b format id generation members role chunk stripes states incarnations position = λ i. record {
+  format = format i;
   id = id i;
   generation = generation i;
   members = members i;
@@ -354,6 +404,7 @@ fields_same a b id generation members role chunk stripes states incarnations pos
 pub one_superblock : (s t : Superblock) → superblock_sector s ≡ superblock_sector t → s ≡ t
 one_superblock s t same =
     same_superblock s t (fields_same (fields_of s) (fields_of t)
+    (format_same s t same)
     (sym (read_id s) ∙ ap (λ (x : List ℕ). take 16 (drop 8 x)) same ∙ read_id t)
     (sym (read_generation s) ∙ ap (λ (x : List ℕ). little_number 8 (drop 24 x)) same ∙ read_generation t)
     (sym (read_members s) ∙ ap (λ (x : List ℕ). get_or x 32 0) same ∙ read_members t)
@@ -404,7 +455,8 @@ regrouped : (front a b c d : List ℕ) → (((front ++ a) ++ b) ++ c) ++ d ≡ f
 regrouped front a b c d = simp append_assoc
 
 pub tail_after : (front : List ℕ) (s : Superblock)
-    → (((front ++ little_bytes 8 s.table.position) ++ little_bytes 8 (incarnation_at s.table.incarnations s.role)) ++ zeros 288) ++ end_mark ≡ front
-    ++ tail_bytes s
+    → (((front ++ little_bytes 8 s.table.position) ++ little_bytes 8 (incarnation_at s.table.incarnations s.role)) ++ zeros 288)
+    ++ end_mark s.table.geometry.format ≡ front ++ tail_bytes s
 unfolding tail_bytes
-tail_after front s = regrouped front (little_bytes 8 s.table.position) (little_bytes 8 (incarnation_at s.table.incarnations s.role)) (zeros 288) end_mark
+tail_after front s = regrouped front (little_bytes 8 s.table.position) (little_bytes 8 (incarnation_at s.table.incarnations s.role)) (zeros 288)
+    (end_mark s.table.geometry.format)

@@ -5,6 +5,7 @@ use Rattle.superblock.specs.declared.table.Superblock.{Superblock}
 -- the fields that a superblock has
 abbrev pub fields_of : Superblock → Fields
 fields_of superblock = record {
+  format = superblock.table.geometry.format;
   id = superblock.table.id;
   generation = superblock.table.generation;
   members = superblock.table.geometry.members;

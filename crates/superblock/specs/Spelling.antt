@@ -1,18 +1,27 @@
 -- The one spelling of a superblock, as the 512 bytes of a sector. Numbers are little-endian.
 use Rattle.std.specs.Prelude.{ℕ, zero, suc, List, [], ◌∷◌, ◌++◌, replicate, codes}
 use Rattle.byteorder.specs.Endian.{little_bytes}
+use Rattle.layout_map.specs.declared.format.Format.{Format}
+use Rattle.layout_map.specs.declared.format.Format.TheVariants.{One, Two}
 use Rattle.superblock.specs.declared.state.State.{State}
 use Rattle.superblock.specs.declared.state.State.TheVariants.{Missing, InSync, Rebuilding}
 use Rattle.superblock.specs.declared.table.Superblock.{Superblock}
 use Rattle.superblock.specs.Tables.{state_at, incarnation_at}
 
--- the mark at the beginning
-unfoldable pub begin_mark : List ℕ
-begin_mark = codes "RAID5JV1"
+-- the mark at the beginning, by the format of the set
+unfoldable pub begin_mark : Format → List ℕ
+begin_mark One = codes "RAID5JV1"
+begin_mark Two = codes "RAID5JV2"
 
 -- the mark at the end
-unfoldable pub end_mark : List ℕ
-end_mark = codes "1VJ5DIAR"
+unfoldable pub end_mark : Format → List ℕ
+end_mark One = codes "1VJ5DIAR"
+end_mark Two = codes "2VJ5DIAR"
+
+-- the digit of a format in its marks: that of its number
+abbrev pub format_digit : Format → ℕ
+format_digit One = 49
+format_digit Two = 50
 
 -- so many bytes 0
 unfoldable pub zeros : ℕ → List ℕ
@@ -36,7 +45,7 @@ entries_bytes (suc slot) states incarnations = entries_bytes slot states incarna
 -- before the entries, 40 bytes: the mark, the set's id, the generation, the members, the role, the chunk's sectors and the stripes
 unfoldable pub head_bytes : Superblock → List ℕ
 head_bytes superblock =
-    begin_mark ++ superblock.table.id ++ little_bytes 8 superblock.table.generation
+    begin_mark superblock.table.geometry.format ++ superblock.table.id ++ little_bytes 8 superblock.table.generation
     ++ (superblock.table.geometry.members ∷ []) ++ (superblock.role ∷ [])
     ++ little_bytes 2 superblock.table.geometry.chunk ++ little_bytes 4 superblock.table.geometry.stripes
 
@@ -45,7 +54,7 @@ unfoldable pub tail_bytes : Superblock → List ℕ
 tail_bytes superblock =
     little_bytes 8 superblock.table.position
     ++ little_bytes 8 (incarnation_at superblock.table.incarnations superblock.role)
-    ++ zeros 288 ++ end_mark
+    ++ zeros 288 ++ end_mark superblock.table.geometry.format
 
 -- the sector that spells a superblock: ten entries between head and tail
 unfoldable pub superblock_sector : Superblock → List ℕ

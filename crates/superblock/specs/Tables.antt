@@ -1,7 +1,6 @@
 -- What a table may say.
 use Rattle.std.specs.Prelude.{◌≡◌, ◌≢◌, ℕ, ◌+◌, ◌<◌, ◌≤◌, List, length, slice_index_or}
 use Rattle.sector_model.specs.declared.calls.TheConstants.{GREATEST_COUNT}
-use Rattle.layout_map.specs.declared.format.Format.TheVariants.{One}
 use Rattle.layout_map.specs.declared.geometry.Geometry.{Geometry}
 use Rattle.layout_map.specs.Placement.{rows_of}
 use Rattle.superblock.specs.declared.state.State.{State}
@@ -16,9 +15,8 @@ abbrev pub incarnation_at : List ℕ → ℕ → ℕ
 incarnation_at incarnations slot = slice_index_or incarnations slot 0
 
 -- There are ten places, the numbers are within their limits, and the places after the last slot are empty. At most one
--- slot is not in sync. Only a member is rebuilding, and only then there is a position, below the number of rows. The set is of format 1.
+-- slot is not in sync. Only a member is rebuilding, and only then there is a position, below the number of rows.
 pub record IsTable (generation : ℕ) (geometry : Geometry) (states : List State) (incarnations : List ℕ) (position : ℕ) : Type 0 where
-  pub of_format_one : geometry.format ≡ One
   pub ten_states : length states ≡ 10
   pub ten_incarnations : length incarnations ≡ 10
   pub generation_least : 1 ≤ generation

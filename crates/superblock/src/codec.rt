@@ -4,18 +4,14 @@ ghost use Rattle.superblock.specs.declared.table.Superblock.{Superblock};
 ghost use Rattle.superblock.specs.Spelling.{entries_bytes, head_bytes, superblock_sector, tail_bytes};
 
 use crate::fields::read_fields;
+use crate::marks::{begin_mark_of, end_mark_of};
 use crate::rules::judge;
 use crate::{State, Superblock};
 use byteorder::{ByteOrder, LittleEndian};
 use sector_model::Sector;
 
-/// The first 8 bytes of a superblock's sector.
-const BEGIN_MARK: [u8; 8] = *b"RAID5JV1";
-
-/// The last 8 bytes of a superblock's sector.
-const END_MARK: [u8; 8] = *b"1VJ5DIAR";
-
-/// Spells the superblock: the sector becomes its one spelling, whatever it held before.
+/// Spells the superblock: the sector becomes its one spelling, whatever it held before. The marks at its ends are those
+/// of the set's format; all else is spelled alike in both.
 pub fn encode(superblock: &Superblock, to: &mut Sector)
     ensures { to.new ≡ superblock_sector superblock.now }
 {
@@ -27,8 +23,9 @@ pub fn encode(superblock: &Superblock, to: &mut Sector)
 /// The superblock that the sector spells, or `None` where it spells none: exactly the sectors that `encode` writes are
 /// accepted.
 ///
-/// Refused are a wrong mark, a filler byte that is not zero, a role that is no slot, a state byte above 2, an own
-/// incarnation other than that of the role's slot, and numbers and states that `Table` and `Superblock` do not allow.
+/// Refused are marks that are not both of one format, a filler byte that is not zero, a role that is no slot, a state
+/// byte above 2, an own incarnation other than that of the role's slot, a geometry that is none of the marks' format,
+/// and numbers and states that `Table` and `Superblock` do not allow.
 pub fn decode(from: &Sector) -> Option<Superblock>
     ensures some { IfSome result (λ superblock. from.now ≡ superblock_sector superblock) }
     ensures exact { (superblock : Superblock) → from.now ≡ superblock_sector superblock → result ≡ Some superblock }
@@ -55,7 +52,7 @@ fn write_head(superblock: &Superblock, to: &mut Sector)
     ensures { take 40 to.new ≡ head_bytes superblock.now }
 {
     let table = &superblock.table;
-    to[..8].copy_from_slice(&BEGIN_MARK);
+    to[..8].copy_from_slice(&begin_mark_of(table.geometry.format));
     to[8..24].copy_from_slice(&table.id);
     LittleEndian::write_u64(&mut to[24..], table.generation);
     to[32] = table.geometry.members;
@@ -84,5 +81,5 @@ fn write_tail(superblock: &Superblock, to: &mut Sector)
     LittleEndian::write_u64(&mut to[200..], table.position);
     LittleEndian::write_u64(&mut to[208..], table.incarnations[superblock.role as usize]);
     to[216..504].fill(0);
-    to[504..].copy_from_slice(&END_MARK);
+    to[504..].copy_from_slice(&end_mark_of(table.geometry.format));
 }

@@ -6,12 +6,15 @@ ghost use Rattle.superblock.specs.Spelling.{superblock_sector};
 ghost use Rattle.superblock.specs.Tables.{state_at, incarnation_at};
 
 use crate::State;
+use crate::marks::format_of_digit;
 use byteorder::{ByteOrder, LittleEndian};
+use layout_map::Format;
 use sector_model::Sector;
 
 // What a sector says at the places of a superblock's fields, whether or not it is allowed.
 #[derive(Clone, Copy)]
 pub(crate) struct Fields {
+    pub format: Format,
     pub id: [u8; 16],
     pub generation: u64,
     pub members: u8,
@@ -23,16 +26,18 @@ pub(crate) struct Fields {
     pub position: u64,
 }
 
-// The fields as the sector has them: for the sector of a superblock those of the superblock. `None` where a byte for a
-// state spells none.
+// The fields as the sector has them: for the sector of a superblock those of the superblock. `None` where the first
+// mark's digit is of no format, or a byte for a state spells none.
 pub(crate) fn read_fields(from: &Sector) -> Option<Fields>
     ensures { (superblock : Superblock) → from.now ≡ superblock_sector superblock
         → result ≡ Some (fields_of superblock) }
 {
+    let format = format_of_digit(from[7])?;
     let (states, incarnations) = read_entries(from)?;
     let mut id = [0; 16];
     id.copy_from_slice(&from[8..24]);
     Some(Fields {
+        format,
         id,
         generation: LittleEndian::read_u64(&from[24..]),
         members: from[32],

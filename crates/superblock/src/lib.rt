@@ -7,6 +7,7 @@ mod counting;
 mod fields;
 mod law;
 mod lengths;
+mod marks;
 pub mod oracle;
 mod publishing;
 mod rules;
@@ -19,7 +20,6 @@ pub use counting::{counted, newer};
 pub use law::superblock_law;
 pub use lengths::least_of;
 pub use publishing::{own_sector, publish};
-pub use rules::is_supported;
 pub use state::State;
 pub use table::{Superblock, Table};
 

@@ -1,6 +1,5 @@
 //! The rules of a superblock's fields.
 ghost use Rattle.std.specs.Prelude.{◌≡◌, ◌≤◌, ◌↔◌, IsTrue};
-ghost use Rattle.layout_map.specs.declared.format.Format.TheVariants.{One};
 ghost use Rattle.superblock.specs.declared.table.Superblock.{Superblock};
 ghost use Rattle.superblock.specs.Reading.{fields_of};
 ghost use Rattle.superblock.specs.Rules.{AreMissingBeyond, AreNumbered, AreOutOnce, IsPositionOf};
@@ -8,14 +7,19 @@ ghost use Rattle.superblock.specs.Tables.{IsTable};
 
 use crate::fields::Fields;
 use crate::{State, Superblock, Table};
-use layout_map::{Format, Geometry};
+use layout_map::Geometry;
 use sector_model::GREATEST_COUNT;
 
 // The superblock that has these fields, or `None` where a rule forbids them.
 pub(crate) fn judge(fields: &Fields) -> Option<Superblock>
     ensures { (superblock : Superblock) → fields.now ≡ fields_of superblock → result ≡ Some superblock }
 {
-    let geometry = Geometry::new(fields.members, fields.chunk, fields.stripes).ok()?;
+    let geometry = Geometry::of_format(
+        fields.format,
+        fields.members,
+        fields.chunk,
+        fields.stripes,
+    ).ok()?;
     if !is_table(fields, &geometry) {
         return None;
     }
@@ -40,8 +44,7 @@ fn is_table(fields: &Fields, geometry: &Geometry) -> bool
         fields.now.position }
 {
     let slots = geometry.members + 2;
-    if !is_supported(geometry.format)
-        || !matches!(fields.generation, 1..=GREATEST_COUNT)
+    if !matches!(fields.generation, 1..=GREATEST_COUNT)
         || !are_numbered(&fields.incarnations, slots)
         || !are_missing_beyond(&fields.states, slots)
         || !are_out_once(&fields.states, slots)
@@ -49,13 +52,6 @@ fn is_table(fields: &Fields, geometry: &Geometry) -> bool
         return false;
     }
     is_position(&fields.states, fields.position, geometry)
-}
-
-/// Whether a superblock may be of a set of this format: format 1.
-pub fn is_supported(format: Format) -> bool
-    ensures { IsTrue result ↔ format ≡ One }
-{
-    matches!(format, Format::One)
 }
 
 // Whether the slots have incarnations 1 to 2^62, and the places after them 0.

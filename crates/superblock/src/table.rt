@@ -14,7 +14,7 @@ pub struct Table {
     pub id: [u8; 16],
     /// The number of the table, 1 to 2^62: each table that a set publishes has the number after the one before.
     pub generation: u64,
-    /// The format, which is format 1, the members, the chunk and the stripes.
+    /// The format, the members, the chunk and the stripes.
     pub geometry: Geometry,
     /// The state of each slot; `Missing` after the second journal. At most one slot is not in sync, and only a member
     /// is rebuilding.

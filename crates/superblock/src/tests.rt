@@ -1,4 +1,6 @@
 //! The bytes of a superblock as docs/FORMATS.md has them, sectors that spell none, and the choice among several.
+mod large;
+
 use crate::fields::Fields;
 use crate::rules::judge;
 use crate::testing::{FRESH, ID, read, same, spelled};
@@ -49,6 +51,7 @@ fn superblock_vector(rt: HostRuntime) {
     ];
     for role in 0..5 {
         let fields = Fields {
+            format: Format::One,
             id: ID,
             generation: 1,
             members: 3,
@@ -68,6 +71,7 @@ fn superblock_vector(rt: HostRuntime) {
         let shape = (geometry.members, geometry.chunk, geometry.stripes);
         let got = (sector, decoded.role, decoded.table, shape);
         same(&rt, got, (vector(role), role, table, (3, 8, 32)));
+        same(&rt, geometry.format, Format::One);
     }
     superblock_law();
 }

@@ -4,6 +4,7 @@ use Rattle.std.specs.Prelude.{slice_index_or}
 use Rattle.extents.specs.declared.owned.Owned.{Owned}
 use Rattle.extents.specs.ExtentMaps.{HasPlace, IsWhere}
 use Rattle.extents.proofs.ExtentLawLemmas.{block_is_within, sector_is_one}
+use Rattle.layout_map.specs.declared.format.Format.TheVariants.{One}
 use Rattle.layout_map.specs.Placement.{data_sectors_of}
 use Rattle.superblock.specs.declared.table.Table.{Table}
 use Rattle.superblock.specs.Cases.{Lost}
@@ -64,10 +65,10 @@ module _ (owners : List (Option Owned)) (number at : ℕ) (blocks : List Block) 
 
 -- they may be committed
 pub placed_may_commit : (table : Table) (owners : List (Option Owned)) (number at : ℕ) (blocks : List Block) (sectors : List (ℕ × Block))
-    → length owners ≤ extents_in table.geometry
+    → table.geometry.format ≡ One → length owners ≤ extents_in table.geometry
     → 1 ≤ length blocks → length blocks ≤ MOST_BLOCKS_AT_ONCE → AllPlaced EXTENT_SECTORS owners number at (at + length blocks)
     → ArePlaced owners number at blocks sectors → MayCommit table sectors
-placed_may_commit table owners number at blocks sectors sized least most placed are = record {
+placed_may_commit table owners number at blocks sectors one sized least most placed are = record {
   least = omega (arith, least, are.as_many);
   most = omega (arith, most, are.as_many);
   of_set = λ i within. omega (arith, placed_within owners number at blocks sectors placed are i within, room);
@@ -75,15 +76,16 @@ placed_may_commit table owners number at blocks sectors sized least most placed 
 }
   where
     room : RESERVED_SECTORS + EXTENT_SECTORS * length owners ≤ data_sectors_of table.geometry.members table.geometry.chunk table.geometry.stripes
-    room = room_for table (length owners) sized
+    room = room_for table (length owners) one sized
 
 -- a commit of them
 pub placed_commit : (honest : Type 0) (owners : List (Option Owned)) (number at : ℕ) (blocks : List Block) (sectors : List (ℕ × Block)) (old new : ArrayView)
     (answer : Answer)
+    → old.table.geometry.format ≡ One
     → length owners ≤ extents_in old.table.geometry → AllPlaced EXTENT_SECTORS owners number at (at + length blocks) → ArePlaced owners number at blocks sectors
     → Commits honest sectors old new answer
     → ChangesList honest 1 (IsSameOr (IsWrittenAt EXTENT_SECTORS owners number at blocks)) (IsWrittenAt EXTENT_SECTORS owners number at blocks) old new answer
-placed_commit honest owners number at blocks sectors old new answer sized placed are commits =
+placed_commit honest owners number at blocks sectors old new answer one sized placed are commits =
     changes_more honest 1 1 (IsSameOr (λ V W. W ≡ written V sectors)) (λ V W. W ≡ written V sectors)
     (IsSameOr (IsWrittenAt EXTENT_SECTORS owners number at blocks)) (IsWrittenAt EXTENT_SECTORS owners number at blocks) old new answer
     (omega arith) (changes_commit honest sectors old new answer commits)
@@ -98,6 +100,6 @@ placed_commit honest owners number at blocks sectors old new answer sized placed
         (written_at owners number at blocks sectors placed are V
         (omega (
           arith,
-          room_for old.table (length owners) sized,
+          room_for old.table (length owners) one sized,
           rests_long old lost V rests,
         )))

@@ -8,6 +8,7 @@ use Rattle.extents.specs.declared.owned.Owned.{Owned}
 use Rattle.extents.specs.ExtentMaps.{HasPlace, IsWhere}
 use Rattle.extents.specs.Owners.{IsAt}
 use Rattle.extents.proofs.ExtentLawLemmas.{block_is_within}
+use Rattle.layout_map.specs.declared.format.Format.TheVariants.{One}
 use Rattle.layout_map.specs.Placement.{data_sectors_of}
 use Rattle.superblock.specs.declared.table.Table.{Table}
 use Rattle.superblock.specs.Cases.{Lost}
@@ -22,15 +23,15 @@ use Rattle.volume_table.proofs.TableSizes.{room_for}
 use Rattle.layout_map.specs.declared.sizes.TheConstants.{EXTENT_SECTORS}
 
 -- a block lies in a logical sector of the set
-pub block_of_set : (table now : Table) (owners : List (Option Owned)) (number block sector : ℕ) → length owners ≤ extents_in table.geometry
-    → now.geometry ≡ table.geometry
+pub block_of_set : (table now : Table) (owners : List (Option Owned)) (number block sector : ℕ) → now.geometry.format ≡ One
+    → length owners ≤ extents_in table.geometry → now.geometry ≡ table.geometry
     → HasPlace owners number (block / EXTENT_SECTORS)
     → IsWhere owners number block sector → sector < data_sectors_of now.geometry.members now.geometry.chunk now.geometry.stripes
-block_of_set table now owners number block sector sized same place where_is =
+block_of_set table now owners number block sector one sized same place where_is =
     let few : length owners ≤ extents_in now.geometry = rw same sized in
     omega (
       arith,
-      room_for now (length owners) few,
+      room_for now (length owners) one few,
       (block_is_within owners number block sector place where_is).1,
     )
 

@@ -10,6 +10,7 @@ use Rattle.sector_model.specs.declared.refusal.Refusal.TheVariants.{NothingToReb
 use Rattle.superblock.specs.declared.state.State.{State}
 use Rattle.superblock.specs.declared.state.State.TheVariants.{InSync, Missing, Rebuilding}
 use Rattle.layout_map.specs.declared.format.Format.{Format}
+use Rattle.layout_map.specs.declared.format.Format.TheVariants.{One}
 use Rattle.layout_map.specs.declared.sizes.TheConstants.{REBUILD_ROWS}
 use Rattle.layout_map.specs.Formats.{rebuild_rows}
 use Rattle.superblock.specs.declared.table.Table.{Table}
@@ -180,6 +181,7 @@ step_table old new member rows Complete is (all, is_rebuilt) = record {
 pub record TakesStep (honest : Type 0) (rows : ℕ) (old new : StoreView) (answer : Result Progress Refusal) : Type 0 where
   pub kept : KeepsRefusal Progress old new answer
   pub steps : StepsRebuild honest rows old.array new.array answer
+  pub of_format_one : old.array.table.geometry.format ≡ One
 
 -- an end of the array's call is one of the store's
 end_of : (old new : ArrayView) (rows : ℕ) (refusal : Refusal) → IsNoStep old new refusal → EndsIt refusal
@@ -198,8 +200,8 @@ progressed_differs progress refusal same = cc
 abbrev end_at : Table → ℕ → ℕ
 end_at table rows = stepped REBUILD_ROWS (row_count table) rows table.position
 
-end_is : (table : Table) (rows : ℕ) → end_of_step table rows ≡ end_at table rows
-end_is table rows = ap (λ (format : Format). stepped (rebuild_rows format) (row_count table) rows table.position) table.allowed.of_format_one
+end_is : (table : Table) (rows : ℕ) → table.geometry.format ≡ One → end_of_step table rows ≡ end_at table rows
+end_is table rows one = ap (λ (format : Format). stepped (rebuild_rows format) (row_count table) rows table.position) one
 
 module _ (honest : Type 0) (rows : ℕ) (old new : StoreView) (answer : Result Progress Refusal) (is : TakesStep honest rows old new answer) where
   slots_same : slots_of new.array.table ≡ slots_of old.array.table
@@ -249,7 +251,7 @@ module _ (honest : Type 0) (rows : ℕ) (old new : StoreView) (answer : Result P
   not_last : (q member : ℕ) → IsAfterStep old.array.table member rows (Position q) new.array.table
       → (end_at old.array.table rows == row_count old.array.table) ≡ false
   not_last q member after = ne_eqb (end_at old.array.table rows) (row_count old.array.table) (λ same.
-      absurd (omega (arith, after.0, after.1, same, end_is old.array.table rows)))
+      absurd (omega (arith, after.0, after.1, same, end_is old.array.table rows is.of_format_one)))
 
   same_states : (q member : ℕ) → IsAfterStep old.array.table member rows (Position q) new.array.table
       → states_in old.array.table ≡ states_in new.array.table
@@ -262,7 +264,7 @@ module _ (honest : Type 0) (rows : ℕ) (old new : StoreView) (answer : Result P
       → end_at old.array.table rows ≡ new.array.table.position
   position_now q member after = elim after.2 [
     | inl (none, same) ↦ no_step (row_count old.array.table) rows old.array.table.position none ∙ ap (λ (t : Table). t.position) (sym same)
-    | inr (some, moved) ↦ sym (end_is old.array.table rows) ∙ sym after.0 ∙ sym moved.has_position
+    | inr (some, moved) ↦ sym (end_is old.array.table rows is.of_format_one) ∙ sym after.0 ∙ sym moved.has_position
   ]
 
   position_counts : (q member : ℕ) → IsRebuilding old.array.table member
@@ -280,7 +282,7 @@ module _ (honest : Type 0) (rows : ℕ) (old new : StoreView) (answer : Result P
       set_left_by honest (RebuildStep rows) old new (Progressed (Position q)) (devices_in old.array new.array) None
       (are_devices honest old.array new.array (λ fair. is.steps.failure fair unended))
       (admits member rebuilding (step_table old.array.table new.array.table member rows (Position q) rebuilding after))
-      (ap (λ (p : ℕ). Progressed (Position p)) (after.0 ∙ end_is old.array.table rows) ∙ sym (answer_is false (not_last q member after)))
+      (ap (λ (p : ℕ). Progressed (Position p)) (after.0 ∙ end_is old.array.table rows is.of_format_one) ∙ sym (answer_is false (not_last q member after)))
       (ap (settled (devices_in old.array new.array)) (changed_is false (not_last q member after))
       ∙ ap (λ states. settled (devices_in old.array new.array) (made states (end_at old.array.table rows))) (same_states q member after)
       ∙ devices_leave old.array new.array (end_at old.array.table rows) (position_counts q member rebuilding after))
@@ -308,7 +310,7 @@ module _ (honest : Type 0) (rows : ℕ) (old new : StoreView) (answer : Result P
       → IsAfterStep old.array.table member rows Complete new.array.table → ¬ HasEnded answer
       → SetIsLeft honest (OnSet (RebuildStep rows)) old new (Progressed Complete)
   left_complete member rebuilding after unended =
-      let last = eq-eqb (end_at old.array.table rows) (row_count old.array.table) (sym (end_is old.array.table rows) ∙ after.0) in
+      let last = eq-eqb (end_at old.array.table rows) (row_count old.array.table) (sym (end_is old.array.table rows is.of_format_one) ∙ after.0) in
       set_left_by honest (RebuildStep rows) old new (Progressed Complete) (devices_in old.array new.array) None
       (are_devices honest old.array new.array (λ fair. is.steps.failure fair unended))
       (admits member rebuilding (step_table old.array.table new.array.table member rows Complete rebuilding after))

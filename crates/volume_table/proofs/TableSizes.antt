@@ -45,11 +45,11 @@ has_table_sectors geometry =
       data_sectors_by_rows geometry.members geometry.chunk geometry.stripes,
     )
 
--- the extents of a set lie within its data sectors
-pub room_for : (table : Table) (count : ℕ) → count ≤ extents_in table.geometry
+-- the extents of a set of format 1 lie within its data sectors
+pub room_for : (table : Table) (count : ℕ) → table.geometry.format ≡ One → count ≤ extents_in table.geometry
     → RESERVED_SECTORS + EXTENT_SECTORS * count ≤ data_sectors_of table.geometry.members table.geometry.chunk table.geometry.stripes
-room_for table count few =
-    by_format table.geometry.format table.geometry.members table.geometry.chunk table.geometry.stripes table.allowed.of_format_one
+room_for table count one few =
+    by_format table.geometry.format table.geometry.members table.geometry.chunk table.geometry.stripes one
     table.geometry.limits.has_extent few
   where
     by_format : (format : Format) (members chunk stripes : ℕ) → format ≡ One → 1 ≤ extents_of format members chunk stripes

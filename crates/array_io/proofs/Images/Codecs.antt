@@ -4,9 +4,8 @@ use Rattle.std.proofs.lemmas.List.{length-replicate}
 use Rattle.std.proofs.Math.Seq.{drop-append_seam, take-append_seam}
 use Rattle.parity.specs.Xor.{zero_sector}
 use Rattle.parity.proofs.Laws.{get_or-zero_sector}
-use Rattle.superblock.specs.declared.table.Superblock.{Superblock}
-use Rattle.superblock.specs.Spelling.{begin_mark, head_bytes, superblock_sector}
-use Rattle.superblock.proofs.Spelled.{length-superblock_sector, one_superblock}
+use Rattle.superblock.specs.Spelling.{superblock_sector}
+use Rattle.superblock.proofs.Spelled.{length-superblock_sector, one_superblock, read_letter}
 use Rattle.stripe_journal.specs.Forms.{rows_in}
 use Rattle.stripe_journal.specs.declared.form.Form.{Form}
 use Rattle.stripe_journal.specs.declared.seal.Seal.{Seal}
@@ -82,10 +81,6 @@ one_seal first second same =
         ∙ sym (seal_bytes_are id second.number (rows_in second.form) second.form)
 
 -- a spelling begins with the mark, and no sector of zeros does
-superblock_begins : (superblock : Superblock) → get_or (superblock_sector superblock) 0 0 ≡ 82
-unfolding superblock_sector head_bytes begin_mark
-superblock_begins superblock = refl
-
 zero_begins : (sector : List ℕ) → get_or sector 0 0 ≡ 82 → zero_sector ≢ sector
 zero_begins sector begins is = absurd (omega (arith, begins, ap (λ (s : List ℕ). get_or s 0 0) is, get_or-zero_sector 0 (omega arith)))
 
@@ -94,6 +89,6 @@ spellings = record {
   superblock_long = length-superblock_sector;
   one_superblock = one_superblock;
   one_seal = one_seal;
-  zero_no_superblock = λ superblock. zero_begins (superblock_sector superblock) (superblock_begins superblock);
+  zero_no_superblock = λ superblock. zero_begins (superblock_sector superblock) (read_letter superblock);
   zero_no_seal = λ seal. zero_begins (seal_sector seal) (seal_begins seal);
 }

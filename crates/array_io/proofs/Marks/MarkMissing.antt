@@ -13,6 +13,7 @@ use Rattle.sector_model.specs.History.{Bytes, History}
 use Rattle.sector_model.specs.Moments.{here}
 use Rattle.sector_model.proofs.Panels.{later_same}
 use Rattle.sector_model.proofs.Steps.{throughout_last}
+use Rattle.layout_map.specs.declared.format.Format.TheVariants.{One}
 use Rattle.layout_map.specs.declared.geometry.Geometry.{Geometry}
 use Rattle.layout_map.specs.declared.sizes.TheConstants.{SUPERBLOCK_PLACES}
 use Rattle.superblock.proofs.LeastSectors.{four_least}
@@ -130,19 +131,34 @@ up_before : (b : Bool) → (b ≡ true → ⊥) → b ≡ false
 up_before true never = absurd (never refl)
 up_before false never = refl
 
--- the set's slots stay slots of the bank, and those that are left are long enough
-pub others_stay : (old_panel new_panel : Panel) (old_table new_table : Table) (slot : ℕ) → slot < slots_of old_table → IsMarked old_table slot new_table
+-- the set's slots stay slots of the bank
+others_of_bank : (old_panel new_panel : Panel) (old_table new_table : Table) (slot : ℕ) → IsMarked old_table slot new_table → IsLater old_panel new_panel
+    → HasOtherSlots slot old_table old_panel → slots_of new_table ≤ new_panel.devices
+others_of_bank old_panel new_panel old_table new_table slot marked later its =
+    omega (arith, its.of_bank, later.devices, same_slots old_table new_table slot marked)
+
+-- and those that are left are long enough
+others_fit : (old_panel new_panel : Panel) (old_table new_table : Table) (slot other : ℕ) → slot < slots_of old_table → IsMarked old_table slot new_table
+    → IsLater old_panel new_panel → HasOtherSlots slot old_table old_panel
+    → other < slots_of new_table → state_at new_table.states other ≢ Missing → new_panel.down other ≡ false
+    → least_sectors new_table.geometry other ≤ new_panel.sectors other
+others_fit old_panel new_panel old_table new_table slot other of_set marked later its of_set' there up =
+    let apart = apart_if old_table new_table slot other of_set marked there in
+    let fits = its.fit other (subst (λ (n : ℕ). other < n) (same_slots old_table new_table slot marked) of_set') apart
+    (λ is. there (state_stays old_table new_table slot marked other apart ∙ is))
+    (up_before (old_panel.down other) (λ down. flags_differ (sym (later.down other down) ∙ up))) in
+    subst (λ (g : Geometry). least_sectors g other ≤ new_panel.sectors other) (sym marked.same_geometry)
+    (subst (λ (n : ℕ). least_sectors old_table.geometry other ≤ n) (sym (later.sectors other)) fits)
+
+-- so the set has its slots as before
+pub others_stay : (old_panel new_panel : Panel) (old_table new_table : Table) (slot : ℕ) → old_table.geometry.format ≡ One → slot < slots_of old_table
+    → IsMarked old_table slot new_table
     → IsLater old_panel new_panel
     → HasOtherSlots slot old_table old_panel → HasItsSlots new_table new_panel
-others_stay old_panel new_panel old_table new_table slot of_set marked later its = record {
-  of_bank = omega (arith, its.of_bank, later.devices, same_slots old_table new_table slot marked);
-  fit = λ other of_set' there up.
-      let apart = apart_if old_table new_table slot other of_set marked there in
-      let fits = its.fit other (subst (λ (n : ℕ). other < n) (same_slots old_table new_table slot marked) of_set') apart
-      (λ is. there (state_stays old_table new_table slot marked other apart ∙ is))
-      (up_before (old_panel.down other) (λ down. flags_differ (sym (later.down other down) ∙ up))) in
-      subst (λ (g : Geometry). least_sectors g other ≤ new_panel.sectors other) (sym marked.same_geometry)
-      (subst (λ (n : ℕ). least_sectors old_table.geometry other ≤ n) (sym (later.sectors other)) fits);
+others_stay old_panel new_panel old_table new_table slot of_format_one of_set marked later its = record {
+  of_format_one = ap (λ (g : Geometry). g.format) marked.same_geometry ∙ of_format_one;
+  of_bank = others_of_bank old_panel new_panel old_table new_table slot marked later its;
+  fit = λ other of_set' there up. others_fit old_panel new_panel old_table new_table slot other of_set marked later its of_set' there up;
 }
 
 -- the same, where all were
@@ -150,7 +166,7 @@ slots_stay : (old_panel new_panel : Panel) (old_table new_table : Table) (slot :
     → IsLater old_panel new_panel
     → HasItsSlots old_table old_panel → HasItsSlots new_table new_panel
 slots_stay old_panel new_panel old_table new_table slot of_set marked later its =
-    others_stay old_panel new_panel old_table new_table slot of_set marked later
+    others_stay old_panel new_panel old_table new_table slot its.of_format_one of_set marked later
     (record { of_bank = its.of_bank; fit = λ other of_set' apart there up. its.fit other of_set' there up })
 
 module _ (spellings : Spellings) (honest : Type 0) (slot number : ℕ) (old_panel new_panel : Panel) (old_table new_table : Table) (old new : History)
@@ -266,12 +282,15 @@ pub can_publish : (panel : Panel) (old_table new_table : Table) (slot : ℕ) →
     → HasOtherSlots slot old_table panel
     → CanPublish panel new_table None
 can_publish panel old_table new_table slot of_set marked its =
-    let after = others_stay panel panel old_table new_table slot of_set marked (later_same panel) its in
     record {
-      of_bank = after.of_bank;
+      of_bank = others_of_bank panel panel old_table new_table slot marked (later_same panel) its;
       last_in_set = λ last is. absurd (cc);
       last_there = λ last is. absurd (cc);
-      has_places = λ other of_set' there up. let fits = after.fit other of_set' there up in omega (arith, fits, least_two new_table.geometry other);
+      has_places = λ other of_set' there up. omega (
+        arith,
+        others_fit panel panel old_table new_table slot other of_set marked (later_same panel) its of_set' there up,
+        least_two new_table.geometry other,
+      );
     }
 
 -- all slots are long enough, and so the others are
@@ -285,7 +304,7 @@ pub its_slots_stay : (honest : Type 0) (slot : ℕ) (old_panel new_panel : Panel
 its_slots_stay honest slot old_panel new_panel old_table new_table old new answer of_set its (inl left) =
     subst₂ (λ (t : Table) (p : Panel). HasItsSlots t p) (sym left.same_table) (sym left.same_panel) its
 its_slots_stay honest slot old_panel new_panel old_table new_table old new answer of_set its (inr is) =
-    others_stay old_panel new_panel old_table new_table slot of_set is.marked is.publishes.later (but_one slot old_table old_panel its)
+    others_stay old_panel new_panel old_table new_table slot its.of_format_one of_set is.marked is.publishes.later (but_one slot old_table old_panel its)
 
 -- what `mark_slot` did of an array's bank and table is what `mark_missing` promises
 pub marks_missing : Spellings → (honest : Type 0) (slot number : ℕ) (old_panel new_panel : Panel) (old_table new_table : Table) (old new : History)

@@ -45,7 +45,6 @@ pub marked_is_table : (table : Table) (slot : ℕ) → slot < slots_of table →
     → ((other : ℕ) → other < slots_of table → other ≢ slot → state_at table.states other ≡ InSync)
     → IsTable (table.generation + 1) table.geometry (without_slot table slot) table.incarnations 0
 marked_is_table table slot of_set more others = record {
-  of_format_one = table.allowed.of_format_one;
   ten_states = length-set table.states slot Missing ∙ table.allowed.ten_states;
   ten_incarnations = table.allowed.ten_incarnations;
   generation_least = omega arith;

@@ -9,6 +9,6 @@ loop-slot-init c = record { states = filled_none State InSync Missing; incarnati
 
 pub invariant_of-result-clause-allowed : goal.invariant_of-result-clause-allowed
 invariant_of-result-clause-allowed c =
-    first_is_table c.args.geometry c.loop-slot.slot c.loop-slot.states c.loop-slot.incarnations c.requires
+    first_is_table c.args.geometry c.loop-slot.slot c.loop-slot.states c.loop-slot.incarnations
     (omega (arith, c.loop-slot-test.false, c.loop-slot.auto.slot-end))
     c.loop-slot.invariant.states c.loop-slot.invariant.incarnations

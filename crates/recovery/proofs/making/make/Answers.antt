@@ -1,6 +1,7 @@
 use Rattle.recovery.specs.Making.{bank_view}
-use Rattle.recovery.proofs.MakingAnswer.{made_opened}
-use Rattle.std.proofs.Common.{refl}
+use Rattle.recovery.proofs.MakingAnswer.{is_format_one, made_opened}
+use Rattle.std.proofs.Common.{ap, refl, sym, ◌∙◌}
+use Rattle.layout_map.specs.declared.geometry.Geometry.{Geometry}
 use Rattle.recovery.proofs.making.make.Goals as goal
 
 pub returns-in-Ok-clause-made : goal.returns-in-Ok-clause-made
@@ -9,10 +10,14 @@ returns-in-Ok-clause-made g c =
     (g.B.Bank.panel c.put_set.new.bank) (g.B.Bank.history c.put_set.new.bank) c.first_table-table.result c.first_table-table.ensures
     c.in-Ok.ensures.panel c.in-Ok.ensures.its_slots c.in-Ok.ensures.rests
 
-pub put_set-requires : goal.put_set-requires
-put_set-requires g c =
+pub put_set-requires-clause-first : goal.put_set-requires-clause-first
+put_set-requires-clause-first g c =
     let first = c.first_table-table.ensures in
-    record { first = record { of_id = refl; of_geometry = refl; generation = first.generation; in_sync = first.in_sync; incarnations = first.incarnations } }
+    record { of_id = refl; of_geometry = refl; generation = first.generation; in_sync = first.in_sync; incarnations = first.incarnations }
+
+pub put_set-requires-clause-of_format_one : goal.put_set-requires-clause-of_format_one
+put_set-requires-clause-of_format_one g c = ap (λ (g : Geometry). g.format) c.first_table-table.ensures.of_geometry
+    ∙ is_format_one c.args.geometry.format (sym c.ne.ensures ∙ c.if-ne.false)
 
 pub invariant_of-result : goal.invariant_of-result
 invariant_of-result g c = record { its_slots = c.in-Ok.ensures.its_slots }

@@ -6,7 +6,6 @@ use Rattle.superblock.proofs.Spelled.{length-end_mark, length-zeros, zeros_are, 
 use Rattle.superblock.proofs.codec.write_tail.Goals as goal
 
 pub returns : goal.returns
-unfolding end_mark
 returns c =
     let s = c.args.superblock.now in
     let front = take 200 c.args.to.now in
@@ -16,5 +15,6 @@ returns c =
     c.write_u64-2.ensures in
     let filled = begins_field 216 288 504 _ c.fill.new.self (zeros 288) _ owned refl (omega arith)
     (c.fill.ensures.after (λ y same. cc) ∙ zeros_are _ 288 (part_long 216 288 _ _ owned (omega arith))) (length-zeros 288) in
-    let ended = begins_field 504 8 512 _ c.copy_from_slice.new.self end_mark _ filled refl (omega arith) c.copy_from_slice.ensures.after length-end_mark in
+    let ended = begins_field 504 8 512 _ c.copy_from_slice.new.self (end_mark s.table.geometry.format) _ filled refl (omega arith)
+    (c.copy_from_slice.ensures.after ∙ c.end_mark_of.ensures) (length-end_mark s.table.geometry.format) in
     begins_all _ _ ended ∙ tail_after front s

@@ -28,6 +28,9 @@ returns-clause-applied g c = ok_then _ _ _ (λ written. applied_on _ _ c.in_ok-s
     c.apply.ensures.applies
     _ _ _ c.in_ok-reply.ensures.same c.in_ok-reply.ensures.done c.rows.ensures written) c.write_event.ensures.ok
 
+pub returns-clause-unwritten : goal.returns-clause-unwritten
+returns-clause-unwritten g c = only_cut _ _ c.write_event.ensures.kind
+
 pub returns-clause-refused : goal.returns-clause-refused
 returns-clause-refused g c = only_cut _ _ c.write_event.ensures.kind
 

@@ -25,7 +25,8 @@ loop-preserved g c =
       honest = λ honest. c.in_ok-progress.ensures.honest.0 (was.honest honest);
       still = λ honest. was.still (c.in_ok-progress.ensures.honest.1 honest);
       made = one_more _ _ was.before _ _ _ _ _ was.honest (ap (λ p. Ok (progress_by p)) c.in-Position.is) was.made
-          (of_its_step _ _ c.args.store.now.array.table _ _ (Ok (progress_by c.in_ok-progress.progress)) c.rebuild_rows-rows.ensures
+          (of_its_step _ _ c.args.store.now.array.table _ _ (Ok (progress_by c.in_ok-progress.progress))
+          c.args.store.now.array.its_slots.of_format_one c.rebuild_rows-rows.ensures
           c.in_ok-progress.ensures.rebuilds);
     }
 
@@ -41,7 +42,8 @@ returns-in_err-progress-clause-rebuilds g c =
     let was = c.loop.invariant in
     rw (p.1, p.2) (ends_early _ _ c.args.steps _ _ was.before _ _ _ _ c.unwrap_or-most.ensures was.honest (omega (arith, was.counted, c.loop-test.true))
     was.made
-    (of_its_step _ _ c.args.store.now.array.table _ _ (Err c.in_err-progress.field-0.0) c.rebuild_rows-rows.ensures c.in_err-progress.ensures.rebuilds)
+    (of_its_step _ _ c.args.store.now.array.table _ _ (Err c.in_err-progress.field-0.0)
+    c.args.store.now.array.its_slots.of_format_one c.rebuild_rows-rows.ensures c.in_err-progress.ensures.rebuilds)
     (none_refused _))
 
 pub returns-in-Complete-clause-honest : goal.returns-in-Complete-clause-honest
@@ -54,7 +56,8 @@ pub returns-in-Complete-clause-rebuilds : goal.returns-in-Complete-clause-rebuil
 returns-in-Complete-clause-rebuilds g c =
     let was = c.loop.invariant in
     ends_early _ _ c.args.steps _ _ was.before _ _ _ _ c.unwrap_or-most.ensures was.honest (omega (arith, was.counted, c.loop-test.true)) was.made
-    (of_its_step _ _ c.args.store.now.array.table _ _ (Ok (progress_by c.in_ok-progress.progress)) c.rebuild_rows-rows.ensures
+    (of_its_step _ _ c.args.store.now.array.table _ _ (Ok (progress_by c.in_ok-progress.progress))
+    c.args.store.now.array.its_slots.of_format_one c.rebuild_rows-rows.ensures
     c.in_ok-progress.ensures.rebuilds) (none_answered _ c.in-Complete.is)
 
 pub returns-clause-honest : goal.returns-clause-honest
@@ -68,4 +71,5 @@ returns-clause-rebuilds g c =
     let was = c.loop.invariant in
     ends_last _ _ c.args.steps _ _ was.before _ _ _ _ c.unwrap_or-most.ensures c.rows.ensures was.honest
     (omega (arith, was.counted, was.within, c.loop-test.false)) was.made
-    (of_its_step _ _ c.args.store.now.array.table _ _ _ c.rebuild_rows-rows.ensures c.rebuild_step-2.ensures.rebuilds)
+    (of_its_step _ _ c.args.store.now.array.table _ _ _ c.args.store.now.array.its_slots.of_format_one c.rebuild_rows-rows.ensures
+    c.rebuild_step-2.ensures.rebuilds)

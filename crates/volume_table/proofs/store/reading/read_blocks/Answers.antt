@@ -22,7 +22,8 @@ where_is-requires g c = c.requires.placed (c.args.at + c.loop-i.i) (omega arith)
 pub read-requires : goal.read-requires
 read-requires g c =
     let block = c.args.at + c.loop-i.i in
-    block_of_set c.args.array.now.table c.loop-i.array.table c.args.map.now c.args.volume block c.where_is.result c.requires.sized
+    block_of_set c.args.array.now.table c.loop-i.array.table c.args.map.now c.args.volume block c.where_is.result
+    c.loop-i.array.its_slots.of_format_one c.requires.sized
     c.loop-i.invariant.changes.goes_on.not_older.same_geometry (c.requires.placed block (omega arith) (omega arith)) c.where_is.ensures
 
 pub returns-in_err-read-clause-changes : goal.returns-in_err-read-clause-changes

@@ -15,6 +15,7 @@ pub mod EntrySteps
 pub mod EntryValues
 pub mod FormedEntry
 pub mod FormedRows
+pub mod HeldSectors
 pub mod LoadingEntries
 pub mod PutAtRest
 pub mod PuttingParts

@@ -115,7 +115,7 @@ fn begin_rows(geometry: &Geometry, sectors: &[(u64, Sector)], rows: &[u32], entr
     ensures numbers { numbers_of entry.new ≡ rows.now }
     ensures held { HoldsChanged geometry.now sectors.now entry.new }
     ensures zeros { (i member : ℕ) → i < length rows.now → member < MOST_MEMBERS
-        → sector_at entry.new i member ≡ zero_sector }
+        → has_bit (row_mask entry.new i) member ≡ true → sector_at entry.new i member ≡ zero_sector }
 {
     entry.clear();
     for row in rows {

@@ -4,17 +4,19 @@ ghost use Rattle.sector_model.specs.Bank.{IsCauseOf, IsLater};
 ghost use Rattle.sector_model.specs.History.{is_down, seen, sector_of};
 ghost use Rattle.sector_model.specs.Reads.{HasRead};
 ghost use Rattle.layout_map.specs.Formats.{journal_sectors};
+ghost use Rattle.layout_map.specs.declared.format.Format.TheVariants.{One};
 ghost use Rattle.layout_map.specs.declared.sizes.TheConstants.{MOST_MEMBERS};
 ghost use Rattle.stripe_journal.specs.Entries.{body_start, form_of, numbers_of, row_mask, sector_at};
-ghost use Rattle.stripe_journal.specs.Forms.{count_held, has_bit, holds, rank, rows_in};
+ghost use Rattle.stripe_journal.specs.Forms.{count_held, format_of, has_bit, in_body, rank, rows_in};
 
-use layout_map::{BODY_SECTORS, FIRST_BODY, Geometry, HALVES};
+use layout_map::Geometry;
 use sector_model::{Bank, Stop, read_sector};
-use stripe_journal::{Entry, Seal};
+use stripe_journal::{Entry, Seal, half_start};
 
-/// Reads the entry of a seal from this journal, a slot of the bank with as many sectors as a journal of the set's
-/// format has at least where its device is up (conditions): its rows, and of each the sectors that the seal says are
-/// held. `Stop::Down` names the journal's device, `Stop::Worn` says that the count of device calls stands at 2^62.
+/// Reads the entry of a seal that lists its rows, one of format 1, from this journal, a slot of the bank with as many
+/// sectors as a journal of the set's format has at least where its device is up (conditions): its rows, and of each the
+/// sectors that the seal says are held. `Stop::Down` names the journal's device, `Stop::Worn` says that the count of
+/// device calls stands at 2^62.
 pub fn load_entry<B: Bank>(
     bank: &mut B,
     journal: u8,
@@ -23,6 +25,7 @@ pub fn load_entry<B: Bank>(
     entry: &mut Entry,
 ) -> Result<(), Stop>
     requires slot { journal < (B.panel bank.old).devices }
+    requires listed { format_of seal.now.form ≡ One }
     requires within { (B.panel bank.old).down journal ≡ false
         → journal_sectors geometry.now.format ≤ (B.panel bank.old).sectors journal }
     ensures panel { IsLater (B.panel bank.old) (B.panel bank.new) }
@@ -30,14 +33,14 @@ pub fn load_entry<B: Bank>(
     ensures read { B.honest bank.old → HasRead (B.history bank.old) (B.history bank.new) }
     ensures numbers { OnOk result (numbers_of entry.new ≡ rows_in seal.now.form) }
     ensures held { (i member : ℕ) → i < length (rows_in seal.now.form) → member < geometry.now.members
-        → OnOk result (holds geometry.now.members (form_of entry.new) i member ≡ holds geometry.now.members
+        → OnOk result (in_body geometry.now.members (form_of entry.new) i member ≡ in_body geometry.now.members
         seal.now.form i member) }
     ensures loaded { (i member : ℕ) → B.honest bank.old → i < length (rows_in seal.now.form)
         → member < geometry.now.members
-        → holds geometry.now.members seal.now.form i member ≡ true
+        → in_body geometry.now.members seal.now.form i member ≡ true
         → OnOk result (sector_at entry.new i member
         ≡ sector_of (seen (B.history bank.old) journal)
-        (body_start seal.now.number + rank geometry.now.members seal.now.form i member)) }
+        (body_start seal.now + rank geometry.now.members seal.now.form i member)) }
     ensures others_stay { (other : ℕ) → B.honest bank.old → other ≢ journal
         → is_down (B.history bank.new) other ≡ is_down (B.history bank.old) other }
     ensures none_failed { (device : ℕ) → B.honest bank.old
@@ -45,32 +48,28 @@ pub fn load_entry<B: Bank>(
     ensures err { IfErr result (λ stop. IsCauseOf (B.panel bank.new) stop
         × ((stop ≡ Stop.Worn) ⊎ (stop ≡ Stop.Down journal))) }
 {
-    let mut at = FIRST_BODY + BODY_SECTORS * (seal.number % HALVES as u64) as u32;
+    let mut at = half_start(seal.form.format(), seal.number);
     entry.clear();
     for (i, row) in seal.form.rows().iter().enumerate() {
         entry.push(*row, seal.form.mask(geometry.members, i));
-        at = load_row(bank, journal, geometry, seal, at, i, entry)?;
+        at = load_row(bank, journal, geometry, at, i, entry)?;
     }
     Ok(())
 }
 
-// Reads the sectors that the i-th row of a seal holds, of the set's members, from the journal into that row of the
-// entry, whose mask says the same. They stand from a sector on, up to the end of the journal's bodies at most; it
-// answers the sector after them.
+// Reads the sectors that the mask of the entry's i-th row has, of the set's members, from the journal into that row.
+// They stand from a sector on, up to the end of the journal's bodies at most; it answers the sector after them.
 fn load_row<B: Bank>(
     bank: &mut B,
     journal: u8,
     geometry: &Geometry,
-    seal: &Seal,
     first: u32,
     i: usize,
     entry: &mut Entry,
 ) -> Result<u32, Stop>
     requires slot { journal < (B.panel bank.old).devices }
     requires row { i < length (numbers_of entry.old) }
-    requires masked { (member : ℕ) → member < MOST_MEMBERS
-        → has_bit (row_mask entry.old i) member ≡ holds geometry.now.members seal.now.form i member }
-    requires end { first + count_held (holds geometry.now.members seal.now.form i) geometry.now.members
+    requires end { first + count_held (has_bit (row_mask entry.old i)) geometry.now.members
         ≤ journal_sectors geometry.now.format }
     requires within { (B.panel bank.old).down journal ≡ false
         → journal_sectors geometry.now.format ≤ (B.panel bank.old).sectors journal }
@@ -78,13 +77,13 @@ fn load_row<B: Bank>(
     ensures honest { B.honest bank.old ↔ B.honest bank.new }
     ensures read { B.honest bank.old → HasRead (B.history bank.old) (B.history bank.new) }
     ensures beyond { IfOk result (λ at. at
-        ≡ first + count_held (holds geometry.now.members seal.now.form i) geometry.now.members) }
+        ≡ first + count_held (has_bit (row_mask entry.old i)) geometry.now.members) }
     ensures numbers { numbers_of entry.new ≡ numbers_of entry.old }
     ensures form { form_of entry.new ≡ form_of entry.old }
     ensures loaded { (member : ℕ) → B.honest bank.old → member < geometry.now.members
-        → holds geometry.now.members seal.now.form i member ≡ true
+        → has_bit (row_mask entry.old i) member ≡ true
         → OnOk result (sector_at entry.new i member ≡ sector_of (seen (B.history bank.old) journal)
-        (first + count_held (holds geometry.now.members seal.now.form i) member)) }
+        (first + count_held (has_bit (row_mask entry.old i)) member)) }
     ensures others { (other member : ℕ) → other ≢ i → member < MOST_MEMBERS
         → sector_at entry.new other member ≡ sector_at entry.old other member }
     ensures others_stay { (other : ℕ) → B.honest bank.old → other ≢ journal
@@ -96,7 +95,7 @@ fn load_row<B: Bank>(
 {
     let mut at = first;
     for member in 0..geometry.members {
-        if seal.form.holds(geometry.members, i, member) {
+        if entry.view(i).member(member).is_some() {
             read_sector(bank, journal, at, entry.sector_mut(i, member))?;
             at += 1;
         }

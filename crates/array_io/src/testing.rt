@@ -8,7 +8,7 @@ use layout_map::Format;
 use sector_model::{Bank, Image, MemBank, Plan, Sector, read_sector};
 use std::fmt::Debug;
 use std::process::Abort;
-use stripe_journal::{Entry, EntryView};
+use stripe_journal::Entry;
 use superblock::{Table, decode, least_of};
 
 /// Ends the test where `got` is not `want`. As a call it leaves the test a fraction of what `assert_eq!` would
@@ -302,8 +302,11 @@ fn put_rows(rt: &impl Abort, entry: &mut Entry, rows: &[Row]) {
     }
 }
 
-// Asks that of a row the sectors are held that the mask has, and no other, and that they are full of these bytes.
-fn check_row(rt: &impl Abort, row: u32, view: &EntryView, mask: u8, bytes: &Bytes) {
+// Asks that of the i-th row the sectors are held that the mask has, and no other, and are full of these bytes.
+fn check_row(rt: &impl Abort, entry: &Entry, i: usize, mask: u8, bytes: &Bytes) {
+    assert!(rt; i < entry.len());
+    let row = entry.row(i);
+    let view = entry.view(i);
     for member in 0..4u8 {
         let is_so = match view.member(member) {
             Some(sector) => is_held(mask, member) && *sector == all(bytes[member as usize]),
@@ -324,6 +327,6 @@ pub(crate) fn check_rows(rt: &impl Abort, entry: &Entry, rows: &[Row]) {
     for i in 0..rows.len() {
         assert!(rt; i < entry.len());
         same(rt, entry.row(i), rows[i].0);
-        check_row(rt, rows[i].0, &entry.view(i), rows[i].1, &rows[i].2);
+        check_row(rt, entry, i, rows[i].1, &rows[i].2);
     }
 }

@@ -2,6 +2,7 @@ pub mod Bits
 pub mod Builds
 pub mod ByRun
 pub mod Bytes
+pub mod Counts
 pub mod Joins
 pub mod Lookups
 pub mod Ranks

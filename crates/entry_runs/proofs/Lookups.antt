@@ -75,3 +75,19 @@ later_row run (next ∷ runs) row found rise is =
 pub run_in_body : (o : Option Run) (member : ℕ) → in_body_by o member ≡ true → (run : Run) × (o ≡ Some run) × (has_bit run.mask member ≡ true)
 run_in_body None member is = absurd (false≢true is)
 run_in_body (Some run) member is = (run, refl, is)
+
+-- a run that is found is one of them
+pub run_among : (runs : List Run) (row : ℕ) (found : Run) → run_of runs row ≡ Some found
+    → (i : ℕ) × (i < length runs) × (run_at runs i ≡ found) × (has_row found row ≡ true)
+run_among [] row found is = absurd (cc)
+run_among (run ∷ runs) row found is = elim (cases_Bool (has_row run row)) [
+  | inl here ↦
+      let same : run ≡ found = one_run (sym (run_here run runs row here) ∙ is) in
+      (0, omega arith, same, ap (λ (r : Run). has_row r row) (sym same) ∙ here)
+  | inr later ↦
+      let rest = run_among runs row found (sym (run_later run runs row later) ∙ is) in
+      (suc rest.0, omega (arith, rest.1), rest.2, rest.3)
+]
+  where
+    one_run : {a b : Run} → Some a ≡ Some b → a ≡ b
+    one_run is = cc

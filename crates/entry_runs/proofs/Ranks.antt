@@ -7,7 +7,8 @@ use Rattle.entry_runs.specs.declared.run.Run.{Run}
 use Rattle.entry_runs.specs.Body.{bits_below, has_bit, has_row, in_body, rank, rank_in_run, run_of}
 use Rattle.entry_runs.specs.Law.{Before}
 use Rattle.entry_runs.specs.Runs.{held_in, held_of, run_at}
-use Rattle.entry_runs.proofs.Bits.{all_bits, bit_counted, bits_beyond, bits_within}
+use Rattle.entry_runs.proofs.Bits.{all_bits, bits_within}
+use Rattle.entry_runs.proofs.Counts.{count_beyond, member_counted}
 use Rattle.entry_runs.proofs.Lookups.{Rise, in_here, in_later, later_row, rank_here, rank_later, rise_rest, row_beyond, row_in, row_is_in, run_in_body}
 
 -- the masks of runs are bytes
@@ -51,7 +52,7 @@ in_run_rise run row member row' member' byte here bit (inl lower) =
     (bits_within run.mask member byte bit) in
     sum_below (rank_in_run run row member) (rank_in_run run row member) ((row' - run.first) * count_ones run.mask) (bits_below run.mask member') refl step
 in_run_rise run row member row' member' byte here bit (inr (same, lower)) =
-    let step = bits_beyond run.mask member member' bit lower in
+    let step = count_beyond (has_bit run.mask) member member' bit lower in
     rest_below (rank_in_run run row member) (bits_below run.mask member) ((row' - run.first) * count_ones run.mask) (bits_below run.mask member')
     (ap (λ (r : ℕ). (r - run.first) * count_ones run.mask + bits_below run.mask member) same) step
 
@@ -121,7 +122,7 @@ rank_filled [] k rise bytes within = absurd (omega (arith, within))
 rank_filled (run ∷ runs) k rise bytes within = elim (cases_lt k (held_of run)) [
   | inl below ↦
       let split = row_split k run.length (count_ones run.mask) below in
-      let counted = bit_counted run.mask 8 split.1 (omega (arith, split.3, all_bits run.mask (bytes 0 (omega arith)))) in
+      let counted = member_counted (has_bit run.mask) 8 split.1 (omega (arith, split.3, all_bits run.mask (bytes 0 (omega arith)))) in
       let row = run.first + split.0 in
       let here = row_is_in run row (omega arith) (omega (arith, split.2)) in
       let back : row - run.first ≡ split.0 = omega arith in (

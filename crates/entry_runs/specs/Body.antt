@@ -9,10 +9,14 @@ use Rattle.entry_runs.specs.Runs.{end_of, held_of}
 abbrev pub has_bit : (mask member : ℕ) → Bool
 has_bit mask member = bit_at mask member == 1
 
+-- how many of the members below one are held
+abbrev pub count_held : (held : ℕ → Bool) → (member : ℕ) → ℕ
+count_held held zero = 0
+count_held held (suc member) = count_held held member + (if held member then 1 else 0)
+
 -- how many members below one a mask has the bits of
 abbrev pub bits_below : (mask member : ℕ) → ℕ
-bits_below mask zero = 0
-bits_below mask (suc member) = bits_below mask member + (if has_bit mask member then 1 else 0)
+bits_below mask member = count_held (has_bit mask) member
 
 -- a row is one of a run's
 abbrev pub has_row : Run → (row : ℕ) → Bool

@@ -12,7 +12,7 @@ mod sizes;
 pub use builder::RunsBuilder;
 pub use codec::{decode_runs, encode_runs};
 pub use law::{body_law, runs_law};
-pub use run::Run;
+pub use run::{Run, bits_below, has_bit};
 pub use runs::Runs;
 pub use sizes::{MOST_HELD, MOST_ROWS, MOST_RUNS, RUN_BYTES, RUNS_BYTES};
 

@@ -64,7 +64,7 @@ impl Run {
 }
 
 /// Whether a mask has the bit of a member, 0 to 7 (condition).
-pub(crate) fn has_bit(mask: u8, member: u8) -> bool
+pub fn has_bit(mask: u8, member: u8) -> bool
     requires { member < 8 }
     ensures { result ≡ has_bit mask member }
 {
@@ -72,7 +72,7 @@ pub(crate) fn has_bit(mask: u8, member: u8) -> bool
 }
 
 /// How many members below this one, at most 8 (condition), a mask has the bits of.
-pub(crate) fn bits_below(mask: u8, member: u8) -> u32
+pub fn bits_below(mask: u8, member: u8) -> u32
     requires { member ≤ 8 }
     ensures bits { result ≡ bits_below mask member }
     ensures most { result ≤ member }

@@ -12,8 +12,8 @@ use Rattle.sector_model.specs.Readable.{readable}
 use Rattle.sector_model.proofs.Readable.{readable_up}
 use Rattle.sector_model.proofs.Sequences.{after_both, made_all, seen_writes}
 use Rattle.sector_model.proofs.Steps.{throughout_last, up_seen}
-use Rattle.layout_map.specs.declared.sizes.TheConstants.{BODY_SECTORS, FIRST_SEAL, HALVES, SUPERBLOCK_PLACES}
-use Rattle.layout_map.specs.Formats.{journal_sectors}
+use Rattle.layout_map.specs.declared.sizes.TheConstants.{FIRST_SEAL, HALVES, SUPERBLOCK_PLACES}
+use Rattle.layout_map.specs.Formats.{body_sectors, journal_sectors}
 use Rattle.superblock.specs.declared.state.State.TheVariants.{Missing}
 use Rattle.superblock.specs.declared.table.Table.{Table}
 use Rattle.superblock.specs.Cases.{HasNone}
@@ -24,13 +24,15 @@ use Rattle.stripe_journal.specs.declared.seal.Seal.{Seal}
 use Rattle.stripe_journal.specs.Body.{place_by_seal, seal_place}
 use Rattle.stripe_journal.specs.Copying.{body_in, copy_calls}
 use Rattle.stripe_journal.specs.Entries.{body_start}
-use Rattle.stripe_journal.specs.Forms.{held_before, rank, rows_in}
+use Rattle.stripe_journal.specs.Forms.{format_of, held_before, rank, rows_in}
 use Rattle.stripe_journal.specs.LastEntry.{Counts, IsGreatest, IsLastSealed}
 use Rattle.stripe_journal.specs.OneEntry.{IsOn, MayStandOn, Sealed, Writing}
 use Rattle.stripe_journal.proofs.Bodies.{is_placed}
 use Rattle.stripe_journal.proofs.EntrySectors.{same_sectors}
 use Rattle.stripe_journal.proofs.LastOfOne.{last_is_one}
-use Rattle.stripe_journal.proofs.Masks.{before_few, rank_before}
+use Rattle.stripe_journal.proofs.Halves.{start_least}
+use Rattle.stripe_journal.proofs.HeldRuns.{body_few}
+use Rattle.stripe_journal.proofs.Masks.{rank_before}
 use Rattle.stripe_journal.proofs.OneEntryCalls.{IsPutOn, copy_put}
 use Rattle.array_io.specs.Believed.Holds.{HaveEqualBodies, IsLiveJournal}
 use Rattle.array_io.proofs.Laws.Beginning.{live_is_up}
@@ -112,15 +114,13 @@ module _ (spellings : Spellings) (table : Table) (source slot : ℕ) (seal : Sea
   held = held_before table.geometry.members seal.form (length (rows_in seal.form))
 
   long : length body ≡ held
-  long = length-map-range_with_len (λ i. sector_of (seen mid source) (body_start seal.number + i)) 0 held
+  long = length-map-range_with_len (λ i. sector_of (seen mid source) (body_start seal + i)) 0 held
 
-  few : length body ≤ BODY_SECTORS
-  few = omega (
-    arith,
-    long,
-    before_few table.geometry.members seal.form (length (rows_in seal.form)) table.geometry.limits.members_most
-        seal.allowed.rows_most,
-  )
+  few : length body ≤ body_sectors (format_of seal.form)
+  few = omega (arith, long, body_few table.geometry.members seal.form table.geometry.limits.members_most seal.formed)
+
+  has_room : journal_sectors (format_of seal.form) ≤ length (seen mid slot)
+  has_room = omega (arith, ap journal_sectors last.counted.belongs.of_format, room)
 
   begins : IsOn slot (seen mid slot) seal body Writing mid
   begins = record {
@@ -132,18 +132,18 @@ module _ (spellings : Spellings) (table : Table) (source slot : ℕ) (seal : Sea
   }
 
   is_put : IsPutOn slot (seen mid slot) seal body Sealed new
-  is_put = (copy_put slot (seen mid slot) seal body source apart table.geometry.format mid new few (λ up. room) begins made).1 refl
+  is_put = (copy_put slot (seen mid slot) seal body source apart mid new few (λ up. has_room) begins made).1 refl
 
   source_same : seen new source ≡ seen mid source
   source_same = (throughout_last new
-      (copy_put slot (seen mid slot) seal body source apart table.geometry.format mid new few (λ up. room) begins made).0).2.same
+      (copy_put slot (seen mid slot) seal body source apart mid new few (λ up. has_room) begins made).0).2.same
 
   stands : (at : ℕ) → MayStandOn (seen mid slot) seal body Sealed at (sector_of (seen new slot) at)
   stands at = is_put.on.each at (sector_of (seen new slot) at) (up_seen new slot at is_put.up)
 
   -- before the bodies only the seal's place was written
   front : (at : ℕ) → at < FIRST_SEAL + HALVES → at ≢ seal_place seal.number → sector_of (seen new slot) at ≡ replicate 512 0
-  front at below other = (stands at).elsewhere (λ half. absurd (omega (arith, below, half.0))) other ∙ cleared at below
+  front at below other = (stands at).elsewhere (λ half. absurd (omega (arith, below, half.0, start_least seal))) other ∙ cleared at below
 
   -- another seal does not count
   one_counts : (place : ℕ) (other : Seal) → Counts table.id table.geometry (Some (seen new slot)) place other
@@ -184,7 +184,7 @@ module _ (spellings : Spellings) (table : Table) (source slot : ℕ) (seal : Sea
       rank_before members seal.form at.i member (length (rows_in seal.form)) at.held below at.within in
       ap (λ (l : List Bytes). sector_of l place) source_same
       ∙ ap (sector_of (seen mid source)) at.place_is
-      ∙ sym (get_or-map-range_with_len (λ k. sector_of (seen mid source) (body_start seal.number + k)) 0
+      ∙ sym (get_or-map-range_with_len (λ k. sector_of (seen mid source) (body_start seal + k)) 0
       held part part [] within (omega arith))
       ∙ sym ((stands place).in_half (λ is. cc) part (omega (arith, within, long)) at.place_is)
 

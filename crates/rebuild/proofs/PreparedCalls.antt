@@ -22,6 +22,7 @@ use Rattle.superblock.specs.Counted.{least_sectors}
 use Rattle.superblock.specs.NextTables.{slots_of}
 use Rattle.superblock.specs.Tables.{state_at}
 use Rattle.superblock.proofs.LeastSectors.{four_least}
+use Rattle.stripe_journal.proofs.Halves.{start_least}
 use Rattle.stripe_journal.specs.declared.seal.Seal.{Seal}
 use Rattle.stripe_journal.specs.Body.{seal_place}
 use Rattle.stripe_journal.specs.Copying.{body_in, copied_from}
@@ -170,9 +171,9 @@ copy_missing : (slots slot source members : ℕ) (disk : List Bytes) (last : Opt
     → AllMissing slots slot (copy_of source slot members disk last)
 copy_missing slots slot source members disk None within = tt
 copy_missing slots slot source members disk (Some seal) within =
-    missing_both slots slot (copied_from source slot (body_start seal.number) (body_in members disk seal))
+    missing_both slots slot (copied_from source slot (body_start seal) (body_in members disk seal))
     (Flush slot ∷ Write slot (seal_place seal.number) (seal_sector seal) ∷ Flush slot ∷ [])
-    (copied_missing slots slot source (body_start seal.number) (body_in members disk seal) within (omega arith))
+    (copied_missing slots slot source (body_start seal) (body_in members disk seal) within (omega (arith, start_least seal)))
     (refl, ((refl, λ place. absurd (omega (arith, place))), (refl, tt)))
 
 journal_missing : (slots slot source members : ℕ) (disk : List Bytes) (last : Option Seal) → source < slots

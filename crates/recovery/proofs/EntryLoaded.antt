@@ -14,7 +14,7 @@ use Rattle.superblock.specs.NextTables.{IsMarked}
 use Rattle.stripe_journal.specs.declared.entry.Entry.{Entry}
 use Rattle.stripe_journal.specs.declared.seal.Seal.{Seal}
 use Rattle.stripe_journal.specs.Entries.{body_of, body_start, form_of, numbers_of, sector_at}
-use Rattle.stripe_journal.specs.Forms.{holds, rank, rows_in}
+use Rattle.stripe_journal.specs.Forms.{in_body, rank, rows_in}
 use Rattle.array_io.specs.Believed.ArrayCalls.{Answer}
 use Rattle.array_io.specs.Believed.Views.{ArrayView, HasItsSlots, view_of}
 use Rattle.array_io.specs.Steps.Putting.{Copied, HoldsAll, IfSingleFailure, IsComing, IsPut}
@@ -43,11 +43,11 @@ module _ (spellings : Spellings) (honest : Type 0) (latest : Latest) (number : �
   module _ (entry : Entry) (body_is : body ≡ body_of table.geometry.members entry) (result : Result (Unit {0}) Stop) (done : Unit {0}) (ok : result ≡ Ok done)
       (numbers : OnOk result (numbers_of entry ≡ rows_in latest.seal.form))
       (held : (i member : ℕ) → i < length (rows_in latest.seal.form) → member < table.geometry.members
-      → OnOk result (holds table.geometry.members (form_of entry) i member ≡ holds table.geometry.members latest.seal.form i member))
+      → OnOk result (in_body table.geometry.members (form_of entry) i member ≡ in_body table.geometry.members latest.seal.form i member))
       (loaded : (i member : ℕ) → honest → i < length (rows_in latest.seal.form) → member < table.geometry.members
-      → holds table.geometry.members latest.seal.form i member ≡ true
+      → in_body table.geometry.members latest.seal.form i member ≡ true
       → OnOk result (sector_at entry i member ≡ sector_of (seen old latest.source)
-      (body_start latest.seal.number + rank table.geometry.members latest.seal.form i member)))
+      (body_start latest.seal + rank table.geometry.members latest.seal.form i member)))
       (stay : (device : ℕ) → honest → OnOk result (is_down mid device ≡ is_down old device)) where
     on_ok : (fact : Type 0) → OnOk result fact → fact
     on_ok fact = subst (λ (r : Result (Unit {0}) Stop). OnOk r fact → fact) (sym ok) (λ is. is)
@@ -60,7 +60,7 @@ module _ (spellings : Spellings) (honest : Type 0) (latest : Latest) (number : �
         (sym (body_is ∙ body_loaded table.geometry.members entry (seen mid latest.source) latest.seal table.geometry.limits.members_most
         (record { rows = on_ok _ numbers; held = λ i member inside within. on_ok _ (held i member inside within) })
         (λ i member inside within is. on_ok _ (loaded i member fair inside within is)
-        ∙ ap (λ (disk : List Bytes). sector_of disk (body_start latest.seal.number + rank table.geometry.members latest.seal.form i member))
+        ∙ ap (λ (disk : List Bytes). sector_of disk (body_start latest.seal + rank table.geometry.members latest.seal.form i member))
         (sym (seen_read (read fair) latest.source)))))
         (comes spellings from table mid loss latest of_set (latest_still latest from table old mid still.1 of_set.source is still.0)))
 

@@ -19,7 +19,7 @@ use Rattle.stripe_journal.specs.declared.form.Form.{Form}
 use Rattle.stripe_journal.specs.declared.seal.Seal.{Seal}
 use Rattle.stripe_journal.specs.Copying.{body_in}
 use Rattle.stripe_journal.specs.Entries.{body_of, body_start, form_of, sector_at}
-use Rattle.stripe_journal.specs.Forms.{count_held, held_before, holds, rank, rows_in}
+use Rattle.stripe_journal.specs.Forms.{count_held, held_before, in_body, rank, rows_in}
 use Rattle.stripe_journal.specs.LastEntry.{IsGreatest, IsLastSealed, number_of, sector_in}
 use Rattle.stripe_journal.specs.OneEntry.{HasThisEntry, IsNextOn}
 use Rattle.stripe_journal.specs.Seals.{row_at}
@@ -46,7 +46,7 @@ record IsPlaceOf (members : ℕ) (form : Form) (count k : ℕ) : Type 0 where
   pub member : ℕ
   pub of_rows : row < count
   pub of_members : member < members
-  pub held : holds members form row member ≡ true
+  pub held : in_body members form row member ≡ true
   pub is : rank members form row member ≡ k
 
 -- the same within one row
@@ -76,7 +76,7 @@ place_of members form (suc i) k inside = elim (cases_lt k (held_before members f
       let at = place_of members form i k before in
       record { row = at.row; member = at.member; of_rows = omega (arith, at.of_rows); of_members = at.of_members; held = at.held; is = at.is }
   | inr beyond ↦
-      let at = member_at (holds members form i) members (k - held_before members form i) (omega (arith, beyond, inside)) in
+      let at = member_at (in_body members form i) members (k - held_before members form i) (omega (arith, beyond, inside)) in
       record { row = i; member = at.member; of_rows = omega arith; of_members = at.below; held = at.is_held; is = omega (arith, beyond, at.count) }
 ]
 
@@ -85,23 +85,23 @@ abbrev size : (members : ℕ) → Seal → ℕ
 size members seal = held_before members seal.form (length (rows_in seal.form))
 
 length-body_in : (members : ℕ) (disk : List Bytes) (seal : Seal) → length (body_in members disk seal) ≡ size members seal
-length-body_in members disk seal = length-map-range_with_len (λ i. sector_of disk (body_start seal.number + i)) 0 (size members seal)
+length-body_in members disk seal = length-map-range_with_len (λ i. sector_of disk (body_start seal + i)) 0 (size members seal)
 
 body_in_at : (members : ℕ) (disk : List Bytes) (seal : Seal) (k : ℕ) → k < size members seal
-    → slice_index_or (body_in members disk seal) k [] ≡ sector_of disk (body_start seal.number + k)
-body_in_at members disk seal k below = get_or-map-range_with_len (λ i. sector_of disk (body_start seal.number + i)) 0 (size members seal) k k [] below
+    → slice_index_or (body_in members disk seal) k [] ≡ sector_of disk (body_start seal + k)
+body_in_at members disk seal k below = get_or-map-range_with_len (λ i. sector_of disk (body_start seal + i)) 0 (size members seal) k k [] below
     (omega arith)
 
 -- the entry in memory, whose sectors are those of a journal, has the body that reads of it give
 pub body_loaded : (members : ℕ) (entry : Entry) (disk : List Bytes) (seal : Seal) → members ≤ MOST_MEMBERS → IsEntryOf members seal entry
-    → ((i member : ℕ) → i < length (rows_in seal.form) → member < members → holds members seal.form i member ≡ true
-    → sector_at entry i member ≡ sector_of disk (body_start seal.number + rank members seal.form i member))
+    → ((i member : ℕ) → i < length (rows_in seal.form) → member < members → in_body members seal.form i member ≡ true
+    → sector_at entry i member ≡ sector_of disk (body_start seal + rank members seal.form i member))
     → body_of members entry ≡ body_in members disk seal
 body_loaded members entry disk seal few is loaded =
-    fill_by_all (λ k. sector_of disk (body_start seal.number + k)) (body_of members entry) (size members seal) [] (length_of_seal members seal entry few is)
+    fill_by_all (λ k. sector_of disk (body_start seal + k)) (body_of members entry) (size members seal) [] (length_of_seal members seal entry few is)
     each
   where
-    each : (k : ℕ) → k < size members seal → slice_index_or (body_of members entry) k [] ≡ sector_of disk (body_start seal.number + k)
+    each : (k : ℕ) → k < size members seal → slice_index_or (body_of members entry) k [] ≡ sector_of disk (body_start seal + k)
     each k below =
         let at : IsPlaceOf members seal.form (length (rows_in seal.form)) k = place_of members seal.form (length (rows_in seal.form)) k below in
         let same : rank members (form_of entry) at.row at.member ≡ rank members seal.form at.row at.member =
@@ -110,7 +110,7 @@ body_loaded members entry disk seal few is loaded =
         ∙ body_at members entry at.row at.member few (subst (λ (rows : List ℕ). at.row < length rows) (sym is.rows) at.of_rows) at.of_members
         (is.held at.row at.member at.of_rows at.of_members ∙ at.held)
         ∙ loaded at.row at.member at.of_rows at.of_members at.held
-        ∙ ap (λ (n : ℕ). sector_of disk (body_start seal.number + n)) at.is
+        ∙ ap (λ (n : ℕ). sector_of disk (body_start seal + n)) at.is
 
 -- a journal has the entry of its last seal, with the body that reads give
 has_its_own : (id : List ℕ) (geometry : Geometry) (members : ℕ) (disk : List Bytes) (seal : Seal) → IsGreatest id geometry (Some disk) seal
@@ -123,7 +123,7 @@ has_its_own id geometry members disk seal is = record {
 -- where two journals have equal bodies of an entry, the one has the body of the other
 same_sector : (members : ℕ) (first second : List Bytes) (seal : Seal) → HaveEqualBodies members (Some first) (Some second) seal → (k : ℕ)
     → k < size members seal
-    → sector_of second (body_start seal.number + k) ≡ sector_of first (body_start seal.number + k)
+    → sector_of second (body_start seal + k) ≡ sector_of first (body_start seal + k)
 same_sector members first second seal equal k below =
     sym (at_place second) ∙ same_Some (stands second) (stands first)
     (sym (found second) ∙ sym (equal (row_at (rows_in seal.form) at.row) at.member at.of_members)
@@ -133,14 +133,14 @@ same_sector members first second seal equal k below =
     at = place_of members seal.form (length (rows_in seal.form)) k below
 
     stands : List Bytes → Bytes
-    stands disk = sector_of disk (body_start seal.number + rank members seal.form at.row at.member)
+    stands disk = sector_of disk (body_start seal + rank members seal.form at.row at.member)
 
     found : (disk : List Bytes) → sector_in members (Some disk) seal (row_at (rows_in seal.form) at.row) at.member ≡ Some (stands disk)
     found disk = sector_held members (Some disk) seal (row_at (rows_in seal.form) at.row) at.row at.member
-        (place_of_row (rows_in seal.form) at.row seal.allowed.rising at.of_rows) at.held
+        (place_of_row (rows_in seal.form) at.row seal.allowed.rows.rising at.of_rows) at.held
 
-    at_place : (disk : List Bytes) → stands disk ≡ sector_of disk (body_start seal.number + k)
-    at_place disk = ap (λ (n : ℕ). sector_of disk (body_start seal.number + n)) at.is
+    at_place : (disk : List Bytes) → stands disk ≡ sector_of disk (body_start seal + k)
+    at_place disk = ap (λ (n : ℕ). sector_of disk (body_start seal + n)) at.is
 
 has_the_same : (id : List ℕ) (geometry : Geometry) (members : ℕ) (first second : List Bytes) (seal : Seal)
     → HaveEqualBodies members (Some first) (Some second) seal → IsGreatest id geometry (Some second) seal

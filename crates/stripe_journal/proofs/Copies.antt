@@ -80,18 +80,18 @@ copy_then from to first i n journal value {answered = answered} {old = old} {mid
 
 -- the body is not copied to its end
 pub short_in_copy : (from to : ℕ) (seal : Seal) (body : List Bytes) {old new : History}
-    → Made (copied_from from to (body_start seal.number) body) false old new → Made (copy_calls from to seal body) false old new
+    → Made (copied_from from to (body_start seal) body) false old new → Made (copy_calls from to seal body) false old new
 short_in_copy from to seal body copied = made_short (Flush to ∷ Write to (seal_place seal.number) (seal_sector seal) ∷ Flush to ∷ []) copied
 
 -- the flush after it is not answered
 pub short_after_copy : (from to : ℕ) (seal : Seal) (body : List Bytes) {old mid new : History} (stop : Stop)
-    → Made (copied_from from to (body_start seal.number) body) true old mid → new ≡ after_try (after_flush to) (Err stop) mid
+    → Made (copied_from from to (body_start seal) body) true old mid → new ≡ after_try (after_flush to) (Err stop) mid
     → Made (copy_calls from to seal body) false old new
 short_after_copy from to seal body stop copied is = made_both copied (made_stop (Flush to) stop is)
 
 -- the body is safe
 pub copy_then_seal : (from to : ℕ) (seal : Seal) (body : List Bytes) {answered : Bool} {old mid safe new : History} (done : Unit {0}) (after : Panel)
-    → Made (copied_from from to (body_start seal.number) body) true old mid → safe ≡ after_try (after_flush to) (Ok done) mid → after.down to ≡ false
+    → Made (copied_from from to (body_start seal) body) true old mid → safe ≡ after_try (after_flush to) (Ok done) mid → after.down to ≡ false
     → IsTrueTo after safe
     → Made (Write to (seal_place seal.number) (seal_sector seal) ∷ Flush to ∷ []) answered safe new
     → Made (copy_calls from to seal body) answered old new

@@ -7,7 +7,7 @@ use Rattle.std.proofs.lemmas.List.{get_or_past}
 use Rattle.layout_map.specs.declared.sizes.TheConstants.{FIRST_SEAL, HALVES}
 use Rattle.layout_map.specs.declared.geometry.Geometry.{Geometry}
 use Rattle.sector_model.specs.History.{Bytes, disk_of, sector_of}
-use Rattle.stripe_journal.specs.Forms.{rows_in}
+use Rattle.stripe_journal.specs.Forms.{format_of, rows_in}
 use Rattle.stripe_journal.specs.declared.seal.Seal.{Seal}
 use Rattle.stripe_journal.specs.LastEntry.{Counts, CountsNone, IsLastSealed, later_of}
 use Rattle.stripe_journal.specs.LastSealed.{AreBelow, Belongs, RowsHold}
@@ -18,15 +18,13 @@ abbrev Content : Type 0
 Content = Option (List Bytes)
 
 -- a seal belongs in a place where its rows and what its entry holds fit the set
-pub belongs_by : (id : List ℕ) (geometry : Geometry) (place : ℕ) (seal : Seal) (b : Bool) → seal.id ≡ id → seal.number % HALVES ≡ place → (rows : List ℕ)
-    → rows ≡ rows_in seal.form
-    → IsTrue b ↔ (AreBelow geometry rows × RowsHold geometry seal.form rows) → IsTrue b ↔ Belongs id geometry place seal
-belongs_by id geometry place seal b of_set own_place rows same fits =
-    let there : IsTrue b ↔ (AreBelow geometry (rows_in seal.form) × RowsHold geometry seal.form (rows_in seal.form)) =
-    subst (λ (l : List ℕ). IsTrue b ↔ (AreBelow geometry l × RowsHold geometry seal.form l)) same fits in (
-      λ is. record { of_set = of_set; own_place = own_place; below = (there.0 is).0; held = (there.0 is).1 },
-      λ belongs. there.1 (belongs.below, belongs.held),
-    )
+pub belongs_by : (id : List ℕ) (geometry : Geometry) (place : ℕ) (seal : Seal) (b : Bool) → seal.id ≡ id → seal.number % HALVES ≡ place
+    → format_of seal.form ≡ geometry.format
+    → IsTrue b ↔ (AreBelow geometry (rows_in seal.form) × RowsHold geometry seal.form (rows_in seal.form)) → IsTrue b ↔ Belongs id geometry place seal
+belongs_by id geometry place seal b of_set own_place of_format fits = (
+  λ is. record { of_set = of_set; of_format = of_format; own_place = own_place; below = (fits.0 is).0; held = (fits.0 is).1 },
+  λ belongs. fits.1 (belongs.below, belongs.held),
+)
 
 -- no bytes spell no seal
 pub nothing_spells : (seal : Seal) → [] ≢ seal_sector seal

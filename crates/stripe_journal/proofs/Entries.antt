@@ -1,25 +1,31 @@
 -- An entry's sectors, by row and member, and its body.
-use Rattle.std.proofs.Common.{◌≡◌, ◌≢◌, inl, inr, Bool, true, false, cond, ℕ, zero, suc, ◌+◌, ◌-◌, ◌*◌, ◌<◌, ◌≤◌, List, [], ◌∷◌, ◌++◌, length, drop, get_or}
+use Rattle.std.proofs.Common.{◌≡◌, ◌≢◌, inl, inr, Bool, true, false, cond, ℕ, zero, suc, ◌+◌, ◌-◌, ◌<◌, ◌≤◌, List, [], ◌∷◌, ◌++◌, length, drop, get_or}
 use Rattle.std.proofs.Common.{map, refl, sym, subst, ap, ◌∙◌, arith}
-use Rattle.std.specs.Prelude.{Err, Ok, filter}
+use Rattle.std.specs.Prelude.{Err, Ok, filter, replicate}
 use Rattle.std.specs.List.{flat_map, range_with_len}
 use Rattle.std.proofs.lemmas.Bool.{cases_eq}
 use Rattle.std.proofs.lemmas.List.{flat_map_more, length-append, get_or-take, get_or-drop, get_or-set_same, get_or-set_other, get_or_append_left}
 use Rattle.std.proofs.lemmas.List.{get_or-append-add, get_or_at, map-append}
 use Rattle.std.proofs.lemmas.List.Elements.{filter-append}
-use Rattle.layout_map.specs.declared.sizes.TheConstants.{ENTRY_ROWS, MOST_MEMBERS}
+use Rattle.layout_map.specs.declared.sizes.TheConstants.{BODY_SECTORS, ENTRY_ROWS, MOST_MEMBERS}
 use Rattle.layout_map.specs.declared.format.Format.{Format}
 use Rattle.layout_map.specs.Formats.{journal_sectors}
-use Rattle.layout_map.proofs.Places.{journal_least}
 use Rattle.sector_model.specs.declared.sector.Stop.{Stop}
 use Rattle.sector_model.specs.Bank.{IsTrueTo, Panel, after_try, after_write}
 use Rattle.sector_model.specs.Calls.{Call, Write, Made, after_all, writes_from}
 use Rattle.sector_model.specs.History.{History, Bytes, seen, sector_of}
 use Rattle.sector_model.proofs.Sequences.{made_both, made_short, made_stop, made_then, seen_writes}
 use Rattle.stripe_journal.specs.declared.entry.Entry.{Entry}
-use Rattle.stripe_journal.specs.Entries.{body_of, body_start, form_of, held_of, numbers_of, row_mask, row_of, sector_at, with_sector}
-use Rattle.stripe_journal.specs.Forms.{count_held, has_bit, held_before, held_members, holds, rank}
-use Rattle.stripe_journal.proofs.Masks.{before_few, count_beyond, rank_before}
+use Rattle.stripe_journal.specs.Entries.{body_of, half_start, form_of, held_of, numbers_of, place_at, row_mask, row_of, sector_at, sector_of_row}
+use Rattle.stripe_journal.specs.Entries.{with_sector}
+use Rattle.entry_runs.specs.Body.{bits_below, count_held, has_bit}
+use Rattle.entry_runs.proofs.Counts.{count_beyond}
+use Rattle.arrayvec.specs.ArrayVec.{ArrayVec}
+use Rattle.stripe_journal.specs.declared.form.Form.{Form}
+use Rattle.stripe_journal.specs.declared.form.Form.TheVariants.{Held}
+use Rattle.stripe_journal.specs.Forms.{held_before, held_members, in_body, mask_at, rank}
+use Rattle.stripe_journal.proofs.Halves.{body_least, half_end}
+use Rattle.stripe_journal.proofs.Masks.{before_agrees, before_few, one_rank, rank_agrees, rank_before}
 
 -- writes of one list of values after another
 pub writes_both : (device at : ℕ) (first second : List Bytes) → writes_from device at (first ++ second) ≡ writes_from device at first
@@ -97,48 +103,48 @@ value_at held value (suc n) member is within =
 
 -- what a row holds of the members from one on
 abbrev pub held_from : (members mask : ℕ) (row : List Bytes) (member : ℕ) → List Bytes
-held_from members mask row member = map (λ k. get_or row k []) (filter (has_bit mask) (range_with_len member (members - member)))
+held_from members mask row member = map (sector_of_row mask row) (filter (has_bit mask) (range_with_len member (members - member)))
 
 held_next : (members mask : ℕ) (row : List Bytes) (member : ℕ) → member < members
-    → held_from members mask row member ≡ map (λ k. get_or row k [])
+    → held_from members mask row member ≡ map (sector_of_row mask row)
     (cond (has_bit mask member) (member ∷ filter (has_bit mask) (range_with_len (member + 1) (members - (member + 1))))
     (filter (has_bit mask) (range_with_len (member + 1) (members - (member + 1)))))
 held_next members mask row member within =
     let more : members - member ≡ suc (members - (member + 1)) = omega arith in
-    ap (λ (k : ℕ). map (λ k. get_or row k []) (filter (has_bit mask) (range_with_len member k))) more
+    ap (λ (k : ℕ). map (sector_of_row mask row) (filter (has_bit mask) (range_with_len member k))) more
 
 pub held_first : (members mask : ℕ) (row : List Bytes) (member : ℕ) → member < members → has_bit mask member ≡ true
-    → held_from members mask row member ≡ get_or row member [] ∷ held_from members mask row (member + 1)
+    → held_from members mask row member ≡ sector_of_row mask row member ∷ held_from members mask row (member + 1)
 held_first members mask row member within is =
     let rest = filter (has_bit mask) (range_with_len (member + 1) (members - (member + 1))) in
-    held_next members mask row member within ∙ ap (λ (b : Bool). map (λ k. get_or row k []) (cond b (member ∷ rest) rest)) is
+    held_next members mask row member within ∙ ap (λ (b : Bool). map (sector_of_row mask row) (cond b (member ∷ rest) rest)) is
 
 pub held_later : (members mask : ℕ) (row : List Bytes) (member : ℕ) → member < members → has_bit mask member ≡ false
     → held_from members mask row member ≡ held_from members mask row (member + 1)
 held_later members mask row member within is =
     let rest = filter (has_bit mask) (range_with_len (member + 1) (members - (member + 1))) in
-    held_next members mask row member within ∙ ap (λ (b : Bool). map (λ k. get_or row k []) (cond b (member ∷ rest) rest)) is
+    held_next members mask row member within ∙ ap (λ (b : Bool). map (sector_of_row mask row) (cond b (member ∷ rest) rest)) is
 
 -- the writes of what a row holds, from one member on
 
 pub held_then : (device at members mask : ℕ) (row : List Bytes) (member : ℕ) (value : Bytes) {answered : Bool} {old mid new : History} (done : Unit {0})
     (after : Panel) → member < members → has_bit mask member ≡ true
-    → value ≡ get_or row member [] → mid ≡ after_try (after_write device at value) (Ok done) old → after.down device ≡ false → IsTrueTo after mid
+    → value ≡ sector_of_row mask row member → mid ≡ after_try (after_write device at value) (Ok done) old → after.down device ≡ false → IsTrueTo after mid
     → Made (writes_from device (at + 1) (held_from members mask row (member + 1))) answered mid new
     → Made (writes_from device at (held_from members mask row member)) answered old new
 held_then device at members mask row member value {answered = answered} {old = old} {mid = mid} {new = new} done after within held is write up is_true rest =
     let first = subst (λ (v : Bytes). mid ≡ after_try (after_write device at v) (Ok done) old) is write in
     subst (λ (values : List Bytes). Made (writes_from device at values) answered old new) (sym (held_first members mask row member within held))
-    (made_then (Write device at (get_or row member [])) done after first up is_true rest)
+    (made_then (Write device at (sector_of_row mask row member)) done after first up is_true rest)
 
 pub held_short : (device at members mask : ℕ) (row : List Bytes) (member : ℕ) (value : Bytes) {old new : History} (stop : Stop) → member < members
     → has_bit mask member ≡ true
-    → value ≡ get_or row member [] → new ≡ after_try (after_write device at value) (Err stop) old
+    → value ≡ sector_of_row mask row member → new ≡ after_try (after_write device at value) (Err stop) old
     → Made (writes_from device at (held_from members mask row member)) false old new
 held_short device at members mask row member value {old = old} {new = new} stop within held is write =
     let first = subst (λ (v : Bytes). new ≡ after_try (after_write device at v) (Err stop) old) is write in
     subst (λ (values : List Bytes). Made (writes_from device at values) false old new) (sym (held_first members mask row member within held))
-    (made_stop (Write device at (get_or row member [])) stop first)
+    (made_stop (Write device at (sector_of_row mask row member)) stop first)
 
 pub lacking_then : (device at members mask : ℕ) (row : List Bytes) (member : ℕ) {answered : Bool} {old new : History} → member < members
     → has_bit mask member ≡ false
@@ -151,8 +157,8 @@ lacking_then device at members mask row member {answered = answered} {old = old}
 abbrev pub row_held : (members : ℕ) → Entry → (i : ℕ) → List Bytes
 row_held members entry i = held_of members (row_mask entry i) (row_of entry i)
 
-pub length-row : (members : ℕ) (entry : Entry) (i : ℕ) → length (row_held members entry i) ≡ count_held (holds members (form_of entry) i) members
-length-row members entry i = length-held (has_bit (row_mask entry i)) (λ k. get_or (row_of entry i) k []) members
+pub length-row : (members : ℕ) (entry : Entry) (i : ℕ) → length (row_held members entry i) ≡ count_held (in_body members (form_of entry) i) members
+length-row members entry i = length-held (has_bit (row_mask entry i)) (sector_of_row (row_mask entry i) (row_of entry i)) members
 
 -- the sectors of the rows from one on, of n in all
 abbrev pub body_from : (members : ℕ) → Entry → (i n : ℕ) → List Bytes
@@ -164,7 +170,7 @@ body_next members entry i n within =
     ap (λ (k : ℕ). flat_map (λ i. row_held members entry i) (range_with_len i k)) more
 
 -- the writes of the body from one row on: the row's, and those of the rows after it
-row_writes : (device at next members : ℕ) (entry : Entry) (i n : ℕ) → i < n → next ≡ at + count_held (holds members (form_of entry) i) members
+row_writes : (device at next members : ℕ) (entry : Entry) (i n : ℕ) → i < n → next ≡ at + count_held (in_body members (form_of entry) i) members
     → writes_from device at (body_from members entry i n) ≡ writes_from device at (row_held members entry i)
     ++ writes_from device next (body_from members entry (i + 1) n)
 row_writes device at next members entry i n within next_is =
@@ -176,7 +182,7 @@ row_writes device at next members entry i n within next_is =
     ∙ ap (λ (m : ℕ). writes_from device at row ++ writes_from device m rest) beyond
 
 pub row_then : (device at next members : ℕ) (entry : Entry) (i n : ℕ) {answered : Bool} {old mid new : History} → i < n
-    → next ≡ at + count_held (holds members (form_of entry) i) members
+    → next ≡ at + count_held (in_body members (form_of entry) i) members
     → Made (writes_from device at (row_held members entry i)) true old mid → Made (writes_from device next (body_from members entry (i + 1) n)) answered mid new
     → Made (writes_from device at (body_from members entry i n)) answered old new
 row_then device at next members entry i n {answered = answered} {old = old} {new = new} within next_is row rest =
@@ -185,30 +191,113 @@ row_then device at next members entry i n {answered = answered} {old = old} {new
 pub row_short : (device at members : ℕ) (entry : Entry) (i n : ℕ) {old new : History} → i < n
     → Made (writes_from device at (row_held members entry i)) false old new → Made (writes_from device at (body_from members entry i n)) false old new
 row_short device at members entry i n {old = old} {new = new} within row =
-    let next = at + count_held (holds members (form_of entry) i) members in
+    let next = at + count_held (in_body members (form_of entry) i) members in
     subst (λ (calls : List Call). Made calls false old new) (sym (row_writes device at next members entry i n within refl))
     (made_short (writes_from device next (body_from members entry (i + 1) n)) row)
 
 -- a sector of an entry, written and read
 
-pub sector_there : (entry : Entry) (i member : ℕ) (value : Bytes) → i < ENTRY_ROWS → member < MOST_MEMBERS
-    → sector_at (with_sector entry i member value) i member ≡ value
-sector_there entry i member value below within =
-    get_or-set_same entry.sectors.items (MOST_MEMBERS * i + member) value [] (omega (arith, entry.whole, entry.sectors.ok.0))
+-- each has a place
+pub place_within : (entry : Entry) (i member : ℕ) → i < ENTRY_ROWS → member < MOST_MEMBERS → has_bit (row_mask entry i) member ≡ true
+    → place_at entry i member < BODY_SECTORS
+place_within entry i member below within held =
+    omega (
+      arith,
+      rank_before MOST_MEMBERS (form_of entry) i member (i + 1) held within (omega arith),
+      before_few MOST_MEMBERS (form_of entry) (i + 1) (omega arith) (omega (arith, below)),
+    )
 
-pub sector_elsewhere : (entry : Entry) (i member i' member' : ℕ) (value : Bytes) → member < MOST_MEMBERS → member' < MOST_MEMBERS → (i' ≡ i → member' ≢ member)
+-- one that is held is there
+held_there : (entry : Entry) (i member : ℕ) → has_bit (row_mask entry i) member ≡ true
+    → sector_at entry i member ≡ get_or entry.sectors.items (place_at entry i member) []
+held_there entry i member held = ap (λ (b : Bool). cond b (get_or entry.sectors.items (place_at entry i member) []) []) held
+
+pub sector_there : (entry : Entry) (i member : ℕ) (value : Bytes) → i < ENTRY_ROWS → member < MOST_MEMBERS → has_bit (row_mask entry i) member ≡ true
+    → sector_at (with_sector entry i member value) i member ≡ value
+sector_there entry i member value below within held =
+    held_there (with_sector entry i member value) i member held
+    ∙ get_or-set_same entry.sectors.items (place_at entry i member) value []
+    (omega (arith, entry.whole, entry.sectors.ok.0, place_within entry i member below within held))
+
+pub sector_elsewhere : (entry : Entry) (i member i' member' : ℕ) (value : Bytes) → member < MOST_MEMBERS → member' < MOST_MEMBERS
+    → has_bit (row_mask entry i) member ≡ true → (i' ≡ i → member' ≢ member)
     → sector_at (with_sector entry i member value) i' member' ≡ sector_at entry i' member'
-sector_elsewhere entry i member i' member' value within within' other =
-    let apart : MOST_MEMBERS * i' + member' ≢ MOST_MEMBERS * i + member = λ same. other (omega arith) (omega arith) in
-    get_or-set_other entry.sectors.items (MOST_MEMBERS * i + member) (MOST_MEMBERS * i' + member') value [] apart
+sector_elsewhere entry i member i' member' value within within' held other = by_held (has_bit (row_mask entry i') member') refl
+  where
+    by_held : (b : Bool) → has_bit (row_mask entry i') member' ≡ b → sector_at (with_sector entry i member value) i' member' ≡ sector_at entry i' member'
+    by_held false lacking =
+        ap (λ (b : Bool). cond b (get_or (with_sector entry i member value).sectors.items (place_at entry i' member') []) []) lacking
+        ∙ sym (ap (λ (b : Bool). cond b (get_or entry.sectors.items (place_at entry i' member') []) []) lacking)
+    by_held true held' =
+        let apart : place_at entry i' member' ≢ place_at entry i member = λ same.
+        let one = one_rank MOST_MEMBERS (form_of entry) i' member' i member held' held within' within same in other one.0 one.1 in
+        held_there (with_sector entry i member value) i' member' held'
+        ∙ get_or-set_other entry.sectors.items (place_at entry i member) (place_at entry i' member') value [] apart
+        ∙ sym (held_there entry i' member' held')
+
+-- the sector that masks and sectors have for a member in the i-th row
+abbrev pub sector_by : (form : Form) (masks : List ℕ) (sectors : List Bytes) (i member : ℕ) → Bytes
+sector_by form masks sectors i member = cond (has_bit (mask_at masks i) member) (get_or sectors (rank MOST_MEMBERS form i member) []) []
+
+by_held : (form : Form) (masks : List ℕ) (sectors : List Bytes) (i member : ℕ) (b : Bool) → has_bit (mask_at masks i) member ≡ b
+    → sector_by form masks sectors i member ≡ cond b (get_or sectors (rank MOST_MEMBERS form i member) []) []
+by_held form masks sectors i member b is = ap (λ (b : Bool). cond b (get_or sectors (rank MOST_MEMBERS form i member) []) []) is
+
+-- masks of a row more, put in the place of others
+module _ (rows rows' : ArrayVec ℕ) (masks masks' : List ℕ) (sectors sectors' : List Bytes) (count : ℕ)
+    (same : (k : ℕ) → k < count → mask_at masks' k ≡ mask_at masks k) where
+  abbrev first : ℕ
+  first = rank MOST_MEMBERS (Held rows masks) count 0
+
+  -- the rows before it keep their sectors, where those before its first stay
+  pub pushed_kept : (i member : ℕ) → i < count → member < MOST_MEMBERS → ((k : ℕ) → k < first → get_or sectors' k [] ≡ get_or sectors k [])
+      → sector_by (Held rows' masks') masks' sectors' i member ≡ sector_by (Held rows masks) masks sectors i member
+  pushed_kept i member below within kept = by_bit (has_bit (mask_at masks i) member) refl
+    where
+      bit : has_bit (mask_at masks' i) member ≡ has_bit (mask_at masks i) member
+      bit = ap (λ (mask : ℕ). has_bit mask member) (same i below)
+
+      by_bit : (b : Bool) → has_bit (mask_at masks i) member ≡ b
+          → sector_by (Held rows' masks') masks' sectors' i member ≡ sector_by (Held rows masks) masks sectors i member
+      by_bit false lacking = by_held (Held rows' masks') masks' sectors' i member false (bit ∙ lacking)
+          ∙ sym (by_held (Held rows masks) masks sectors i member false lacking)
+      by_bit true held =
+          let place : rank MOST_MEMBERS (Held rows' masks') i member ≡ rank MOST_MEMBERS (Held rows masks) i member =
+          rank_agrees MOST_MEMBERS (Held rows' masks') (Held rows masks) i member
+          (λ k m upto inside. ap (λ (mask : ℕ). has_bit mask m) (same k (omega (arith, upto, below)))) (omega (arith, within)) in
+          let before = rank_before MOST_MEMBERS (Held rows masks) i member count held within below in
+          by_held (Held rows' masks') masks' sectors' i member true (bit ∙ held)
+          ∙ ap (λ (k : ℕ). get_or sectors' k []) place
+          ∙ kept (rank MOST_MEMBERS (Held rows masks) i member) (omega (arith, before))
+          ∙ sym (by_held (Held rows masks) masks sectors i member true held)
+
+  -- and it has zeros where those were put from there on
+  pub pushed_zeros : (member mask : ℕ) → mask_at masks' count ≡ mask → member < MOST_MEMBERS → has_bit mask member ≡ true
+      → ((k : ℕ) → first ≤ k → k < first + bits_below mask MOST_MEMBERS → get_or sectors' k [] ≡ replicate 512 0)
+      → sector_by (Held rows' masks') masks' sectors' count member ≡ replicate 512 0
+  pushed_zeros member mask its within held zeros =
+      let bit : has_bit (mask_at masks' count) member ≡ true = ap (λ (mask : ℕ). has_bit mask member) its ∙ held in
+      let before : held_before MOST_MEMBERS (Held rows' masks') count ≡ held_before MOST_MEMBERS (Held rows masks) count =
+      before_agrees MOST_MEMBERS (Held rows' masks') (Held rows masks) count
+      (λ k m below inside. ap (λ (mask : ℕ). has_bit mask m) (same k below)) in
+      let bits : bits_below (mask_at masks' count) member ≡ bits_below mask member = ap (λ (mask : ℕ). bits_below mask member) its in
+      by_held (Held rows' masks') masks' sectors' count member true bit
+      ∙ zeros (rank MOST_MEMBERS (Held rows' masks') count member) (omega (arith, before))
+      (omega (arith, before, bits, count_beyond (has_bit mask) member MOST_MEMBERS held within))
 
 pub numbers_stay : (entry : Entry) (i member : ℕ) (value : Bytes) → numbers_of (with_sector entry i member value) ≡ numbers_of entry
 numbers_stay entry i member value = refl
 
 -- the sectors of a row, member by member
-pub row_member : (entry : Entry) (i member : ℕ) → member < MOST_MEMBERS → get_or (row_of entry i) member [] ≡ sector_at entry i member
-row_member entry i member within = get_or-take MOST_MEMBERS (drop (MOST_MEMBERS * i) entry.sectors.items) member [] within
-    ∙ get_or-drop (MOST_MEMBERS * i) entry.sectors.items member []
+pub row_member : (entry : Entry) (i member : ℕ) → member < MOST_MEMBERS → has_bit (row_mask entry i) member ≡ true
+    → sector_of_row (row_mask entry i) (row_of entry i) member ≡ sector_at entry i member
+row_member entry i member within held =
+    let mask = row_mask entry i in
+    let there : place_at entry i 0 + bits_below mask member ≡ place_at entry i member = omega arith in
+    get_or-take (bits_below mask MOST_MEMBERS) (drop (place_at entry i 0) entry.sectors.items) (bits_below mask member) []
+    (count_beyond (has_bit mask) member MOST_MEMBERS held within)
+    ∙ get_or-drop (place_at entry i 0) entry.sectors.items (bits_below mask member) []
+    ∙ ap (λ (k : ℕ). get_or entry.sectors.items k []) there ∙ sym (held_there entry i member held)
 
 -- lists, one after another
 lists_next : (f : ℕ → List Bytes) (n : ℕ) → flat_map f (range_with_len 0 (suc n)) ≡ flat_map f (range_with_len 0 n) ++ f n
@@ -228,9 +317,9 @@ length-rows members entry (suc n) =
     ap length (lists_next (λ i. row_held members entry i) n) ∙ length-append before (row_held members entry n)
     ∙ omega (arith, length-rows members entry n, length-row members entry n)
 
-rows_at : (members : ℕ) (entry : Entry) (n i member : ℕ) → i < n → member < members → holds members (form_of entry) i member ≡ true
+rows_at : (members : ℕ) (entry : Entry) (n i member : ℕ) → i < n → member < members → in_body members (form_of entry) i member ≡ true
     → get_or (flat_map (λ i. row_held members entry i) (range_with_len 0 n)) (rank members (form_of entry) i member) [] ≡ get_or (row_held members entry i)
-    (count_held (holds members (form_of entry) i) member) []
+    (count_held (in_body members (form_of entry) i) member) []
 rows_at members entry zero i member below within held = absurd (omega (arith, below))
 rows_at members entry (suc n) i member below within held =
     let before = flat_map (λ i. row_held members entry i) (range_with_len 0 n) in
@@ -239,7 +328,7 @@ rows_at members entry (suc n) i member below within held =
     ap (λ (l : List Bytes). get_or l at []) (lists_next (λ i. row_held members entry i) n)
     ∙ elim (cases_eq i n) [
       | inl same ↦
-          let count = count_held (holds members (form_of entry) i) member in
+          let count = count_held (in_body members (form_of entry) i) member in
           let place : at ≡ length before + count = ap (λ (k : ℕ). k + count) (ap (held_before members (form_of entry)) same ∙ sym long) in
           ap (λ (k : ℕ). get_or (before ++ row_held members entry n) k []) place
           ∙ get_or-append-add before (row_held members entry n) count []
@@ -254,26 +343,26 @@ pub length-body : (members : ℕ) (entry : Entry) → length (body_of members en
 length-body members entry = length-rows members entry (length (numbers_of entry))
 
 pub body_at : (members : ℕ) (entry : Entry) (i member : ℕ) → members ≤ MOST_MEMBERS → i < length (numbers_of entry) → member < members
-    → holds members (form_of entry) i member ≡ true
+    → in_body members (form_of entry) i member ≡ true
     → get_or (body_of members entry) (rank members (form_of entry) i member) [] ≡ sector_at entry i member
 body_at members entry i member few below within held =
     rows_at members entry (length (numbers_of entry)) i member below within held
-    ∙ value_at (has_bit (row_mask entry i)) (λ k. get_or (row_of entry i) k []) members member held within
-    ∙ row_member entry i member (omega (arith, few, within))
+    ∙ value_at (has_bit (row_mask entry i)) (sector_of_row (row_mask entry i) (row_of entry i)) members member held within
+    ∙ row_member entry i member (omega (arith, few, within)) held
 
 -- what reads of the journal give there once it is written
 pub body_seen : (format : Format) (device members number : ℕ) (entry : Entry) (h : History) (i member : ℕ) → members ≤ MOST_MEMBERS
     → i < length (numbers_of entry)
     → member < members
-    → holds members (form_of entry) i member ≡ true → journal_sectors format ≤ length (seen h device)
-    → sector_of (seen (after_all (writes_from device (body_start number) (body_of members entry)) h) device)
-    (body_start number + rank members (form_of entry) i member) ≡ sector_at entry i member
+    → in_body members (form_of entry) i member ≡ true → journal_sectors format ≤ length (seen h device)
+    → sector_of (seen (after_all (writes_from device (half_start format number) (body_of members entry)) h) device)
+    (half_start format number + rank members (form_of entry) i member) ≡ sector_at entry i member
 body_seen format device members number entry h i member few below within held room =
     let body = body_of members entry in
     let count = length (numbers_of entry) in
     let long : length body ≡ held_before members (form_of entry) count = length-body members entry in
     let most = before_few members (form_of entry) count few entry.few in
     let inside = rank_before members (form_of entry) i member count held within below in
-    seen_writes device (body_start number) body h (rank members (form_of entry) i member) (omega arith)
-    (omega (arith, room, most, long, inside, journal_least format))
+    seen_writes device (half_start format number) body h (rank members (form_of entry) i member) (omega arith)
+    (omega (arith, room, most, long, inside, half_end format number, body_least format))
     ∙ body_at members entry i member few below within held

@@ -66,10 +66,19 @@ no_masks_by masks count two few is_two lacks = (
   λ are. absurd (false≢true (sym lacks ∙ is_two.1 (front masks count few are))),
 )
 
--- masks with two bits for each row are a seal's
-pub formed_by : (rows : ArrayVec ℕ) (masks : List ℕ) (count : ℕ) → length masks ≡ ENTRY_ROWS → ((i : ℕ) → mask_at masks i < 256) → ((i : ℕ) → count ≤ i
-    → mask_at masks i ≡ 0)
-    → ((i : ℕ) → i < count → 2 ≤ count_ones (mask_at masks i)) → IsForm (Held rows masks) count
-formed_by rows masks count long bytes rest two others other is =
-    let same : masks ≡ other = cc in
-    subst (λ (l : List ℕ). AreMasks l count) same record { long = long; bytes = bytes; two_bits = two; rest = rest }
+-- rows with masks of two bits each are a form that a seal may have
+pub masked_formed : (rows : ArrayVec ℕ) (masks : List ℕ) → length rows.items ≤ ENTRY_ROWS → AreMasks masks (length rows.items) → IsForm (Held rows masks)
+masked_formed rows masks few are = record {
+  whole = λ own is. absurd (cc);
+  held = λ own others is.
+      let same : rows ≡ own = cc in
+      let alike : masks ≡ others = cc in (
+        omega (arith, few, ap (λ (r : ArrayVec ℕ). length r.items) same),
+        subst (λ (m : List ℕ). AreMasks m (length own.items)) alike (subst (λ (r : ArrayVec ℕ). AreMasks masks (length r.items)) same are),
+      );
+}
+
+pub formed_by : (rows : ArrayVec ℕ) (masks : List ℕ) → length rows.items ≤ ENTRY_ROWS → length masks ≡ ENTRY_ROWS → ((i : ℕ) → mask_at masks i < 256)
+    → ((i : ℕ) → length rows.items ≤ i → mask_at masks i ≡ 0)
+    → ((i : ℕ) → i < length rows.items → 2 ≤ count_ones (mask_at masks i)) → IsForm (Held rows masks)
+formed_by rows masks few long bytes rest two = masked_formed rows masks few record { long = long; bytes = bytes; two_bits = two; rest = rest }

@@ -10,7 +10,7 @@ use Rattle.stripe_journal.specs.LastSealed.{Belongs}
 use Rattle.stripe_journal.specs.Spelling.{seal_sector}
 
 own_place : (id : List ℕ) (geometry : Geometry) (place : ℕ) (seal : Seal) → Belongs id geometry place seal → Belongs id geometry (seal.number % HALVES) seal
-own_place id geometry place seal is = record { of_set = is.of_set; own_place = refl; below = is.below; held = is.held }
+own_place id geometry place seal is = record { of_set = is.of_set; of_format = is.of_format; own_place = refl; below = is.below; held = is.held }
 
 either_belongs : (id : List ℕ) (geometry : Geometry) (b : Bool) (first second : Seal) → Belongs id geometry (first.number % HALVES) first
     → Belongs id geometry (second.number % HALVES) second

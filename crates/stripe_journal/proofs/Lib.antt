@@ -1,10 +1,14 @@
 pub mod Bodies
 pub mod Copies
 pub mod CountedSeals
+pub mod Decisions
 pub mod Entries
 pub mod EntrySectors
 pub mod FormTests
+pub mod FormsRead
+pub mod Halves
 pub mod HeldEntries
+pub mod HeldRuns
 pub mod Instances
 pub mod LastOfOne
 pub mod LastSeal
@@ -14,6 +18,9 @@ pub mod Offsets
 pub mod OneEntry
 pub mod OneEntryCalls
 pub mod Places
+pub mod RankRuns
 pub mod Respelled
+pub mod RunRows
 pub mod Seals
+pub mod SpelledForms
 pub mod Spellings

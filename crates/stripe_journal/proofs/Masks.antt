@@ -6,12 +6,15 @@ use Rattle.std.proofs.lemmas.Nat.{leading_top, mul-le, pow_pos}
 use Rattle.std.proofs.Math.Nat.{div-eq_of_lt, div-eq_of_lt-le, div-lt_iff_lt-mul, pow-le-pow_right, pow-suc, zero-div}
 use Rattle.std.proofs.lemmas.Bool.{agree_below, agree_below_at, cases_lt, cases_eq, eqb-true, false≢true, lt-ltb}
 use Rattle.arrayvec.specs.ArrayVec.{ArrayVec}
+use Rattle.entry_runs.specs.Body.{count_held, has_bit}
+use Rattle.entry_runs.proofs.Counts.{count_most}
+pub use Rattle.entry_runs.proofs.Counts.{count_beyond, count_next, count_on, count_over, count_same}
 use Rattle.layout_map.specs.Placement.{IsParityOf}
 use Rattle.layout_map.specs.declared.geometry.Geometry.{Geometry}
 use Rattle.layout_map.specs.declared.sizes.TheConstants.{ENTRY_ROWS, MOST_MEMBERS, BODY_SECTORS}
 use Rattle.stripe_journal.specs.declared.form.Form.{Form}
 use Rattle.stripe_journal.specs.declared.form.Form.TheVariants.{Whole}
-use Rattle.stripe_journal.specs.Forms.{HoldsRow, count_held, has_bit, held_before, holds, rank}
+use Rattle.stripe_journal.specs.Forms.{HoldsRow, held_before, in_body, rank}
 
 -- the mask of all members of a set has their bits
 full_mask_row : ℕ → Bool
@@ -43,13 +46,6 @@ no_bit mask n member below beyond =
     let none : mask / 2 ^ member ≡ 0 = div-eq_of_lt {n = mask} {m = 2 ^ member} (omega (arith, size, below)) in
     ap (λ (q : ℕ). q % 2 == 1) none
 
--- a byte has no bit from the eighth on
-pub bit_below : (mask member : ℕ) → mask < 256 → has_bit mask member ≡ true → member < MOST_MEMBERS
-bit_below mask member byte is = elim (cases_lt member MOST_MEMBERS) [
-  | inl below ↦ below
-  | inr beyond ↦ absurd (false≢true (sym (no_bit mask 8 member byte beyond) ∙ is))
-]
-
 -- a mask has bits below a number only, or one of its bits is there or above
 
 pub bits_low : (mask n member : ℕ) → mask / 2 ^ n ≡ 0 → has_bit mask member ≡ true → member < n
@@ -79,16 +75,15 @@ bit_high mask n byte some low = elim (cases_eq mask 0) [
 ]
 
 -- the mask of a row, by the tests of its bits
-pub fits_by : (geometry : Geometry) (row number mask wide parity : ℕ) (b : Bool) → number ≡ row → wide ≡ mask
-    → IsParityOf geometry.members geometry.chunk number parity
-    → ((m : ℕ) → IsParityOf geometry.members geometry.chunk number m → m ≡ parity)
+pub fits_by : (geometry : Geometry) (row mask wide parity : ℕ) (b : Bool) → wide ≡ mask → IsParityOf geometry.members geometry.chunk row parity
+    → ((m : ℕ) → IsParityOf geometry.members geometry.chunk row m → m ≡ parity)
     → wide / 2 ^ geometry.members ≡ 0 → b ≡ has_bit mask parity → IsTrue b ↔ HoldsRow geometry row (has_bit mask)
-fits_by geometry row number mask wide parity b row_is same is_parity only none is = (
+fits_by geometry row mask wide parity b same is_parity only none is = (
   λ held. record {
     of_set = λ m bit. bits_low mask geometry.members m (ap (λ (k : ℕ). k / 2 ^ geometry.members) (sym same) ∙ none) bit;
-    has_parity = λ m one. ap (has_bit mask) (only m (subst (λ (r : ℕ). IsParityOf geometry.members geometry.chunk r m) (sym row_is) one)) ∙ sym is ∙ held;
+    has_parity = λ m one. ap (has_bit mask) (only m one) ∙ sym is ∙ held;
   },
-  λ fits. is ∙ fits.has_parity parity (subst (λ (r : ℕ). IsParityOf geometry.members geometry.chunk r parity) row_is is_parity),
+  λ fits. is ∙ fits.has_parity parity is_parity,
 )
 
 pub fits_not : (geometry : Geometry) (row mask wide : ℕ) → wide ≡ mask → mask < 256 → wide / 2 ^ geometry.members ≢ 0
@@ -98,52 +93,23 @@ fits_not geometry row mask wide same byte some = (
   λ fits. absurd (bit_high mask geometry.members byte (λ none. some (ap (λ (k : ℕ). k / 2 ^ geometry.members) same ∙ none)) fits.of_set),
 )
 
--- how many are held
-
--- of n members at most n are held
-pub count_most : (held : ℕ → Bool) (n : ℕ) → count_held held n ≤ n
-count_most held zero = omega arith
-count_most held (suc n) = omega (arith, count_most held n, one_most (held n))
-  where
-    one_most : (b : Bool) → cond b 1 0 ≤ 1
-    one_most true = omega arith
-    one_most false = omega arith
-
--- with the next member that is held one more, else as many
-pub count_next : (held : ℕ → Bool) (n : ℕ) → held n ≡ true → count_held held (suc n) ≡ suc (count_held held n)
-count_next held n is = ap (λ (b : Bool). count_held held n + cond b 1 0) is ∙ omega arith
-
-pub count_same : (held : ℕ → Bool) (n : ℕ) → held n ≡ false → count_held held (suc n) ≡ count_held held n
-count_same held n is = ap (λ (b : Bool). count_held held n + cond b 1 0) is ∙ omega arith
-
--- the same as a loop counts
-pub count_on : (held : ℕ → Bool) (n : ℕ) → held n ≡ true → count_held held (n + 1) ≡ count_held held n + 1
-count_on held n is = ap (count_held held) (add-one n) ∙ count_next held n is ∙ sym (add-one (count_held held n))
-
-pub count_over : (held : ℕ → Bool) (n : ℕ) → held n ≡ false → count_held held (n + 1) ≡ count_held held n
-count_over held n is = ap (count_held held) (add-one n) ∙ count_same held n is
-
--- more members hold no less
-pub count_grows : (held : ℕ → Bool) (m n : ℕ) → m ≤ n → count_held held m ≤ count_held held n
-count_grows held m zero within = let same : m ≡ zero =
-    omega (arith, within) in subst (λ (k : ℕ). count_held held k ≤ count_held held zero) (sym same) (omega arith)
-count_grows held m (suc n) within = elim (cases_eq m (suc n)) [
-  | inl same ↦ subst (λ (k : ℕ). count_held held k ≤ count_held held (suc n)) (sym same) (omega arith)
-  | inr other ↦ omega (arith, count_grows held m n (omega (arith, within, other)))
-]
-
--- a member that is held is counted after it
-pub count_beyond : (held : ℕ → Bool) (m n : ℕ) → held m ≡ true → m < n → count_held held m < count_held held n
-count_beyond held m n is below = omega (arith, count_next held m is, count_grows held (suc m) n (omega (arith, below)))
+-- two ways of holding the same members hold as many
+pub count_agrees : (one other : ℕ → Bool) (n : ℕ) → ((m : ℕ) → m < n → one m ≡ other m) → count_held one n ≡ count_held other n
+count_agrees one other zero same = refl
+count_agrees one other (suc n) same =
+    ap (λ (k : ℕ). k + cond (one n) 1 0) (count_agrees one other n (λ m below. same m (omega (arith, below))))
+    ∙ ap (λ (b : Bool). count_held other n + cond b 1 0) (same n (omega arith))
 
 -- how many sectors the rows before hold
 pub before_most : (members : ℕ) (form : Form) (i : ℕ) → held_before members form i ≤ i * members
 before_most members form zero = omega arith
-before_most members form (suc i) = omega (arith, before_most members form i, count_most (holds members form i) members)
+before_most members form (suc i) = omega (arith, before_most members form i, count_most (in_body members form i) members)
 
-pub before_on : (members : ℕ) (form : Form) (i : ℕ) → held_before members form (i + 1) ≡ held_before members form i + count_held (holds members form i) members
+pub before_on : (members : ℕ) (form : Form) (i : ℕ) → held_before members form (i + 1) ≡ held_before members form i
+    + count_held (in_body members form i) members
 before_on members form i = ap (held_before members form) (add-one i)
 
+-- so 32 rows of 8 members are a body
 pub before_few : (members : ℕ) (form : Form) (i : ℕ) → members ≤ MOST_MEMBERS → i ≤ ENTRY_ROWS → held_before members form i ≤ BODY_SECTORS
 before_few members form i few most = omega (arith, before_most members form i, mul-le i members ENTRY_ROWS MOST_MEMBERS most few)
 
@@ -156,14 +122,14 @@ before_grows members form i (suc j) within = elim (cases_eq i (suc j)) [
 ]
 
 -- a sector that is held stands before the rows after it
-pub rank_before : (members : ℕ) (form : Form) (i member j : ℕ) → holds members form i member ≡ true → member < members → i < j
+pub rank_before : (members : ℕ) (form : Form) (i member j : ℕ) → in_body members form i member ≡ true → member < members → i < j
     → rank members form i member < held_before members form j
 rank_before members form i member j is within below =
-    omega (arith, count_beyond (holds members form i) member members is within, before_grows members form (suc i) j (omega (arith, below)))
+    omega (arith, count_beyond (in_body members form i) member members is within, before_grows members form (suc i) j (omega (arith, below)))
 
 -- two places in a body are those of one member in one row
 
-rank_apart : (members : ℕ) (form : Form) (i member i' member' : ℕ) → holds members form i member ≡ true → member < members → i < i'
+rank_apart : (members : ℕ) (form : Form) (i member i' member' : ℕ) → in_body members form i member ≡ true → member < members → i < i'
     → rank members form i member ≢ rank members form i' member'
 rank_apart members form i member i' member' is within below same = omega (arith, same, rank_before members form i member i' is within below)
 
@@ -179,7 +145,7 @@ same_member held m n is is' same = elim (cases_lt m n) [
   ]
 ]
 
-pub one_rank : (members : ℕ) (form : Form) (i member i' member' : ℕ) → holds members form i member ≡ true → holds members form i' member' ≡ true
+pub one_rank : (members : ℕ) (form : Form) (i member i' member' : ℕ) → in_body members form i member ≡ true → in_body members form i' member' ≡ true
     → member < members → member' < members
     → rank members form i member ≡ rank members form i' member' → (i ≡ i') × (member ≡ member')
 one_rank members form i member i' member' is is' within within' same = elim (cases_lt i i') [
@@ -189,8 +155,8 @@ one_rank members form i member i' member' is is' within within' same = elim (cas
     | inr both ↦
         let one : i ≡ i' = omega (arith, beyond, both) in
         let there : rank members form i' member ≡ rank members form i' member' = ap (λ (k : ℕ). rank members form k member) (sym one) ∙ same in
-        let here : holds members form i' member ≡ true = ap (λ (k : ℕ). holds members form k member) (sym one) ∙ is in
-        (one, same_member (holds members form i') member member' here is' (omega (arith, there)))
+        let here : in_body members form i' member ≡ true = ap (λ (k : ℕ). in_body members form k member) (sym one) ∙ is in
+        (one, same_member (in_body members form i') member member' here is' (omega (arith, there)))
   ]
 ]
 
@@ -201,9 +167,26 @@ count_all members zero few = refl
 count_all members (suc n) few =
     count_next (λ m. nat_lt m members) n (lt-ltb n members (omega (arith, few))) ∙ omega (arith, count_all members n (omega (arith, few)))
 
-before_all : (rows : ArrayVec ℕ) (members i : ℕ) → held_before members (Whole rows) i ≡ i * members
+pub before_all : (rows : ArrayVec ℕ) (members i : ℕ) → held_before members (Whole rows) i ≡ i * members
 before_all rows members zero = omega arith
 before_all rows members (suc i) = omega (arith, before_all rows members i, count_all members members (omega arith))
 
 pub rank_whole : (rows : ArrayVec ℕ) (members i member : ℕ) → member ≤ members → rank members (Whole rows) i member ≡ i * members + member
 rank_whole rows members i member few = omega (arith, before_all rows members i, count_all members member few)
+
+-- two forms that hold the same of a set's members have the same places
+
+pub before_agrees : (members : ℕ) (one other : Form) (i : ℕ) → ((k m : ℕ) → k < i → m < members → in_body members one k m ≡ in_body members other k m)
+    → held_before members one i ≡ held_before members other i
+before_agrees members one other zero same = refl
+before_agrees members one other (suc i) same =
+    ap (λ (k : ℕ). k + count_held (in_body members one i) members) (before_agrees members one other i (λ k m below. same k m (omega (arith, below))))
+    ∙ ap (λ (n : ℕ). held_before members other i + n) (count_agrees (in_body members one i) (in_body members other i) members (λ m. same i m (omega arith)))
+
+pub rank_agrees : (members : ℕ) (one other : Form) (i member : ℕ) → ((k m : ℕ) → k ≤ i → m < members → in_body members one k m ≡ in_body members other k m)
+    → member ≤ members
+    → rank members one i member ≡ rank members other i member
+rank_agrees members one other i member same within =
+    ap (λ (k : ℕ). k + count_held (in_body members one i) member) (before_agrees members one other i (λ k m below. same k m (omega (arith, below))))
+    ∙ ap (λ (n : ℕ). held_before members other i + n) (count_agrees (in_body members one i) (in_body members other i) member
+    (λ m below. same i m (omega arith) (omega (arith, below, within))))

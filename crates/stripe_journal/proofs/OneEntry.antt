@@ -2,11 +2,14 @@
 use Rattle.std.proofs.Common.{◌≡◌, ◌≢◌, inl, inr, ℕ, ◌+◌, ◌%◌, ◌<◌, ◌≤◌, List, Option, Some, None, refl, sym, ◌∙◌, ap, subst, arith}
 use Rattle.std.proofs.lemmas.Bool.{cases_eq}
 use Rattle.layout_map.specs.declared.sizes.TheConstants.{FIRST_SEAL, HALVES, MOST_MEMBERS}
+use Rattle.layout_map.specs.declared.format.Format.{Format}
 use Rattle.layout_map.specs.declared.geometry.Geometry.{Geometry}
+use Rattle.layout_map.specs.Formats.{body_sectors}
 use Rattle.sector_model.specs.History.{Bytes, sector_of}
 use Rattle.stripe_journal.specs.declared.seal.Seal.{Seal}
 use Rattle.stripe_journal.specs.Body.{place_by_seal, seal_place}
-use Rattle.stripe_journal.specs.Entries.{body_start}
+use Rattle.stripe_journal.specs.Entries.{body_start, half_start}
+use Rattle.stripe_journal.specs.Forms.{format_of}
 use Rattle.stripe_journal.specs.LastEntry.{Counts, IsGreatest, IsLastSealed, number_of, sector_in}
 use Rattle.stripe_journal.specs.OneEntry.{ACrashLeavesEither, EntryStage, HasEntryBefore, HasThisEntry, IsInHalf, IsNextOn, MayStandOn, CrashLeavesEither}
 use Rattle.stripe_journal.specs.OneEntry.{Writing, Staged, Sealing, Sealed}
@@ -14,6 +17,7 @@ use Rattle.stripe_journal.specs.Spelling.{seal_sector}
 use Rattle.stripe_journal.proofs.Bodies.{in_own_half}
 use Rattle.stripe_journal.proofs.CountedSeals.{one_counted}
 use Rattle.stripe_journal.proofs.EntrySectors.{same_sectors}
+use Rattle.stripe_journal.proofs.Halves.{one_half, seal_before, start_least}
 use Rattle.stripe_journal.proofs.LastOfOne.{last_is_one}
 
 -- no seal that counts has a greater number than the last
@@ -45,16 +49,22 @@ pub other_half : (id : List ℕ) (geometry : Geometry) (old : List Bytes) (seal 
     → IsLastSealed id geometry (Some old) (Some last) → last.number % HALVES ≢ seal.number % HALVES
 other_half id geometry old seal last next is same = absurd (omega (arith, same, next_number id geometry old seal last next is))
 
+-- its form is one of the set's format
+of_format : (id : List ℕ) (geometry : Geometry) (old : List Bytes) (last : Seal) → IsLastSealed id geometry (Some old) (Some last)
+    → format_of last.form ≡ geometry.format
+of_format id geometry old last is = is.counted.belongs.of_format
+
 -- the body of the last entry is neither in the half of the next entry nor in its seal's place
 pub body_apart : (id : List ℕ) (geometry : Geometry) (old : List Bytes) (seal last : Seal) → IsNextOn id geometry old seal
     → IsLastSealed id geometry (Some old) (Some last)
     → (members row member place : ℕ) → members ≤ MOST_MEMBERS → member < members → place_by_seal members last row member ≡ Some place
-    → (¬ IsInHalf seal.number place) × (place ≢ seal_place seal.number)
+    → (¬ IsInHalf seal place) × (place ≢ seal_place seal.number)
 body_apart id geometry old seal last next is members row member place few below found =
-    let own = in_own_half members last row member place few below found in
-    let number = next_number id geometry old seal last next is in (
-      λ half. absurd (omega (arith, own.0, own.1, number, half.0, half.1)),
-      λ same. absurd (omega (arith, own.0, same)),
+    let format : format_of last.form ≡ format_of seal.form = of_format id geometry old last is ∙ sym next.belongs.of_format in
+    let own = subst (λ (f : Format). (half_start f last.number ≤ place) × (place < half_start f last.number + body_sectors f)) format
+    (in_own_half members last row member place few below found) in (
+      λ half. other_half id geometry old seal last next is (one_half (format_of seal.form) last.number seal.number place own.0 own.1 half.0 half.1),
+      λ same. seal_before last seal.number place (in_own_half members last row member place few below found).0 same,
     )
 
 -- so a journal that has the entry before has its sectors
@@ -67,11 +77,12 @@ same_body id geometry old disk seal last next is has members row member few belo
     has.elsewhere place apart.0 apart.1)
 
 module _ (id : List ℕ) (geometry : Geometry) (old disk : List Bytes) (seal : Seal) (next : IsNextOn id geometry old seal)
-    (elsewhere : (at : ℕ) → ¬ IsInHalf seal.number at → at ≢ seal_place seal.number → sector_of disk at ≡ sector_of old at) where
+    (elsewhere : (at : ℕ) → ¬ IsInHalf seal at → at ≢ seal_place seal.number → sector_of disk at ≡ sector_of old at) where
   -- the other place has what it had
   other_place : (place : ℕ) (s : Seal) → s.number % HALVES ≡ place → place ≢ seal.number % HALVES
       → sector_of disk (FIRST_SEAL + place) ≡ sector_of old (FIRST_SEAL + place)
-  other_place place s own other = elsewhere (FIRST_SEAL + place) (λ half. absurd (omega (arith, half.0, own))) (λ same. other (omega (arith, same)))
+  other_place place s own other = elsewhere (FIRST_SEAL + place) (λ half. absurd (omega (arith, half.0, own, start_least seal)))
+      (λ same. other (omega (arith, same)))
 
   -- where the new seal doesn't stand, the entry is that before
   has_before : sector_of disk (seal_place seal.number) ≡ sector_of old (seal_place seal.number) → HasEntryBefore id geometry old disk seal
@@ -120,7 +131,7 @@ a_crash_leaves_either id geometry old disk seal body stage next stand = by_stage
         → sector_of disk (seal_place seal.number) ≡ seal_sector seal → HasThisEntry id geometry disk seal body
     this reached stand staged stands = record {
       last = is_last_now id geometry old disk seal next (λ at. (stand at).elsewhere) stands;
-      has_body = λ k within. (stand (body_start seal.number + k)).in_half staged k within refl;
+      has_body = λ k within. (stand (body_start seal + k)).in_half staged k within refl;
     }
 
     by_stage : (stage : EntryStage) → ((at : ℕ) → MayStandOn old seal body stage at (sector_of disk at))

@@ -2,10 +2,7 @@
 use Rattle.std.proofs.Common.{◌≡◌, ◌≢◌, ◌⊎◌, inl, inr, ℕ, ◌+◌, ◌<◌, ◌≤◌, Bool, true, false, cond, List, [], ◌∷◌, ◌++◌, length, refl, sym, ◌∙◌, ap, subst, arith}
 use Rattle.std.proofs.Common.{◌==◌, ◌||◌}
 use Rattle.std.specs.Prelude.{slice_index_or, slice_set}
-use Rattle.layout_map.specs.declared.format.Format.{Format}
-use Rattle.layout_map.specs.declared.sizes.TheConstants.{BODY_SECTORS}
-use Rattle.layout_map.specs.Formats.{journal_sectors}
-use Rattle.layout_map.proofs.Places.{journal_least}
+use Rattle.layout_map.specs.Formats.{body_sectors, journal_sectors}
 use Rattle.sector_model.specs.declared.event.Event.{Event}
 use Rattle.sector_model.specs.declared.event.Event.TheVariants.{Quiet, Wrote, Lost, Flushed, DeviceFailed}
 use Rattle.sector_model.specs.Bank.{fault_at}
@@ -20,8 +17,10 @@ use Rattle.stripe_journal.specs.declared.seal.Seal.{Seal}
 use Rattle.stripe_journal.specs.Body.{seal_place}
 use Rattle.stripe_journal.specs.Copying.{copied_from, copy_calls}
 use Rattle.stripe_journal.specs.Entries.{body_start}
+use Rattle.stripe_journal.specs.Forms.{format_of}
 use Rattle.stripe_journal.specs.OneEntry.{EntryStage, IsOn, MayStandOn, StaysOff, Writing, Staged, Sealing, Sealed}
 use Rattle.stripe_journal.specs.Spelling.{seal_sector}
+use Rattle.stripe_journal.proofs.Halves.{seal_before, start_end, start_least}
 
 -- calls of some devices leave the others as they were
 
@@ -304,24 +303,24 @@ module _ (dev : ℕ) (disk : List Bytes) (seal : Seal) (body : List Bytes) where
   }
 
   -- a sector of the half of the new entry
-  pub half_put : (at : ℕ) (value : Bytes) → body_start seal.number ≤ at → at < body_start seal.number + BODY_SECTORS
+  pub half_put : (at : ℕ) (value : Bytes) → body_start seal ≤ at → at < body_start seal + body_sectors (format_of seal.form)
       → MayStandOn disk seal body Writing at value
   half_put at value least most = record {
     elsewhere = λ half. absurd (half (least, most));
     in_half = λ stage. absurd (stage refl);
-    in_place = λ place. absurd (omega (arith, place, least));
+    in_place = λ place. absurd (seal_before seal seal.number at least place);
   }
 
   -- its seal
   pub place_put : MayStandOn disk seal body Sealing (seal_place seal.number) (seal_sector seal)
   place_put = record {
     elsewhere = λ half place. absurd (place refl);
-    in_half = λ stage k within is. absurd (omega (arith, is));
+    in_half = λ stage k within is. absurd (omega (arith, is, start_least seal));
     in_place = λ place. inr refl;
   }
 
   -- the body is written, and flushed
-  staged_after : (g : History) → ((k : ℕ) → k < length body → sector_of (seen g dev) (body_start seal.number + k) ≡ slice_index_or body k [])
+  staged_after : (g : History) → ((k : ℕ) → k < length body → sector_of (seen g dev) (body_start seal + k) ≡ slice_index_or body k [])
       → IsOn dev disk seal body Writing g → IsOn dev disk seal body Staged (After (Flushed dev) g)
   staged_after g has is = record {
     each = λ at value may. let before = is.each at value may.0 in record {
@@ -357,7 +356,8 @@ module _ (dev : ℕ) (disk : List Bytes) (seal : Seal) (body : List Bytes) where
   kept_at stage old call only one = kept_both (λ h. IsOn dev disk seal body stage h) (λ h. StaysOff OfDevice old h) call (kept_on stage call only)
       (kept_off OfDevice old call one)
 
-  writes_kept : (old : History) (values : List Bytes) (at : ℕ) → body_start seal.number ≤ at → at + length values ≤ body_start seal.number + BODY_SECTORS
+  writes_kept : (old : History) (values : List Bytes) (at : ℕ) → body_start seal ≤ at
+      → at + length values ≤ body_start seal + body_sectors (format_of seal.form)
       → AllKeep (OnAlone Writing old) (writes_from dev at values)
   writes_kept old [] at least most = tt
   writes_kept old (value ∷ values) at least most = (
@@ -365,34 +365,36 @@ module _ (dev : ℕ) (disk : List Bytes) (seal : Seal) (body : List Bytes) where
     writes_kept old values (at + 1) (omega (arith, least)) (omega (arith, most)),
   )
 
-  body_kept : (old : History) → length body ≤ BODY_SECTORS → AllKeep (OnAlone Writing old) (writes_from dev (body_start seal.number) body ++ Flush dev ∷ [])
-  body_kept old few = keep_both (OnAlone Writing old) (writes_from dev (body_start seal.number) body) (Flush dev ∷ [])
-      (writes_kept old body (body_start seal.number) (omega arith) (omega (arith, few))) (kept_at Writing old (Flush dev) tt refl, tt)
+  body_kept : (old : History) → length body ≤ body_sectors (format_of seal.form)
+      → AllKeep (OnAlone Writing old) (writes_from dev (body_start seal) body ++ Flush dev ∷ [])
+  body_kept old few = keep_both (OnAlone Writing old) (writes_from dev (body_start seal) body) (Flush dev ∷ [])
+      (writes_kept old body (body_start seal) (omega arith) (omega (arith, few))) (kept_at Writing old (Flush dev) tt refl, tt)
 
-  body_staged : (format : Format) (old new : History) → length body ≤ BODY_SECTORS → (is_down old dev ≡ false → journal_sectors format ≤ length (seen old dev))
+  body_staged : (old new : History) → length body ≤ body_sectors (format_of seal.form) → (is_down old dev ≡ false
+      → journal_sectors (format_of seal.form) ≤ length (seen old dev))
       → IsOn dev disk seal body Writing old
-      → Made (writes_from dev (body_start seal.number) body ++ Flush dev ∷ []) true old new → IsOn dev disk seal body Staged new
-  body_staged format old new few room is made =
-      let calls = writes_from dev (body_start seal.number) body in
+      → Made (writes_from dev (body_start seal) body ++ Flush dev ∷ []) true old new → IsOn dev disk seal body Staged new
+  body_staged old new few room is made =
+      let calls = writes_from dev (body_start seal) body in
       let up = (up_after calls (Flush dev ∷ []) old (made_up made)).0 in
-      let kept = kept_after (OnAlone Writing old) calls old (writes_kept old body (body_start seal.number) (omega arith) (omega (arith, few)))
+      let kept = kept_after (OnAlone Writing old) calls old (writes_kept old body (body_start seal) (omega arith) (omega (arith, few)))
       (is, stays_off_none OfDevice old) in
       subst (λ (h : History). IsOn dev disk seal body Staged h) (sym (made_all made ∙ flushed_last dev calls old))
       (staged_after (after_all calls old)
-      (λ k within. seen_writes dev (body_start seal.number) body old k within (omega (arith, few, room up, journal_least format))) kept.0)
+      (λ k within. seen_writes dev (body_start seal) body old k within (omega (arith, few, room up, start_end seal))) kept.0)
 
   -- the body is put on a journal
-  pub body_put : {answered : Bool} (format : Format) (old new : History) → length body ≤ BODY_SECTORS
-      → (is_down old dev ≡ false → journal_sectors format ≤ length (seen old dev))
+  pub body_put : {answered : Bool} (old new : History) → length body ≤ body_sectors (format_of seal.form)
+      → (is_down old dev ≡ false → journal_sectors (format_of seal.form) ≤ length (seen old dev))
       → IsOn dev disk seal body Writing old
-      → Made (writes_from dev (body_start seal.number) body ++ Flush dev ∷ []) answered old new
+      → Made (writes_from dev (body_start seal) body ++ Flush dev ∷ []) answered old new
       → Throughout (λ h. IsOn dev disk seal body Writing h × StaysOff (λ d. d ≡ dev) old h) old new × (answered ≡ true → IsPutOn dev disk seal body Staged new)
-  body_put format old new few room is made = (
+  body_put old new few room is made = (
     throughout_kept (OnAlone Writing old) (body_kept old few) (is, stays_off_none OfDevice old) made,
     λ all.
-        let calls = writes_from dev (body_start seal.number) body in
+        let calls = writes_from dev (body_start seal) body in
         let made_whole = subst (λ (b : Bool). Made (calls ++ Flush dev ∷ []) b old new) all made in
-        record { on = body_staged format old new few room is made_whole; flushed = all_flushed dev calls made_whole; up = flushed_is_up dev calls made_whole },
+        record { on = body_staged old new few room is made_whole; flushed = all_flushed dev calls made_whole; up = flushed_is_up dev calls made_whole },
   )
 
   -- the calls of a seal
@@ -403,22 +405,22 @@ module _ (dev : ℕ) (disk : List Bytes) (seal : Seal) (body : List Bytes) where
   seal_kept : (old : History) → AllKeep (OnAlone Sealing old) (write_seal ∷ Flush dev ∷ [])
   seal_kept old = (kept_at Sealing old write_seal (λ same. place_put) refl, (kept_at Sealing old (Flush dev) tt refl, tt))
 
-  seal_sealed : (format : Format) (old : History) → journal_sectors format ≤ length (seen old dev) → IsOn dev disk seal body Staged old
+  seal_sealed : (old : History) → journal_sectors (format_of seal.form) ≤ length (seen old dev) → IsOn dev disk seal body Staged old
       → IsOn dev disk seal body Sealed (after_all (write_seal ∷ Flush dev ∷ []) old)
-  seal_sealed format old room is = sealed_after old (omega (arith, room)) ((kept_on Sealing write_seal (λ same. place_put)).keeps true old
+  seal_sealed old room is = sealed_after old (omega (arith, room)) ((kept_on Sealing write_seal (λ same. place_put)).keeps true old
       (is_staged_sealing old is))
 
   -- the seal is put on a journal
-  pub seal_put : {answered : Bool} (format : Format) (old new : History) → (is_down old dev ≡ false → journal_sectors format ≤ length (seen old dev))
+  pub seal_put : {answered : Bool} (old new : History) → (is_down old dev ≡ false → journal_sectors (format_of seal.form) ≤ length (seen old dev))
       → IsOn dev disk seal body Staged old
       → Made (Write dev (seal_place seal.number) (seal_sector seal) ∷ Flush dev ∷ []) answered old new
       → Throughout (λ h. IsOn dev disk seal body Sealing h × StaysOff (λ d. d ≡ dev) old h) old new × (answered ≡ true → IsPutOn dev disk seal body Sealed new)
-  seal_put format old new room is made = (
+  seal_put old new room is made = (
     throughout_kept (OnAlone Sealing old) (seal_kept old) (is_staged_sealing old is, stays_off_none OfDevice old) made,
     λ all.
         let made_whole = subst (λ (b : Bool). Made (write_seal ∷ Flush dev ∷ []) b old new) all made in
         record {
-          on = subst (λ (h : History). IsOn dev disk seal body Sealed h) (sym (made_all made_whole)) (seal_sealed format old (room (made_up made_whole).0) is);
+          on = subst (λ (h : History). IsOn dev disk seal body Sealed h) (sym (made_all made_whole)) (seal_sealed old (room (made_up made_whole).0) is);
           flushed = all_flushed dev (write_seal ∷ []) made_whole;
           up = flushed_is_up dev (write_seal ∷ []) made_whole;
         },
@@ -431,7 +433,7 @@ module _ (dev : ℕ) (disk : List Bytes) (seal : Seal) (body : List Bytes) where
     OfBoth d = (d ≡ dev) ⊎ (d ≡ from)
 
     abbrev copied : List Call
-    copied = copied_from from dev (body_start seal.number) body
+    copied = copied_from from dev (body_start seal) body
 
     -- the journal at this stage, the other only read, and no third device called
     abbrev InCopy : EntryStage → History → History → Type 0
@@ -463,7 +465,8 @@ module _ (dev : ℕ) (disk : List Bytes) (seal : Seal) (body : List Bytes) where
     flush_kept : (stage : EntryStage) (old : History) → IsKeptBy (InCopy stage old) (Flush dev)
     flush_kept stage old = kept_in stage old (Flush dev) tt (inl refl) (only_read_other from old (Flush dev) apart)
 
-    copied_kept : (old : History) (values : List Bytes) (at : ℕ) → body_start seal.number ≤ at → at + length values ≤ body_start seal.number + BODY_SECTORS
+    copied_kept : (old : History) (values : List Bytes) (at : ℕ) → body_start seal ≤ at
+        → at + length values ≤ body_start seal + body_sectors (format_of seal.form)
         → AllKeep (InCopy Writing old) (copied_from from dev at values)
     copied_kept old [] at least most = tt
     copied_kept old (value ∷ values) at least most = (
@@ -475,64 +478,67 @@ module _ (dev : ℕ) (disk : List Bytes) (seal : Seal) (body : List Bytes) where
       ),
     )
 
-    body_copied : (old : History) → length body ≤ BODY_SECTORS → IsOn dev disk seal body Writing old → InCopy Writing old (after_all copied old)
-    body_copied old few is = kept_after (InCopy Writing old) copied old (copied_kept old body (body_start seal.number) (omega arith) (omega (arith, few)))
+    body_copied : (old : History) → length body ≤ body_sectors (format_of seal.form) → IsOn dev disk seal body Writing old
+        → InCopy Writing old (after_all copied old)
+    body_copied old few is = kept_after (InCopy Writing old) copied old (copied_kept old body (body_start seal) (omega arith) (omega (arith, few)))
         (begins old is)
 
-    copied_staged : (format : Format) (old : History) → length body ≤ BODY_SECTORS → journal_sectors format ≤ length (seen old dev)
+    copied_staged : (old : History) → length body ≤ body_sectors (format_of seal.form) → journal_sectors (format_of seal.form) ≤ length (seen old dev)
         → IsOn dev disk seal body Writing old
         → IsOn dev disk seal body Staged (After (Flushed dev) (after_all copied old))
-    copied_staged format old few room is =
+    copied_staged old few room is =
         staged_after (after_all copied old)
-        (λ k within. ap (λ (l : List Bytes). sector_of l (body_start seal.number + k))
-        (copied_seen from dev (body_start seal.number) body old old (λ d. refl) dev)
-        ∙ seen_writes dev (body_start seal.number) body old k within (omega (arith, few, room, journal_least format)))
+        (λ k within. ap (λ (l : List Bytes). sector_of l (body_start seal + k))
+        (copied_seen from dev (body_start seal) body old old (λ d. refl) dev)
+        ∙ seen_writes dev (body_start seal) body old k within (omega (arith, few, room, start_end seal)))
         (body_copied old few is).0.0
 
     -- every moment of the calls of a copy
-    copy_safe : (format : Format) (old : History) → length body ≤ BODY_SECTORS → (is_down old dev ≡ false → journal_sectors format ≤ length (seen old dev))
+    copy_safe : (old : History) → length body ≤ body_sectors (format_of seal.form) → (is_down old dev ≡ false
+        → journal_sectors (format_of seal.form) ≤ length (seen old dev))
         → IsOn dev disk seal body Writing old → IsSafe (Copies old) (copy_calls from dev seal body) old
-    copy_safe format old few room is =
+    copy_safe old few room is =
         let g = after_all copied old in
         let in_body = body_copied old few is in
         let flush = flush_kept Writing old in
         safe_phase (Copies old) (InCopy Writing old) copied (Flush dev ∷ write_seal ∷ Flush dev ∷ []) old (in_writing old)
-        (copied_kept old body (body_start seal.number) (omega arith) (omega (arith, few))) (begins old is) (
+        (copied_kept old body (body_start seal) (omega arith) (omega (arith, few))) (begins old is) (
           in_writing old g in_body,
           in_writing old (after_call (Flush dev) false g) (flush.keeps false g in_body),
           λ up.
               let beyond = flush.keeps true g in_body in
-              let staged = copied_staged format old few (room (sym (down_after copied old dev) ∙ up)) is in
+              let staged = copied_staged old few (room (sym (down_after copied old dev) ∙ up)) is in
               safe_kept_as (Copies old) (InCopy Sealing old) (write_seal ∷ Flush dev ∷ []) (After (Flushed dev) g) (in_sealing old)
               (write_kept Sealing old (seal_place seal.number) (seal_sector seal) place_put, (flush_kept Sealing old, tt))
               ((is_staged_sealing (After (Flushed dev) g) staged, beyond.0.1), beyond.1),
         )
 
     -- and its end
-    copy_done : (format : Format) (old new : History) → length body ≤ BODY_SECTORS → (is_down old dev ≡ false → journal_sectors format ≤ length (seen old dev))
+    copy_done : (old new : History) → length body ≤ body_sectors (format_of seal.form) → (is_down old dev ≡ false
+        → journal_sectors (format_of seal.form) ≤ length (seen old dev))
         → IsOn dev disk seal body Writing old
         → Made (copy_calls from dev seal body) true old new → IsPutOn dev disk seal body Sealed new
-    copy_done format old new few room is made =
+    copy_done old new few room is made =
         let rest : List Call = Flush dev ∷ write_seal ∷ Flush dev ∷ [] in
         let up = (up_after copied rest old (made_up made)).0 in
         let g = After (Flushed dev) (after_all copied old) in
         let ends = made_all made ∙ after_both copied rest old in
         record {
           on = subst (λ (h : History). IsOn dev disk seal body Sealed h) (sym ends)
-              (seal_sealed format g (omega (arith, room up, sizes_after copied old dev)) (copied_staged format old few (room up) is));
+              (seal_sealed g (omega (arith, room up, sizes_after copied old dev)) (copied_staged old few (room up) is));
           flushed = flushed_after dev (After (Wrote dev (seal_place seal.number) (seal_sector seal)) g) new ends;
           up = made_down made dev ∙ up;
         }
 
     -- an entry is copied to a journal
-    pub copy_put : {answered : Bool} (format : Format) (old new : History) → length body ≤ BODY_SECTORS
-        → (is_down old dev ≡ false → journal_sectors format ≤ length (seen old dev))
+    pub copy_put : {answered : Bool} (old new : History) → length body ≤ body_sectors (format_of seal.form)
+        → (is_down old dev ≡ false → journal_sectors (format_of seal.form) ≤ length (seen old dev))
         → IsOn dev disk seal body Writing old
         → Made (copy_calls from dev seal body) answered old new
         → Throughout (λ h. (IsOn dev disk seal body Writing h ⊎ IsOn dev disk seal body Sealing h) × StaysOff (λ d. (d ≡ dev) ⊎ (d ≡ from)) old h
         × IsOnlyRead from old h) old new
         × (answered ≡ true → IsPutOn dev disk seal body Sealed new)
-    copy_put format old new few room is made = (
-      throughout_made (Copies old) (copy_safe format old few room is) made,
-      λ all. copy_done format old new few room is (subst (λ (b : Bool). Made (copy_calls from dev seal body) b old new) all made),
+    copy_put old new few room is made = (
+      throughout_made (Copies old) (copy_safe old few room is) made,
+      λ all. copy_done old new few room is (subst (λ (b : Bool). Made (copy_calls from dev seal body) b old new) all made),
     )

@@ -1,5 +1,5 @@
 -- A sector with each field of a seal in its place is the seal's spelling.
-use Rattle.std.proofs.Common.{◌≡◌, ℕ, suc, ◌+◌, ◌-◌, ◌*◌, ◌<◌, ◌≤◌, List, [], ◌∷◌, ◌++◌, length, take, drop, get_or, inl, inr, sym, ap, ◌∙◌, arith}
+use Rattle.std.proofs.Common.{◌≡◌, ℕ, suc, ◌+◌, ◌-◌, ◌*◌, ◌<◌, ◌≤◌, List, [], ◌∷◌, ◌++◌, length, take, drop, get_or, inl, inr, refl, sym, ap, ◌∙◌, arith}
 use Rattle.std.proofs.Common.{append_assoc}
 use Rattle.std.specs.Int.{w32, w64, from_le_bytes}
 use Rattle.std.specs.List.{flat_map}
@@ -8,10 +8,13 @@ use Rattle.std.proofs.lemmas.List.{drop-drop, ext_get_or, get_or-drop, get_or-re
 use Rattle.std.proofs.lemmas.List.{length-take-le, take-append-drop}
 use Rattle.std.proofs.lemmas.Nat.{le_bytes_4, le_bytes_8}
 use Rattle.byteorder.specs.Endian.{little_bytes, little_number}
-use Rattle.stripe_journal.specs.Forms.{rows_in}
+use Rattle.layout_map.specs.declared.sizes.TheConstants.{ENTRY_ROWS}
+use Rattle.stripe_journal.specs.declared.form.Form.{Form}
+use Rattle.stripe_journal.specs.declared.form.Form.TheVariants.{Held, Runs, Whole}
 use Rattle.stripe_journal.specs.declared.seal.Seal.{Seal}
-use Rattle.stripe_journal.specs.Law.{HasFields}
-use Rattle.stripe_journal.specs.Spelling.{first_mark, last_mark, masks_of, zeros, row_numbers, seal_bytes, seal_sector}
+use Rattle.stripe_journal.specs.Forms.{IsForm}
+use Rattle.stripe_journal.specs.Law.{HasFields, HasHeld, HasListed}
+use Rattle.stripe_journal.specs.Spelling.{count_in, first_mark, held_bytes, last_mark, listed_bytes, row_numbers, seal_bytes, seal_sector, zeros}
 use Rattle.stripe_journal.proofs.Offsets.{number_first}
 
 -- bytes of a part are bytes
@@ -74,71 +77,79 @@ rows_again (row ∷ rows) at sector long bytes each =
     past : (at : ℕ) (rows : List ℕ) → at + 4 + 4 * length rows ≡ at + 4 * suc (length rows)
     past at rows = omega arith
 
--- nine parts, one after the other
-joined : (sector mark id number count gap rows past masks rest end : List ℕ) (n : ℕ) → sector ≡ mark ++ drop 8 sector → drop 8 sector ≡ id ++ drop 24 sector
-    → drop 24 sector ≡ number ++ drop 32 sector
-    → drop 32 sector ≡ count ++ drop 36 sector → drop 36 sector ≡ gap ++ drop 40 sector → drop 40 sector ≡ rows ++ drop n sector → drop n sector ≡ past
-    ++ drop 168 sector
-    → drop 168 sector ≡ masks ++ drop 200 sector → drop 200 sector ≡ rest ++ drop 504 sector → drop 504 sector ≡ end
-    → sector ≡ mark ++ id ++ number ++ count ++ gap ++ (rows ++ past) ++ masks ++ rest ++ end
-joined sector mark id number count gap rows past masks rest end n p0 p1 p2 p3 p4 p5 p6 p7 p8 p9 =
+-- the bytes of listed rows that have each of them in its place
+listed_again : (sector rows masks : List ℕ) → length sector ≡ 512 → ((k : ℕ) → get_or sector k 0 < 256) → length rows ≤ ENTRY_ROWS
+    → HasListed sector rows masks → drop 40 sector ≡ listed_bytes rows masks ++ drop 504 sector
+unfolding listed_bytes row_numbers
+listed_again sector rows masks long bytes few listed =
+    let past = 40 + 4 * length rows in
+    let filler = 128 - 4 * length rows in
+    let past_part = take filler (drop past sector) in
+    let rest_part = take 304 (drop 200 sector) in
+    let past_long : filler ≤ length (drop past sector) = omega (arith, length-drop past sector) in
+    let rest_long : 304 ≤ length (drop 200 sector) = omega (arith, length-drop 200 sector) in
+    let past_is : past_part ≡ zeros filler =
+    zeros_again filler past_part (length-take-le filler (drop past sector) past_long)
+    (λ k within. get_or-take filler (drop past sector) k 0 within ∙ get_or-drop past sector k 0 ∙ listed.past_is (past + k) (omega arith) (omega arith)) in
+    let rest_is : rest_part ≡ zeros 304 =
+    zeros_again 304 rest_part (length-take-le 304 (drop 200 sector) rest_long)
+    (λ k within. get_or-take 304 (drop 200 sector) k 0 within ∙ get_or-drop 200 sector k 0 ∙ listed.rest_is (200 + k) (omega arith) (omega arith)) in
+    let end : past + filler ≡ 168 = omega arith in
+    rows_again rows 40 sector (omega arith) bytes listed.rows_are
+    ∙ ap (λ (xs : List ℕ). flat_map (little_bytes 4) rows ++ xs)
+    (cut past filler sector ∙ ap (λ (k : ℕ). past_part ++ drop k sector) end ∙ ap (λ (xs : List ℕ). xs ++ drop 168 sector) past_is
+    ∙ ap (λ (xs : List ℕ). zeros filler ++ xs)
+    (cut 168 32 sector ∙ ap (λ (xs : List ℕ). xs ++ drop 200 sector) listed.masks_are
+    ∙ ap (λ (xs : List ℕ). masks ++ xs) (cut 200 304 sector ∙ ap (λ (xs : List ℕ). xs ++ drop 504 sector) rest_is)))
+    ∙ simp append_assoc
+
+held_again : (form : Form) (sector : List ℕ) → length sector ≡ 512 → ((k : ℕ) → get_or sector k 0 < 256) → IsForm form → HasHeld sector form
+    → drop 40 sector ≡ held_bytes form ++ drop 504 sector
+unfolding held_bytes
+held_again (Whole rows) sector long bytes formed held = listed_again sector rows.items (zeros 32) long bytes (formed.whole rows refl) held
+held_again (Held rows masks) sector long bytes formed held = listed_again sector rows.items masks long bytes (formed.held rows masks refl).0 held
+held_again (Runs runs) sector long bytes formed held = cut 40 464 sector ∙ ap (λ (xs : List ℕ). xs ++ drop 504 sector) held
+
+-- seven parts, one after the other
+joined : (sector mark id number count gap held end : List ℕ) → sector ≡ mark ++ drop 8 sector → drop 8 sector ≡ id ++ drop 24 sector
+    → drop 24 sector ≡ number ++ drop 32 sector → drop 32 sector ≡ count ++ drop 36 sector → drop 36 sector ≡ gap ++ drop 40 sector
+    → drop 40 sector ≡ held ++ drop 504 sector → drop 504 sector ≡ end
+    → sector ≡ mark ++ id ++ number ++ count ++ gap ++ held ++ end
+joined sector mark id number count gap held end p0 p1 p2 p3 p4 p5 p6 =
     p0
     ∙ ap (λ (xs : List ℕ). mark ++ xs) (p1
     ∙ ap (λ (xs : List ℕ). id ++ xs) (p2
     ∙ ap (λ (xs : List ℕ). number ++ xs) (p3
     ∙ ap (λ (xs : List ℕ). count ++ xs) (p4
     ∙ ap (λ (xs : List ℕ). gap ++ xs) (p5
-    ∙ ap (λ (xs : List ℕ). rows ++ xs) (p6
-    ∙ ap (λ (xs : List ℕ). past ++ xs) (p7
-    ∙ ap (λ (xs : List ℕ). masks ++ xs) (p8
-    ∙ ap (λ (xs : List ℕ). rest ++ xs) p9))))))))
+    ∙ ap (λ (xs : List ℕ). held ++ xs) p6)))))
     ∙ simp append_assoc
 
 -- a sector with each field of a seal in its place is the seal's spelling
 pub respelled : (sector : List ℕ) (seal : Seal) → length sector ≡ 512 → ((k : ℕ) → get_or sector k 0 < 256) → HasFields sector seal → sector ≡ seal_sector seal
-unfolding seal_bytes row_numbers
+unfolding seal_bytes
 respelled sector seal long bytes fields =
-    let rows = rows_in seal.form in
-    let count = length rows in
-    let few : count ≤ 32 = seal.allowed.rows_most in
     let number_part = take 8 (drop 24 sector) in
     let count_part = take 4 (drop 32 sector) in
     let gap_part = take 4 (drop 36 sector) in
-    let past = 40 + 4 * count in
-    let filler = 128 - 4 * count in
-    let past_part = take filler (drop past sector) in
-    let rest_part = take 304 (drop 200 sector) in
     let number_long : 8 ≤ length (drop 24 sector) = omega (arith, length-drop 24 sector) in
     let count_long : 4 ≤ length (drop 32 sector) = omega (arith, length-drop 32 sector) in
     let gap_long : 4 ≤ length (drop 36 sector) = omega (arith, length-drop 36 sector) in
-    let past_long : filler ≤ length (drop past sector) = omega (arith, length-drop past sector) in
-    let rest_long : 304 ≤ length (drop 200 sector) = omega (arith, length-drop 200 sector) in
     let number_is : number_part ≡ little_bytes 8 seal.number =
     eight_again number_part seal.number (length-take-le 8 (drop 24 sector) number_long) (part_bytes 8 24 sector bytes)
     (sym (number_first 8 (drop 24 sector) number_long) ∙ fields.number_is) in
-    let count_is : count_part ≡ little_bytes 4 count =
-    four_again count_part count (length-take-le 4 (drop 32 sector) count_long) (part_bytes 4 32 sector bytes)
+    let count_is : count_part ≡ little_bytes 4 (count_in seal.form) =
+    four_again count_part (count_in seal.form) (length-take-le 4 (drop 32 sector) count_long) (part_bytes 4 32 sector bytes)
     (sym (number_first 4 (drop 32 sector) count_long) ∙ fields.count_is) in
     let gap_is : gap_part ≡ zeros 4 =
     zeros_again 4 gap_part (length-take-le 4 (drop 36 sector) gap_long) (λ k within. get_or-take 4 (drop 36 sector) k 0 within ∙ get_or-drop 36 sector k 0
     ∙ fields.gap_is (36 + k) (omega arith) (omega arith)) in
-    let past_is : past_part ≡ zeros filler =
-    zeros_again filler past_part (length-take-le filler (drop past sector) past_long)
-    (λ k within. get_or-take filler (drop past sector) k 0 within ∙ get_or-drop past sector k 0 ∙ fields.past_is (past + k) (omega arith) (omega arith)) in
-    let rest_is : rest_part ≡ zeros 304 =
-    zeros_again 304 rest_part (length-take-le 304 (drop 200 sector) rest_long)
-    (λ k within. get_or-take 304 (drop 200 sector) k 0 within ∙ get_or-drop 200 sector k 0 ∙ fields.rest_is (200 + k) (omega arith) (omega arith)) in
-    let end : past + filler ≡ 168 = omega arith in
-    joined sector (first_mark seal.form) seal.id (little_bytes 8 seal.number) (little_bytes 4 count) (zeros 4) (flat_map (little_bytes 4) rows) (zeros filler)
-    (masks_of seal.form) (zeros 304) (last_mark seal.form) past
+    joined sector (first_mark seal.form) seal.id (little_bytes 8 seal.number) (little_bytes 4 (count_in seal.form)) (zeros 4) (held_bytes seal.form)
+    (last_mark seal.form)
     (cut 0 8 sector ∙ ap (λ (xs : List ℕ). xs ++ drop 8 sector) fields.begins)
     (cut 8 16 sector ∙ ap (λ (xs : List ℕ). xs ++ drop 24 sector) fields.id_is)
     (cut 24 8 sector ∙ ap (λ (xs : List ℕ). xs ++ drop 32 sector) number_is)
     (cut 32 4 sector ∙ ap (λ (xs : List ℕ). xs ++ drop 36 sector) count_is)
     (cut 36 4 sector ∙ ap (λ (xs : List ℕ). xs ++ drop 40 sector) gap_is)
-    (rows_again rows 40 sector (omega arith) bytes fields.rows_are)
-    (cut past filler sector ∙ ap (λ (k : ℕ). past_part ++ drop k sector) end ∙ ap (λ (xs : List ℕ). xs ++ drop 168 sector) past_is)
-    (cut 168 32 sector ∙ ap (λ (xs : List ℕ). xs ++ drop 200 sector) fields.masks_are)
-    (cut 200 304 sector ∙ ap (λ (xs : List ℕ). xs ++ drop 504 sector) rest_is)
+    (held_again seal.form sector long bytes seal.formed fields.held_is)
     fields.ends
-    ∙ simp append_assoc

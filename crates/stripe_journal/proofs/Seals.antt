@@ -1,5 +1,5 @@
 -- What a seal may say, as tests.
-use Rattle.std.proofs.Common.{◌≡◌, ◌↔◌, ℕ, ◌+◌, ◌∙◌, Bool, true, false, nat_lt, List, length, get_or, IsTrue, refl, sym, subst, ap, arith}
+use Rattle.std.proofs.Common.{◌≡◌, ◌↔◌, ℕ, ◌+◌, ◌∙◌, Bool, true, false, nat_lt, List, get_or, IsTrue, refl, sym, subst, ap, arith}
 use Rattle.std.specs.List.{IsAllAdjacentAnswer}
 use Rattle.std.specs.List.Sorted.{IsStrictlyIncreasing}
 use denote.Struct.Props.{props}
@@ -22,12 +22,12 @@ rising_from rows false h = (
 pub IsSeal-prop : (number : ℕ) (rows : List ℕ) → IsProp (IsSeal number rows)
 IsSeal-prop number rows = hlevel props
 
--- and that it may say this of the sectors that its entry holds
-IsForm-prop : (form : Form) (count : ℕ) → IsProp (IsForm form count)
-IsForm-prop form count = hlevel props
+-- and that it may say this of what its entry holds
+IsForm-prop : (form : Form) → IsProp (IsForm form)
+IsForm-prop form = hlevel props
 
 -- the seal with this id, number and form
-seal_of : (id : List ℕ) (number : ℕ) (form : Form) → IsSeal number (rows_in form) → IsForm form (length (rows_in form)) → Seal
+seal_of : (id : List ℕ) (number : ℕ) (form : Form) → IsSeal number (rows_in form) → IsForm form → Seal
 seal_of id number form allowed formed = record { id = id; number = number; form = form; allowed = allowed; formed = formed }
 
 -- a seal is known by its id, number and form
@@ -36,15 +36,7 @@ unfolding seal_of
 same_seal a b id number form =
     subst (λ (i : List ℕ). a ≡ seal_of i b.number b.form b.allowed b.formed) id
     (subst (λ (n : ℕ). (q : IsSeal n (rows_in b.form)) → a ≡ seal_of a.id n b.form q b.formed) number
-    (λ q. subst (λ (m : Form). (q : IsSeal a.number (rows_in m)) (f : IsForm m (length (rows_in m))) → a ≡ seal_of a.id a.number m q f) form
+    (λ q. subst (λ (m : Form). (q : IsSeal a.number (rows_in m)) (f : IsForm m) → a ≡ seal_of a.id a.number m q f) form
     (λ q f. ap (λ (p : IsSeal a.number (rows_in a.form)). seal_of a.id a.number a.form p a.formed)
     (IsSeal-prop a.number (rows_in a.form) a.allowed q)
-    ∙ ap (seal_of a.id a.number a.form q) (IsForm-prop a.form (length (rows_in a.form)) a.formed f)) q b.formed) b.allowed)
-
--- the same number and the same rows are allowed
-pub same_allowed : (a b : ℕ) (rows rows' : List ℕ) → a ≡ b → rows ≡ rows' → IsSeal b rows' → IsSeal a rows
-same_allowed a b rows rows' a_is rows_are allowed = subst (λ (n : ℕ). IsSeal n rows) (sym a_is) (subst (λ (r : List ℕ). IsSeal b r) (sym rows_are) allowed)
-
--- and the same form of as many rows
-pub same_formed : (a b : Form) (count count' : ℕ) → a ≡ b → count ≡ count' → IsForm b count' → IsForm a count
-same_formed a b count count' a_is same formed = subst (λ (m : Form). IsForm m count) (sym a_is) (subst (IsForm b) (sym same) formed)
+    ∙ ap (seal_of a.id a.number a.form q) (IsForm-prop a.form a.formed f)) q b.formed) b.allowed)

@@ -20,11 +20,11 @@ copied_from from to at (value ∷ values) = Read from at ∷ Write to at value �
 -- the body of a seal's entry, as reads of a journal give it
 abbrev pub body_in : (members : ℕ) → List Bytes → Seal → List Bytes
 body_in members journal seal =
-    map (λ i. sector_of journal (body_start seal.number + i)) (range_with_len 0 (held_before members seal.form (length (rows_in seal.form))))
+    map (λ i. sector_of journal (body_start seal + i)) (range_with_len 0 (held_before members seal.form (length (rows_in seal.form))))
 
 -- The calls of a copy: the body is copied and flushed, and only then the seal is written and flushed.
 abbrev pub copy_calls : (from to : ℕ) → Seal → List Bytes → List Call
-copy_calls from to seal body = copied_from from to (body_start seal.number) body ++ Flush to ∷ Write to (seal_place seal.number) (seal_sector seal) ∷ Flush to
+copy_calls from to seal body = copied_from from to (body_start seal) body ++ Flush to ∷ Write to (seal_place seal.number) (seal_sector seal) ∷ Flush to
     ∷ []
 
 -- `copy_entry(bank, from, to, seal, geometry)` of a set with so many members

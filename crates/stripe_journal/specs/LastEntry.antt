@@ -1,10 +1,10 @@
 -- Which entry of a set's journals is the last.
-use Rattle.std.specs.Prelude.{◌≡◌, ℕ, ◌+◌, ◌≤◌, nat_lt, if◌then◌else◌, List, Option, Some, None, option_map}
+use Rattle.std.specs.Prelude.{◌≡◌, ℕ, ◌+◌, ◌≤◌, Bool, nat_lt, if◌then◌else◌, List, Option, Some, None, replicate}
 use Rattle.layout_map.specs.declared.sizes.TheConstants.{FIRST_SEAL}
 use Rattle.layout_map.specs.declared.geometry.Geometry.{Geometry}
 use Rattle.sector_model.specs.History.{Bytes, Slots, disk_of, sector_of}
 use Rattle.stripe_journal.specs.declared.seal.Seal.{Seal}
-use Rattle.stripe_journal.specs.Body.{place_by_seal}
+use Rattle.stripe_journal.specs.Body.{place_by_seal, zero_by_seal}
 use Rattle.stripe_journal.specs.LastSealed.{Belongs}
 use Rattle.stripe_journal.specs.Spelling.{seal_sector}
 
@@ -57,9 +57,15 @@ abbrev pub IsLastEntry : List ℕ → Geometry → (ℕ → Type 0) → Slots �
 IsLastEntry id geometry live image None = (journal place : ℕ) (seal : Seal) → live journal → ¬ Counts id geometry (image journal) place seal
 IsLastEntry id geometry live image (Some entry) = IsLatest id geometry live image entry
 
--- the sector that an entry has for a member in a row, if it has one
+-- what stands at a place of a journal, if it is one, else a zero sector where the sector is said to be zero
+abbrev pub placed_or_zero : List Bytes → (place : Option ℕ) → (is_zero : Bool) → Option Bytes
+placed_or_zero disk (Some place) is_zero = Some (sector_of disk place)
+placed_or_zero disk None is_zero = if is_zero then Some (replicate 512 0) else None
+
+-- the sector that an entry has for a member in a row, if it has one: that of its body, or a zero one of a row of zeros
 abbrev pub sector_in : (members : ℕ) → Option (List Bytes) → Seal → (row member : ℕ) → Option Bytes
-sector_in members content seal row member = option_map (sector_of (disk_of content)) (place_by_seal members seal row member)
+sector_in members content seal row member =
+    placed_or_zero (disk_of content) (place_by_seal members seal row member) (zero_by_seal members seal row member)
 
 -- the same of the last entry, none where there is none
 abbrev pub sector_of_last : (members : ℕ) → Slots → Option Entry → (row member : ℕ) → Option Bytes

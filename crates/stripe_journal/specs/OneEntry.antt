@@ -1,11 +1,13 @@
 -- One journal while an entry is put on it: a crash leaves the entry before, or this one.
 use Rattle.std.specs.Prelude.{◌≡◌, ◌≢◌, ◌⊎◌, ℕ, ◌+◌, ◌%◌, ◌<◌, ◌≤◌, true, List, [], length, Option, Some, slice_index_or}
-use Rattle.layout_map.specs.declared.sizes.TheConstants.{BODY_SECTORS, HALVES}
+use Rattle.layout_map.specs.declared.sizes.TheConstants.{HALVES}
+use Rattle.layout_map.specs.Formats.{body_sectors}
 use Rattle.layout_map.specs.declared.geometry.Geometry.{Geometry}
 use Rattle.sector_model.specs.History.{Bytes, History, MayHold, is_down, seen, sector_of, start_of}
 use Rattle.stripe_journal.specs.declared.seal.Seal.{Seal}
 use Rattle.stripe_journal.specs.Body.{seal_place}
 use Rattle.stripe_journal.specs.Entries.{body_start}
+use Rattle.stripe_journal.specs.Forms.{format_of}
 use Rattle.stripe_journal.specs.LastEntry.{IsGreatest, IsLastSealed, number_of}
 use Rattle.stripe_journal.specs.LastSealed.{Belongs}
 use Rattle.stripe_journal.specs.Spelling.{seal_sector}
@@ -17,9 +19,9 @@ pub data EntryStage : Type 0 where
   Sealing : EntryStage
   Sealed : EntryStage
 
--- the half of a journal in which the body of the entry of this number stands
-abbrev pub IsInHalf : (number at : ℕ) → Type 0
-IsInHalf number at = (body_start number ≤ at) × (at < body_start number + BODY_SECTORS)
+-- the half of a journal in which the body of a seal's entry stands
+abbrev pub IsInHalf : Seal → (at : ℕ) → Type 0
+IsInHalf seal at = (body_start seal ≤ at) × (at < body_start seal + body_sectors (format_of seal.form))
 
 -- what may stand in the seal's place, where `before` stood
 abbrev pub IsSealIn : EntryStage → Seal → (before value : Bytes) → Type 0
@@ -30,8 +32,8 @@ IsSealIn Sealed seal before value = value ≡ seal_sector seal
 
 -- What may stand in a sector of a journal at this stage, where these sectors stood before the entry of this seal and body.
 pub record MayStandOn (old : List Bytes) (seal : Seal) (body : List Bytes) (stage : EntryStage) (at : ℕ) (value : Bytes) : Type 0 where
-  pub elsewhere : ¬ IsInHalf seal.number at → at ≢ seal_place seal.number → value ≡ sector_of old at
-  pub in_half : stage ≢ Writing → (k : ℕ) → k < length body → at ≡ body_start seal.number + k → value ≡ slice_index_or body k []
+  pub elsewhere : ¬ IsInHalf seal at → at ≢ seal_place seal.number → value ≡ sector_of old at
+  pub in_half : stage ≢ Writing → (k : ℕ) → k < length body → at ≡ body_start seal + k → value ≡ slice_index_or body k []
   pub in_place : at ≡ seal_place seal.number → IsSealIn stage seal (sector_of old at) value
 
 -- the entry of a seal may be put on a journal with these sectors: its number is the next
@@ -45,12 +47,12 @@ pub record IsNextOn (id : List ℕ) (geometry : Geometry) (old : List Bytes) (se
 -- a journal has the entry that it had before: the same last seal, and the same sectors but in the half of the next entry and in its seal's place
 pub record HasEntryBefore (id : List ℕ) (geometry : Geometry) (old disk : List Bytes) (seal : Seal) : Type 0 where
   pub last : (last : Option Seal) → IsLastSealed id geometry (Some old) last → IsLastSealed id geometry (Some disk) last
-  pub elsewhere : (at : ℕ) → ¬ IsInHalf seal.number at → at ≢ seal_place seal.number → sector_of disk at ≡ sector_of old at
+  pub elsewhere : (at : ℕ) → ¬ IsInHalf seal at → at ≢ seal_place seal.number → sector_of disk at ≡ sector_of old at
 
 -- a journal has this entry as its last
 pub record HasThisEntry (id : List ℕ) (geometry : Geometry) (disk : List Bytes) (seal : Seal) (body : List Bytes) : Type 0 where
   pub last : IsGreatest id geometry (Some disk) seal
-  pub has_body : (k : ℕ) → k < length body → sector_of disk (body_start seal.number + k) ≡ slice_index_or body k []
+  pub has_body : (k : ℕ) → k < length body → sector_of disk (body_start seal + k) ≡ slice_index_or body k []
 
 -- At each stage a crash leaves the entry before, or this one: before the seal may stand the one, when it is safe the other.
 pub record CrashLeavesEither (id : List ℕ) (geometry : Geometry) (old disk : List Bytes) (seal : Seal) (body : List Bytes) (stage : EntryStage) : Type 0 where

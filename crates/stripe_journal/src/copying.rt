@@ -6,15 +6,17 @@ ghost use Rattle.sector_model.specs.Calls.{Made};
 ghost use Rattle.sector_model.specs.History.{seen};
 ghost use Rattle.stripe_journal.specs.Copying.{CopiesEntry, body_in, copied_from};
 ghost use Rattle.stripe_journal.specs.Entries.{body_start};
+ghost use Rattle.stripe_journal.specs.Forms.{format_of};
 
-use crate::{Seal, write_seal};
-use layout_map::{BODY_SECTORS, FIRST_BODY, Geometry, HALVES};
+use crate::{Seal, half_start, write_seal};
+use layout_map::Geometry;
 use sector_model::{Bank, Stop, flush_device, read_sector, write_sector};
 
 /// Copies the entry of this seal from the journal `from` to the journal `to`: the body first, sector after sector, and
 /// only when it is flushed the seal, which is flushed too. What the body of `from` holds it does not check. The
 /// journals are two slots of the bank, each where it is up with as many sectors as a journal of the set's format has at
-/// least (conditions). `Down` names the one that is down; `Worn` where the count of device calls stands at 2^62.
+/// least, and the seal's form is one of that format (conditions). `Down` names the one that is down; `Worn` where the
+/// count of device calls stands at 2^62.
 pub fn copy_entry<B: Bank>(
     bank: &mut B,
     from: u8,
@@ -25,6 +27,7 @@ pub fn copy_entry<B: Bank>(
     requires from { from < (B.panel bank.old).devices }
     requires to { to < (B.panel bank.old).devices }
     requires apart { from ≢ to }
+    requires format { format_of seal.now.form ≡ geometry.now.format }
     requires from_within { (B.panel bank.old).down from ≡ false
         → journal_sectors geometry.now.format ≤ (B.panel bank.old).sectors from }
     requires to_within { (B.panel bank.old).down to ≡ false
@@ -51,6 +54,7 @@ fn copy_body<B: Bank>(
     requires from { from < (B.panel bank.old).devices }
     requires to { to < (B.panel bank.old).devices }
     requires apart { from ≢ to }
+    requires format { format_of seal.now.form ≡ geometry.now.format }
     requires from_within { (B.panel bank.old).down from ≡ false
         → journal_sectors geometry.now.format ≤ (B.panel bank.old).sectors from }
     requires to_within { (B.panel bank.old).down to ≡ false
@@ -58,16 +62,14 @@ fn copy_body<B: Bank>(
     ensures panel { IsLater (B.panel bank.old) (B.panel bank.new) }
     ensures honest { B.honest bank.old ↔ B.honest bank.new }
     ensures made { B.honest bank.old → Made
-        (copied_from from to (body_start seal.now.number)
+        (copied_from from to (body_start seal.now)
         (body_in geometry.now.members (seen (B.history bank.old) from) seal.now)) (is_ok result) (B.history bank.old)
         (B.history bank.new) }
     ensures err { IfErr result (λ stop. IsCauseOf (B.panel bank.new) stop
         × ((stop ≡ Stop.Worn) ⊎ (stop ≡ Stop.Down from) ⊎ (stop ≡ Stop.Down to))) }
 {
-    let first = FIRST_BODY + BODY_SECTORS * (seal.number % HALVES as u64) as u32;
-    let count = seal
-        .form
-        .held_before(geometry.members, seal.form.rows().len());
+    let first = half_start(geometry.format, seal.number);
+    let count = seal.form.held(geometry.members);
     let mut sector = [0; 512];
     for i in 0..count {
         read_sector(bank, from, first + i, &mut sector)?;

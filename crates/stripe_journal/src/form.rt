@@ -1,89 +1,82 @@
 //! Which sectors of its rows an entry holds.
-ghost use Rattle.std.specs.Prelude.{◌≡◌, ◌≤◌, ◌<◌, ℕ};
-ghost use Rattle.layout_map.specs.declared.sizes.TheConstants.{BODY_SECTORS, ENTRY_ROWS, MOST_MEMBERS};
-ghost use Rattle.stripe_journal.specs.Forms.{count_held, has_bit, held_before, holds, rows_in};
-ghost use Rattle.stripe_journal.specs.Spelling.{first_mark, last_mark, masks_of};
+ghost use Rattle.std.specs.Prelude.{◌≡◌, ◌≤◌, ◌<◌, ◌*◌, ℕ, length};
+ghost use Rattle.layout_map.specs.Formats.{body_sectors};
+ghost use Rattle.layout_map.specs.declared.format.Format.TheVariants.{One};
+ghost use Rattle.layout_map.specs.declared.sizes.TheConstants.{ENTRY_ROWS, MOST_MEMBERS};
+ghost use Rattle.entry_runs.specs.Body.{has_bit};
+ghost use Rattle.entry_runs.specs.declared.sizes.TheConstants.{MOST_HELD};
+ghost use Rattle.entry_runs.specs.WrittenOut.{masks_of_runs};
+ghost use Rattle.stripe_journal.specs.Forms.{IsForm, format_of, held_before, held_by_masks, in_body, rows_in};
+ghost use Rattle.stripe_journal.specs.Spelling.{count_in, first_mark, last_mark};
 
 use arrayvec::ArrayVec;
-use layout_map::ENTRY_ROWS;
+use entry_runs::{Runs, bits_below};
+use layout_map::{ENTRY_ROWS, Format};
 
 /// The rows of an entry, and which of their sectors it holds.
 #[derive(Drop)]
 pub enum Form {
-    /// Of each row the sectors of all members.
+    /// Of each row the sectors of all members. A set of format 1 has entries of this form and of the next.
     Whole(ArrayVec<u32, ENTRY_ROWS>),
     /// Of each row the sectors of some members, at least two: bit m of mask i says that the body holds member m of the
     /// i-th row. The masks after the last row are 0.
     Held(ArrayVec<u32, ENTRY_ROWS>, [u8; ENTRY_ROWS]),
+    /// Rows as runs, of each run the sectors of the same members, or rows of zeros. A set of format 2 has entries of
+    /// this form alone.
+    Runs(Runs),
 }
 
 impl Form {
-    /// The rows of the entry.
-    pub fn rows(&self) -> &ArrayVec<u32, ENTRY_ROWS>
-        ensures { result.now.items ≡ rows_in self.now }
+    /// The format of the sets in which a seal of this form may count.
+    pub fn format(&self) -> Format
+        ensures { result ≡ format_of self.now }
     {
         match self {
-            Form::Whole(rows) => rows,
-            Form::Held(rows, _) => rows,
+            Form::Whole(_) | Form::Held(_, _) => Format::One,
+            Form::Runs(_) => Format::Two,
         }
     }
 
-    /// Whether the i-th row of an entry, i from 0 to 31, holds the sector of a member, 0 to 7, in a set with so many
-    /// members (conditions).
-    pub fn holds(&self, members: u8, i: usize, member: u8) -> bool
-        requires row { i < ENTRY_ROWS }
-        requires member { member < MOST_MEMBERS }
-        ensures { result ≡ holds members self.now i member }
+    /// The rows that it lists: those of the entry in a set of format 1, and none where they are runs.
+    pub fn rows(&self) -> &[u32]
+        ensures listed { format_of self.now ≡ One → result.now ≡ rows_in self.now }
+        ensures few { length result.now ≤ ENTRY_ROWS }
     {
         match self {
-            Form::Whole(_) => member < members,
-            Form::Held(_, masks) => has_bit(masks[i], member),
+            Form::Whole(rows) | Form::Held(rows, _) => rows.as_slice(),
+            Form::Runs(_) => &[],
         }
     }
 
-    /// The mask with the bit of each member whose sector the i-th row holds, i from 0 to 31, in a set with 1 to 8
-    /// members (conditions).
+    /// The mask with the bit of each member whose sector of the i-th row the body has, i from 0 to 31, where it lists
+    /// its rows, in a set with 1 to 8 members (conditions).
     pub fn mask(&self, members: u8, i: usize) -> u8
+        requires listed { format_of self.now ≡ One }
         requires row { i < ENTRY_ROWS }
         requires least { 1 ≤ members }
         requires most { members ≤ MOST_MEMBERS }
-        ensures { (member : ℕ) → member < MOST_MEMBERS → has_bit result member ≡ holds members self.now i member }
+        ensures { (member : ℕ) → member < MOST_MEMBERS → has_bit result member ≡ in_body members self.now i member }
     {
         match self {
             Form::Whole(_) => u8::MAX >> (8 - members),
             Form::Held(_, masks) => masks[i],
+            Form::Runs(_) => 0,
         }
     }
 
-    /// How many sectors the rows before the i-th hold, i from 0 to 32, in a set with at most 8 members (conditions).
-    pub(crate) fn held_before(&self, members: u8, i: usize) -> u32
-        requires row { i ≤ ENTRY_ROWS }
+    /// How many sectors the body has in a set with at most 8 members: 256 at most, or 4,096 in format 2. The form is
+    /// one that a seal may have (conditions).
+    pub(crate) fn held(&self, members: u8) -> u32
+        requires formed { IsForm self.now }
         requires most { members ≤ MOST_MEMBERS }
-        ensures count { result ≡ held_before members self.now i }
-        ensures most { result ≤ BODY_SECTORS }
+        ensures count { result ≡ held_before members self.now (length (rows_in self.now)) }
+        ensures most { result ≤ body_sectors (format_of self.now) }
     {
-        let mut count = 0;
-        for row in 0..i {
-            count += self.count_held(members, row, members);
+        match self {
+            Form::Whole(rows) => rows.len() as u32 * u32::from(members),
+            Form::Held(rows, masks) => held_by_masks(&masks[..rows.len()], members),
+            Form::Runs(runs) => held_by_runs(runs, members),
         }
-        count
-    }
-
-    /// How many sectors of members below this one the i-th row holds, i from 0 to 31, the member at most 8
-    /// (conditions).
-    pub(crate) fn count_held(&self, members: u8, i: usize, member: u8) -> u32
-        requires row { i < ENTRY_ROWS }
-        requires member { member ≤ MOST_MEMBERS }
-        ensures count { result ≡ count_held (holds members self.now i) member }
-        ensures most { result ≤ member }
-    {
-        let mut count = 0;
-        for below in 0..member {
-            if self.holds(members, i, below) {
-                count += 1;
-            }
-        }
-        count
     }
 
     // The mark at the start of a seal of this form.
@@ -93,6 +86,7 @@ impl Form {
         match self {
             Form::Whole(_) => b"RAID5JE1",
             Form::Held(_, _) => b"RAID5JE2",
+            Form::Runs(_) => b"RAID5JE3",
         }
     }
 
@@ -103,24 +97,44 @@ impl Form {
         match self {
             Form::Whole(_) => b"1EJ5DIAR",
             Form::Held(_, _) => b"2EJ5DIAR",
+            Form::Runs(_) => b"3EJ5DIAR",
         }
     }
 
-    // The bytes of its masks in a seal, zeros where it has none.
-    pub(crate) fn masks(&self) -> [u8; ENTRY_ROWS]
-        ensures { result ≡ masks_of self.now }
+    // The count in a seal of this form: of the rows that it lists, or of its runs.
+    pub(crate) fn count(&self) -> u32
+        ensures { result ≡ count_in self.now }
     {
         match self {
-            Form::Whole(_) => [0; ENTRY_ROWS],
-            Form::Held(_, masks) => *masks,
+            Form::Whole(rows) | Form::Held(rows, _) => rows.len() as u32,
+            Form::Runs(runs) => runs.list.len() as u32,
         }
     }
 }
 
-/// Whether a mask has the bit of a member, 0 to 7 (condition).
-pub(crate) fn has_bit(mask: u8, member: u8) -> bool
-    requires { member < MOST_MEMBERS }
-    ensures { result ≡ has_bit mask member }
+// How many sectors of a body rows with these masks have, at most 32 (condition), in a set with at most 8 members.
+pub(crate) fn held_by_masks(masks: &[u8], members: u8) -> u32
+    requires few { length masks.now ≤ ENTRY_ROWS }
+    requires most { members ≤ MOST_MEMBERS }
+    ensures count { result ≡ held_by_masks members masks.now }
+    ensures most { result ≤ length masks.now * members }
 {
-    (mask >> member) % 2 == 1
+    let mut count = 0;
+    for mask in masks {
+        count += bits_below(*mask, members);
+    }
+    count
+}
+
+// How many sectors of a body the rows of runs have, in a set with at most 8 members (condition).
+fn held_by_runs(runs: &Runs, members: u8) -> u32
+    requires { members ≤ MOST_MEMBERS }
+    ensures count { result ≡ held_by_masks members (masks_of_runs runs.now.list.items) }
+    ensures most { result ≤ MOST_HELD }
+{
+    let mut count = 0;
+    for run in runs.list.as_slice() {
+        count += u32::from(run.length) * bits_below(run.mask, members);
+    }
+    count
 }

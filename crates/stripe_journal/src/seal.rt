@@ -1,5 +1,4 @@
 //! The seal of an entry.
-ghost use Rattle.std.specs.Prelude.{length};
 ghost use Rattle.stripe_journal.specs.Forms.{IsForm, rows_in};
 ghost use Rattle.stripe_journal.specs.Seals.{IsSeal};
 
@@ -12,8 +11,8 @@ pub struct Seal {
     pub id: [u8; 16],
     /// The number of the entry, 1 to 2^62.
     pub number: u64,
-    /// The rows of the entry, 1 to 32 of them, strictly rising, and which of their sectors it holds.
+    /// The rows of the entry, strictly rising, and which of their sectors it holds.
     pub form: Form,
     pub ghost allowed: { IsSeal number (rows_in form) },
-    pub ghost formed: { IsForm form (length (rows_in form)) },
+    pub ghost formed: { IsForm form },
 }

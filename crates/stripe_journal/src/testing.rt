@@ -50,6 +50,25 @@ pub(crate) fn spelled_held(id: &[u8; 16], number: u8, rows: [u16; 2], masks: [u8
     sector
 }
 
+const RUNS_FIRST_MARK: [u8; 8] = [0x52, 0x41, 0x49, 0x44, 0x35, 0x4a, 0x45, 0x33];
+
+const RUNS_LAST_MARK: [u8; 8] = [0x33, 0x45, 0x4a, 0x35, 0x44, 0x49, 0x41, 0x52];
+
+/// The sector of the seal of form Runs of an entry of this number, with runs of these bytes, of which it takes the
+/// first 58.
+pub(crate) fn spelled_runs(number: u64, runs: &[[u8; 8]]) -> Sector {
+    let mut sector = BLANK;
+    sector[..8].copy_from_slice(&RUNS_FIRST_MARK);
+    sector[8..24].copy_from_slice(&ID);
+    sector[24..32].copy_from_slice(&number.to_le_bytes());
+    for i in 0..runs.len().min(58) {
+        sector[32] = i as u8 + 1;
+        sector[40 + 8 * i..48 + 8 * i].copy_from_slice(&runs[i]);
+    }
+    sector[504..].copy_from_slice(&RUNS_LAST_MARK);
+    sector
+}
+
 /// The seal that a sector spells.
 pub(crate) fn read_seal(rt: &impl Abort, sector: &Sector) -> Seal {
     seal_decode(sector).expect(rt, "the sector is a seal")
@@ -58,7 +77,7 @@ pub(crate) fn read_seal(rt: &impl Abort, sector: &Sector) -> Seal {
 /// Whether it is the seal of this number with these rows, or, where the number is 0, there is none.
 pub(crate) fn is_seal(found: &Option<Seal>, number: u64, rows: &[u32]) -> bool {
     match found {
-        Some(seal) => seal.number == number && seal.form.rows().as_slice() == rows,
+        Some(seal) => seal.number == number && seal.form.rows() == rows,
         None => number == 0,
     }
 }
@@ -105,16 +124,18 @@ pub(crate) const FROM: u8 = 3;
 
 pub(crate) const TO: u8 = 4;
 
-/// The sectors of a journal.
-const SECTORS: usize = 520;
-
-/// A bank with two blank journals.
+/// A bank with two blank journals of a set of format 1.
 pub(crate) fn blank_journals(rt: &(impl Abort + AllocGlobal), plan: Plan) -> MemBank {
+    journals_of(rt, plan, 520)
+}
+
+/// A bank with two blank journals of so many sectors.
+pub(crate) fn journals_of(rt: &(impl Abort + AllocGlobal), plan: Plan, sectors: usize) -> MemBank {
     let alloc = rt.alloc();
     let mut slots = Vec::new(alloc);
     for slot in 0..5 {
         let journal = match slot {
-            FROM | TO => Some(vec![in alloc; BLANK; SECTORS].expect(rt, "memory")),
+            FROM | TO => Some(vec![in alloc; BLANK; sectors].expect(rt, "memory")),
             _ => None,
         };
         slots.push(journal).expect(rt, "memory");
@@ -186,7 +207,7 @@ pub(crate) fn put_seal(rt: &impl Abort, bank: &mut MemBank, sector: &Sector) -> 
 /// A sector of a journal has these bytes.
 pub(crate) fn check_sector(rt: &impl Abort, bank: &mut MemBank, dev: u8, at: u32, want: &Sector) {
     let mut sector = [0xee; 512];
-    assert!(rt; at < 520);
+    assert!(rt; at < 8_200);
     check_room(rt, bank, dev, at + 1);
     let answer = read_sector(bank, dev, at, &mut sector);
     same(rt, (dev, at, answer, sector), (dev, at, Ok(()), *want));

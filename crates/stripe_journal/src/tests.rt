@@ -7,6 +7,8 @@ use layout_map::Geometry;
 use sector_model::Sector;
 use std::process::Abort;
 
+pub(crate) mod runs;
+
 // The sector of entry 1 with row 32 alone.
 fn vector() -> Sector {
     spelled(&ID, 1, [32, 0])
@@ -51,7 +53,7 @@ fn seal_vector(rt: HostRuntime) {
     let given = Seal { id, number, form };
     seal_encode(&given, &mut sector);
     let seal = read_seal(&rt, &vector());
-    let got = (sector, seal.id, seal.number, seal.form.rows().as_slice());
+    let got = (sector, seal.id, seal.number, seal.form.rows());
     same(&rt, got, (vector(), ID, 1, [32].as_slice()));
     seal_law();
 }
@@ -67,12 +69,7 @@ fn check_bytes(rt: &impl Abort, sector: &Sector, at: usize, want: &[u8]) {
 #[test]
 fn held_seal_vector(rt: HostRuntime) {
     let seal = read_seal(&rt, &held_vector());
-    let got = (
-        seal.id,
-        seal.number,
-        seal.form.rows().as_slice(),
-        mask_of(&seal, 0),
-    );
+    let got = (seal.id, seal.number, seal.form.rows(), mask_of(&seal, 0));
     same(&rt, got, (ID, 1, [32].as_slice(), Some(6)));
     let mut sector = [0xff; 512];
     seal_encode(&seal, &mut sector);
@@ -97,6 +94,7 @@ fn mask_of(seal: &Seal, i: usize) -> Option<u8> {
     match &seal.form {
         Form::Whole(_) => None,
         Form::Held(_, masks) => masks.get(i).copied(),
+        Form::Runs(_) => None,
     }
 }
 
@@ -105,7 +103,7 @@ fn full_sector(rt: HostRuntime) {
     let seal = read_seal(&rt, &full());
     let mut sector = [0xff; 512];
     seal_encode(&seal, &mut sector);
-    let rows = seal.form.rows().as_slice();
+    let rows = seal.form.rows();
     assert!(rt; rows.len() == 32);
     let got = (seal.number, rows[0], rows[31], sector);
     same(

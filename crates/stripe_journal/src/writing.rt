@@ -1,16 +1,16 @@
 //! The device calls that put an entry on a journal.
-ghost use Rattle.std.specs.Prelude.{◌≡◌, ◌⊎◌, ◌≤◌, ◌<◌, ◌+◌, ◌↔◌, [], ◌∷◌, false, is_ok, IfErr, IfOk};
+ghost use Rattle.std.specs.Prelude.{◌≡◌, ◌⊎◌, ◌≤◌, ◌<◌, ◌+◌, ◌↔◌, [], ◌∷◌, false, is_ok, length, IfErr, IfOk};
 ghost use Rattle.layout_map.specs.Formats.{journal_sectors};
-ghost use Rattle.layout_map.specs.declared.sizes.TheConstants.{FIRST_BODY};
+ghost use Rattle.layout_map.specs.declared.sizes.TheConstants.{FIRST_BODY, MOST_MEMBERS};
 ghost use Rattle.sector_model.specs.Bank.{IsCauseOf, IsLater};
 ghost use Rattle.sector_model.specs.Calls.{Made, Write, writes_from};
 ghost use Rattle.stripe_journal.specs.Body.{seal_place};
-ghost use Rattle.stripe_journal.specs.Entries.{body_of, body_start, held_of};
-ghost use Rattle.stripe_journal.specs.Forms.{count_held, has_bit};
+ghost use Rattle.stripe_journal.specs.Entries.{body_of, half_start, held_of};
+ghost use Rattle.entry_runs.specs.Body.{bits_below, count_held, has_bit};
 ghost use Rattle.stripe_journal.specs.Spelling.{seal_sector};
 
-use crate::{Entry, EntryView, Seal, seal_encode};
-use layout_map::{BODY_SECTORS, FIRST_BODY, FIRST_SEAL, Geometry, HALVES};
+use crate::{Entry, EntryView, Seal, half_start, seal_encode};
+use layout_map::{FIRST_SEAL, Geometry, HALVES};
 use sector_model::{Bank, Stop, write_sector};
 
 /// Writes the body of the entry of this number to a journal: of each row the sectors that its mask has, of the set's
@@ -30,12 +30,12 @@ pub fn write_body<B: Bank>(
     ensures panel { IsLater (B.panel bank.old) (B.panel bank.new) }
     ensures honest { B.honest bank.old ↔ B.honest bank.new }
     ensures made { B.honest bank.old → Made
-        (writes_from dev (body_start number) (body_of geometry.now.members entry.now)) (is_ok result)
-        (B.history bank.old) (B.history bank.new) }
+        (writes_from dev (half_start geometry.now.format number) (body_of geometry.now.members entry.now))
+        (is_ok result) (B.history bank.old) (B.history bank.new) }
     ensures err { IfErr result (λ stop. IsCauseOf (B.panel bank.new) stop
         × ((stop ≡ Stop.Worn) ⊎ (stop ≡ Stop.Down dev))) }
 {
-    let mut at = FIRST_BODY + BODY_SECTORS * (number % HALVES as u64) as u32;
+    let mut at = half_start(geometry.format, number);
     for i in 0..entry.len() {
         at = write_row(bank, dev, at, &entry.view(i), geometry)?;
     }
@@ -54,6 +54,7 @@ fn write_row<B: Bank>(
     requires device { dev < (B.panel bank.old).devices }
     requires within { (B.panel bank.old).down dev ≡ false
         → journal_sectors geometry.now.format ≤ (B.panel bank.old).sectors dev }
+    requires whole { length row.now.sectors.now ≡ bits_below row.now.mask MOST_MEMBERS }
     requires end { first + count_held
         (has_bit row.now.mask) geometry.now.members ≤ journal_sectors geometry.now.format }
     ensures panel { IsLater (B.panel bank.old) (B.panel bank.new) }

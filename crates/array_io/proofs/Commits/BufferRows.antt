@@ -12,10 +12,8 @@ use Rattle.parity.specs.Xor.{IsSoundRow, xor_of, xor_of_all, zero_sector}
 use Rattle.parity.proofs.Laws.{length-xor_of, length-xor_of_all, xor_of-assoc, xor_of-comm, xor_of-self, xor_of-zero_right, xor_of-zero-xor_of_all}
 use Rattle.parity.proofs.Laws.{xor_of_all-set}
 use Rattle.stripe_journal.specs.declared.entry.Entry.{Entry}
-use Rattle.stripe_journal.specs.declared.form.Form.{Form}
 use Rattle.stripe_journal.specs.Entries.{form_of, row_mask, sector_at, with_sector}
 use Rattle.stripe_journal.specs.Forms.{has_bit, mask_at}
-use Rattle.stripe_journal.specs.Spelling.{masks_of}
 use Rattle.stripe_journal.proofs.Entries.{sector_elsewhere, sector_there}
 use Rattle.degraded.proofs.Others.{map-range}
 use Rattle.degraded.proofs.Sums.{xor_members-more}
@@ -40,8 +38,10 @@ member_with members entry i values member within = get_or-map-range_with_len (se
 
 -- entries of one form have the same masks
 pub same_mask : (first second : Entry) (i : ℕ) → form_of first ≡ form_of second → row_mask first i ≡ row_mask second i
-unfolding masks_of
-same_mask first second i same = ap (λ (form : Form). mask_at (masks_of form) i) same
+same_mask first second i same = ap (λ (masks : List ℕ). mask_at masks i) (same_masks first second same)
+  where
+    same_masks : (first second : Entry) → form_of first ≡ form_of second → first.masks ≡ second.masks
+    same_masks first second same = cc
 
 -- rows of two entries that agree
 pub row_same : (members : ℕ) (first second : Entry) (i : ℕ) (values : List Bytes) → row_mask first i ≡ row_mask second i
@@ -63,11 +63,11 @@ row_put members entry i member value values few below within held =
     ext_get_or [] (row_with members after i values) (slice_set row member value) (new_long ∙ sym (length-set row member value ∙ long)) (λ k there.
     let inside : k < members = omega (arith, new_long, there) in
     member_with members after i values k inside ∙ elim (cases_eq k member) [
-      | inl same ↦ rw same (held_with after i values member held ∙ sector_there entry i member value below (omega (arith, few, within))
+      | inl same ↦ rw same (held_with after i values member held ∙ sector_there entry i member value below (omega (arith, few, within)) held
           ∙ sym (get_or-set_same row member value [] (omega (arith, long, within))))
       | inr other ↦
           ap (λ (s : Bytes). cond (has_bit (row_mask entry i) k) s (slice_index_or values k []))
-          (sector_elsewhere entry i member i k value (omega (arith, few, within)) (omega (arith, few, inside)) (λ row. other))
+          (sector_elsewhere entry i member i k value (omega (arith, few, within)) (omega (arith, few, inside)) held (λ row. other))
           ∙ sym (get_or-set_other row member k value [] other ∙ member_with members entry i values k inside)
     ])
 

@@ -1,7 +1,7 @@
 -- A commit, from its rows to its end, by what its parts promise.
-use Rattle.std.proofs.Common.{◌≡◌, ◌⊎◌, inl, inr, ℕ, ◌+◌, ◌<◌, ◌≤◌, true, false, List, [], ◌∷◌, Contains, length, Option, refl, sym, ◌∙◌, ap, subst, subst₂}
-use Rattle.std.proofs.Common.{arith}
-use Rattle.std.specs.Prelude.{Ok, Err, slice_index_or}
+use Rattle.std.proofs.Common.{◌≡◌, ◌⊎◌, inl, inr, ℕ, ◌+◌, ◌<◌, ◌≤◌, true, false, cond, List, [], ◌∷◌, Contains, length, Option, refl, sym, ◌∙◌, ap, subst}
+use Rattle.std.proofs.Common.{subst₂, arith}
+use Rattle.std.specs.Prelude.{Ok, Err, replicate, slice_index_or}
 use Rattle.std.proofs.lemmas.Option.{none-some}
 use Rattle.std.proofs.lemmas.List.Elements.{Contains-append_left}
 use Rattle.sector_model.specs.declared.calls.TheConstants.{GREATEST_COUNT}
@@ -14,6 +14,7 @@ use Rattle.sector_model.specs.Readable.{readable}
 use Rattle.sector_model.proofs.Readable.{readable_left}
 use Rattle.sector_model.proofs.Panels.{later_same}
 use Rattle.sector_model.proofs.Steps.{throughout_more, throughout_on}
+use Rattle.layout_map.specs.declared.format.Format.TheVariants.{One}
 use Rattle.layout_map.specs.declared.geometry.Geometry.{Geometry}
 use Rattle.layout_map.specs.declared.sizes.TheConstants.{FIRST_ROW, MOST_MEMBERS}
 use Rattle.layout_map.proofs.Places.{place_member_below}
@@ -25,7 +26,7 @@ use Rattle.stripe_journal.specs.declared.entry.Entry.{Entry}
 use Rattle.stripe_journal.specs.declared.seal.Seal.{Seal}
 use Rattle.stripe_journal.specs.declared.form.Form.{Form}
 use Rattle.stripe_journal.specs.Entries.{body_of, form_of, numbers_of}
-use Rattle.stripe_journal.specs.Forms.{holds, rank, rows_in}
+use Rattle.stripe_journal.specs.Forms.{format_of, has_zeros, holds, in_body, rank, rows_in}
 use Rattle.stripe_journal.specs.LastSealed.{RowsHold}
 use Rattle.stripe_journal.specs.Seals.{row_at}
 use Rattle.stripe_journal.proofs.HeldEntries.{length_of_seal}
@@ -188,8 +189,8 @@ module _ (spellings : Spellings) (honest : Type 0) (number : ℕ) (sectors : Giv
 
   -- its rows were formed
 
-  module _ (still : Type 0) (more : honest → still) (may : MayCommit table sectors) (seal : Seal) (entry : Entry)
-      (steps : KeepsOn honest table table1 panel panel1 h h1 (Ok tt))
+  module _ (still : Type 0) (more : honest → still) (may : MayCommit table sectors) (of_format_one : table1.geometry.format ≡ One) (seal : Seal)
+      (entry : Entry) (steps : KeepsOn honest table table1 panel panel1 h h1 (Ok tt))
       (formed : (number : ℕ) (from : KeepsFrom) → honest → Between panel.devices number from table h → FormsListed table.geometry sectors from.logical entry)
       (its_id : seal.id ≡ table1.id) (its_number : seal.number ≡ number + 1) (its_rows : rows_in seal.form ≡ numbers_of entry)
       (its_form : seal.form ≡ form_of entry) where
@@ -259,9 +260,10 @@ module _ (spellings : Spellings) (honest : Type 0) (number : ℕ) (sectors : Giv
         long = length_of_seal members seal entry few record {
           rows = sym its_rows;
           held =
-              λ i member within below. ap (λ (f : Form). holds members f i member) (sym its_form);
+              λ i member within below. ap (λ (f : Form). in_body members f i member) (sym its_form);
         };
-        body_is = λ i member within below held. ap (λ (f : Form). slice_index_or body (rank members f i member) []) its_form
+        held = λ i member within below held.
+            ap (λ (f : Form). cond (has_zeros f i) (replicate 512 0) (slice_index_or body (rank members f i member) [])) its_form
             ∙ body_is members base entry i member few (in_entry i within) below (ap (λ (f : Form). holds members f i member) (sym its_form) ∙ held);
         kept = λ i member within below lacking. kept members base entry i member refl (in_entry i within) below
             (ap (λ (f : Form). holds members f i member) (sym its_form) ∙ lacking)
@@ -269,6 +271,7 @@ module _ (spellings : Spellings) (honest : Type 0) (number : ℕ) (sectors : Giv
         next = its_number;
         belongs = record {
           of_set = its_id;
+          of_format = ap format_of its_form ∙ sym of_format_one;
           own_place = refl;
           below = subst (λ (rows : List ℕ). (i : ℕ) → i < length rows → row_at rows i < row_count table1) (sym its_rows) forms.rows.of_set;
           held = subst₂ (λ (f : Form) (rows : List ℕ). RowsHold table1.geometry f rows) (sym its_form) (sym its_rows)

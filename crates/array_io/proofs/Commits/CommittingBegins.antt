@@ -35,7 +35,7 @@ use Rattle.std.proofs.lemmas.List.Elements.{Contains-append_left, Contains-push}
 use Rattle.stripe_journal.specs.LastEntry.{IsLastSealed}
 use Rattle.stripe_journal.specs.OneEntry.{IsNextOn}
 use Rattle.array_io.specs.Believed.ArrayCalls.{written}
-use Rattle.array_io.specs.Steps.Putting.{Awaited, Formed, IsBodyLong, IsComing, IsFormedOn, PutsFrom, in_body}
+use Rattle.array_io.specs.Steps.Putting.{Awaited, Formed, IsBodyLong, IsComing, IsFormedOn, PutsFrom, held_sector}
 use Rattle.array_io.proofs.Commits.CommittingEnds.{writes_more}
 
 -- where a commit of these sectors began, with this list
@@ -47,8 +47,8 @@ pub record IsFormedNext (number : ℕ) (table : Table) (h : History) (sectors : 
     (body : List Bytes) : Type 0 where
   pub formed : IsFormed table.geometry (rows_by table (readable h)) sectors (rows_in seal.form) values
   pub long : IsBodyLong table.geometry.members seal body
-  pub body_is : (i member : ℕ) → i < length (rows_in seal.form) → member < table.geometry.members → holds table.geometry.members seal.form i member ≡ true
-      → in_body table.geometry.members seal body i member ≡ slice_index_or (slice_index_or values i []) member []
+  pub held : (i member : ℕ) → i < length (rows_in seal.form) → member < table.geometry.members → holds table.geometry.members seal.form i member ≡ true
+      → held_sector table.geometry.members seal body i member ≡ slice_index_or (slice_index_or values i []) member []
   pub kept : (i member : ℕ) → i < length (rows_in seal.form) → member < table.geometry.members → holds table.geometry.members seal.form i member ≡ false
       → slice_index_or (slice_index_or values i []) member [] ≡ value (rows_by table (readable h)) (row_at (rows_in seal.form) i) member
   pub next : seal.number ≡ number + 1
@@ -95,7 +95,7 @@ module _ (spellings : Spellings) (panel : Panel) (devices number : ℕ) (base ta
       gives = ap (λ (L : List Bytes). written L sectors) same_list;
       among = Contains-push (V ∷ []) (written V sectors);
       formed = formed.formed;
-      body_is = formed.body_is;
+      held = formed.held;
       kept = formed.kept;
       width = refl;
       bare = λ row member. refl;

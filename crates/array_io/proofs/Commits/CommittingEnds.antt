@@ -93,7 +93,7 @@ module _ (spellings : Spellings) (seal : Seal) (body : List Bytes) (journals : �
           has = record {
             last = same_greatest table.id table.geometry (Some (disk_of (image on.0))) (Some (seen h on.0)) (λ place below. stands (FIRST_SEAL + place)) seal
                 has.last;
-            has_body = λ k within. stands (body_start seal.number + k) ∙ has.has_body k within;
+            has_body = λ k within. stands (body_start seal + k) ∙ has.has_body k within;
           };
           others = λ slot at apart. same slot at;
         }

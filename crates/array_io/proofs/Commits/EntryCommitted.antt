@@ -12,26 +12,26 @@ use Rattle.superblock.specs.Tables.{state_at}
 use Rattle.superblock.specs.Counted.{Content, IsInFull}
 use Rattle.superblock.specs.NextTables.{slots_of}
 use Rattle.stripe_journal.specs.declared.seal.Seal.{Seal}
-use Rattle.stripe_journal.specs.Body.{place_by_seal, place_in}
+use Rattle.stripe_journal.specs.Body.{place_in}
 use Rattle.stripe_journal.specs.Forms.{holds, rank, rows_in}
 use Rattle.stripe_journal.specs.Seals.{row_at}
 use Rattle.stripe_journal.specs.Entries.{body_start}
 use Rattle.stripe_journal.specs.LastEntry.{Entry, IsGreatest, IsLastEntry, IsLastSealed, number_of, sector_in, sector_of_last}
 use Rattle.stripe_journal.specs.OneEntry.{ACrashLeavesEither, HasThisEntry, IsNextOn}
 use Rattle.stripe_journal.proofs.LastOfOne.{greatest_is_one, last_is_one}
-use Rattle.stripe_journal.proofs.Bodies.{place_lacking, place_of_no_row}
-use Rattle.stripe_journal.proofs.EntrySectors.{sector_held, sector_lacking, sector_of_no_row}
+use Rattle.stripe_journal.proofs.EntrySectors.{sector_lacking, sector_of_no_row}
 use Rattle.stripe_journal.proofs.Places.{row_of_place}
 use Rattle.degraded.specs.RowValue.{AreSound, Rows, logical_list, value}
 use Rattle.array_io.specs.Believed.ArrayCalls.{written}
 use Rattle.array_io.specs.Steps.Bringing.{CountsOn}
 use Rattle.array_io.specs.Laws.Core.{AreJournalsInStep, HasRows}
 use Rattle.array_io.specs.Steps.Forming.{IsFormed}
-use Rattle.array_io.specs.Steps.Putting.{IsBodyLong, in_body}
+use Rattle.array_io.specs.Steps.Putting.{IsBodyLong, LacksSector, held_sector}
 use Rattle.array_io.specs.Believed.Holds.{AreInStep, AreRowsOf, IsLiveJournal, row_count}
 use Rattle.array_io.proofs.Writes.Written.{IsWrittenFrom}
 use Rattle.array_io.proofs.Rest.AtRestRows.{TableTrusts}
-use Rattle.array_io.proofs.Commits.EntryCopied.{in_the_body, two_journals}
+use Rattle.array_io.proofs.Commits.EntryCopied.{two_journals}
+use Rattle.array_io.proofs.Commits.HeldSectors.{lacks_held, lacks_row, sector_of_held}
 use Rattle.array_io.proofs.Commits.EntryPhases.{is_read, journal_counts, journal_read}
 use Rattle.array_io.proofs.Commits.EntrySealing.{IsSealedNext, StandsSealed, greatest_there, sealed_or_same}
 use Rattle.array_io.proofs.Commits.FormedRows.{TakesEntry, formed_sector, takes_formed}
@@ -47,8 +47,8 @@ pub record IsCommitted (table : Table) (base : Rows) (reads : Slots) (target : �
     (body : List Bytes) : Type 0 where
   pub formed : IsFormed table.geometry base sectors (rows_in seal.form) values
   pub long : IsBodyLong table.geometry.members seal body
-  pub body_is : (i member : ℕ) → i < length (rows_in seal.form) → member < table.geometry.members → holds table.geometry.members seal.form i member ≡ true
-      → in_body table.geometry.members seal body i member ≡ slice_index_or (slice_index_or values i []) member []
+  pub held : (i member : ℕ) → i < length (rows_in seal.form) → member < table.geometry.members → holds table.geometry.members seal.form i member ≡ true
+      → held_sector table.geometry.members seal body i member ≡ slice_index_or (slice_index_or values i []) member []
   pub kept : (i member : ℕ) → i < length (rows_in seal.form) → member < table.geometry.members → holds table.geometry.members seal.form i member ≡ false
       → slice_index_or (slice_index_or values i []) member [] ≡ value base (row_at (rows_in seal.form) i) member
   pub width : base.members ≡ table.geometry.members
@@ -56,7 +56,7 @@ pub record IsCommitted (table : Table) (base : Rows) (reads : Slots) (target : �
   pub sound : AreSound base (row_count table)
   pub trust : (row member : ℕ) → row < row_count table → member < table.geometry.members → TableTrusts (state_at table.states member) row table.position
       → base.trusted row member ≡ true
-  pub own : (row member : ℕ) → row < row_count table → member < table.geometry.members → place_by_seal table.geometry.members seal row member ≡ None
+  pub own : (row member : ℕ) → row < row_count table → member < table.geometry.members → LacksSector table.geometry.members seal row member
       → TableTrusts (state_at table.states member) row table.position
       → sector_of (disk_of (reads member)) (FIRST_ROW + row) ≡ base.own row member
   pub whole_sectors : (row member : ℕ) → row < row_count table → member < table.geometry.members → base.trusted row member ≡ true
@@ -105,7 +105,7 @@ module _ (devices : ℕ) (table : Table) (puts : Contents) (reads : Slots) (X : 
   -- a live journal has this entry, or the one before
   pub record HasIt (journal : ℕ) : Type 0 where
     pub last : IsGreatest table.id table.geometry (image journal) seal
-    pub has_body : (k : ℕ) → k < length body → sector_of (disk_of (image journal)) (body_start seal.number + k) ≡ slice_index_or body k []
+    pub has_body : (k : ℕ) → k < length body → sector_of (disk_of (image journal)) (body_start seal + k) ≡ slice_index_or body k []
 
   has_or_before : (journal : ℕ) → IsLiveJournal devices table image journal
       → HasIt journal ⊎ ((journal ≢ target) × ((last : Option Seal) → IsLastSealed table.id table.geometry (image journal) last
@@ -116,7 +116,7 @@ module _ (devices : ℕ) (table : Table) (puts : Contents) (reads : Slots) (X : 
       | inr has ↦ inl (record {
         last = same_greatest table.id table.geometry (image journal) (Some (disk_of (reads journal)))
             (λ place below. other_is journal (FIRST_SEAL + place) live apart) seal has.last;
-        has_body = λ k within. other_is journal (body_start seal.number + k) live apart ∙ has.has_body k within;
+        has_body = λ k within. other_is journal (body_start seal + k) live apart ∙ has.has_body k within;
       })
       | inl is_next ↦ inr (apart, λ last is. number_before is_next apart last is)
     ]
@@ -159,10 +159,8 @@ module _ (devices : ℕ) (table : Table) (puts : Contents) (reads : Slots) (X : 
           → sector_in table.geometry.members (image journal) seal row member ≡ formed_sector table.geometry.members seal values row member
       by_held i true there is =
           let within = (row_of_place (rows_in seal.form) row i there).0 in
-          sector_held table.geometry.members (image journal) seal row i member there is
-          ∙ ap Some (has.has_body (rank table.geometry.members seal.form i member)
-          (in_the_body table.geometry.members seal body i member committed.long within below is)
-          ∙ committed.body_is i member within below is)
+          sector_of_held table.geometry.members (image journal) seal body row i member committed.long has.has_body there below is
+          ∙ ap Some (committed.held i member within below is)
           ∙ sym (formed_at i true there is)
       by_held i false there is = sector_lacking table.geometry.members (image journal) seal row i member there is ∙ sym (formed_at i false there is)
 
@@ -182,21 +180,22 @@ module _ (devices : ℕ) (table : Table) (puts : Contents) (reads : Slots) (X : 
       let one = greatest_is_one table.id table.geometry (image entry.journal) entry.seal seal table.id_long is.sealed has.last in
       ap (λ (s : Seal). sector_in table.geometry.members (image entry.journal) s row member) one ∙ in_rows entry.journal has row member below
 
-  -- where it has no sector, the seal has no place
+  -- where it has no sector, the seal says of none
   not_placed : (row member : ℕ) → member < table.geometry.members → formed_sector table.geometry.members seal values row member ≡ None
-      → place_by_seal table.geometry.members seal row member ≡ None
+      → LacksSector table.geometry.members seal row member
   not_placed row member below none = by_place (place_in (rows_in seal.form) row) refl
     where
       by_held : (i : ℕ) (b : Bool) → place_in (rows_in seal.form) row ≡ Some i → holds table.geometry.members seal.form i member ≡ b
-          → place_by_seal table.geometry.members seal row member ≡ None
+          → LacksSector table.geometry.members seal row member
       by_held i true there is = absurd (none-some (slice_index_or (slice_index_or values i []) member []) (sym none
-          ∙ ap (option_and_then (λ n. if holds table.geometry.members seal.form n member then Some (slice_index_or (slice_index_or values n []) member []) else
+          ∙ ap (option_and_then (λ n. if holds table.geometry.members seal.form n member then Some (slice_index_or
+          (slice_index_or values n []) member []) else
           None)) there
           ∙ ap (λ (h : Bool). if h then Some (slice_index_or (slice_index_or values i []) member []) else None) is))
-      by_held i false there is = place_lacking table.geometry.members seal row i member there is
+      by_held i false there is = lacks_held table.geometry.members seal row i member there is
 
-      by_place : (place : Option ℕ) → place_in (rows_in seal.form) row ≡ place → place_by_seal table.geometry.members seal row member ≡ None
-      by_place None no_row = place_of_no_row table.geometry.members seal row member no_row
+      by_place : (place : Option ℕ) → place_in (rows_in seal.form) row ≡ place → LacksSector table.geometry.members seal row member
+      by_place None no_row = lacks_row table.geometry.members seal row member no_row
       by_place (Some i) there = by_held i (holds table.geometry.members seal.form i member) there refl
 
   -- the rows take the entry

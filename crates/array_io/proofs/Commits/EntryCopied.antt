@@ -11,7 +11,7 @@ use Rattle.superblock.specs.NextTables.{slots_of}
 use Rattle.stripe_journal.specs.declared.seal.Seal.{Seal}
 use Rattle.stripe_journal.specs.Body.{place_by_seal}
 use Rattle.stripe_journal.specs.Entries.{body_start}
-use Rattle.stripe_journal.specs.Forms.{holds, rank, rows_in}
+use Rattle.stripe_journal.specs.Forms.{in_body, rank, rows_in}
 use Rattle.stripe_journal.specs.LastEntry.{Entry, IsGreatest, IsLastEntry, IsLastSealed, number_of, sector_in, sector_of_last}
 use Rattle.stripe_journal.specs.OneEntry.{ACrashLeavesEither}
 use Rattle.stripe_journal.proofs.Bodies.{is_placed}
@@ -34,7 +34,7 @@ pub record IsCopiedFrom (table : Table) (reads : Slots) (source target : ℕ) (s
   pub counted : CountsOn table source
   pub says : IsGreatest table.id table.geometry (reads source) seal
   pub long : IsBodyLong table.geometry.members seal body
-  pub same_body : (k : ℕ) → k < length body → sector_of (disk_of (reads source)) (body_start seal.number + k) ≡ slice_index_or body k []
+  pub same_body : (k : ℕ) → k < length body → sector_of (disk_of (reads source)) (body_start seal + k) ≡ slice_index_or body k []
 
 -- of two journals each is the one or the other
 pub two_journals : (members journal first second : ℕ) → members ≤ journal → journal < members + 2 → members ≤ first → first < members + 2 → members ≤ second
@@ -51,7 +51,7 @@ two_journals members journal first second least most least' most' least'' most''
 -- a sector that a seal's entry holds is one of its body
 pub in_the_body : (members : ℕ) (seal : Seal) (body : List Bytes) (i member : ℕ) → IsBodyLong members seal body → i < length (rows_in seal.form)
     → member < members
-    → holds members seal.form i member ≡ true
+    → in_body members seal.form i member ≡ true
     → rank members seal.form i member < length body
 in_the_body members seal body i member long within below held =
     omega (arith, long, rank_before members seal.form i member (length (rows_in seal.form)) held below within)
@@ -60,7 +60,7 @@ in_the_body members seal body i member long within below held =
 record HasPart (seal : Seal) (body : List Bytes) (place : ℕ) : Type 0 where
   part : ℕ
   within : part < length body
-  is : place ≡ body_start seal.number + part
+  is : place ≡ body_start seal + part
 
 part_of_body : (members : ℕ) (seal : Seal) (body : List Bytes) (row member place : ℕ) → IsBodyLong members seal body → member < members
     → place_by_seal members seal row member ≡ Some place
@@ -129,12 +129,12 @@ module _ (law : ACrashLeavesEither) (devices : ℕ) (table : Table) (puts : Cont
 
     -- and its body
     has_body : (journal : ℕ) → IsLiveJournal devices table image journal → (k : ℕ) → k < length body
-        → sector_of (disk_of (image journal)) (body_start seal.number + k) ≡ slice_index_or body k []
+        → sector_of (disk_of (image journal)) (body_start seal + k) ≡ slice_index_or body k []
     has_body journal live k within = elim (which journal live.beyond_members live.of_set) [
-      | inl is ↦ ap (λ (j : ℕ). sector_of (disk_of (image j)) (body_start seal.number + k)) is
-          ∙ source_is (body_start seal.number + k) (subst (λ (j : ℕ). IsLive devices table j (image j)) is live.live)
+      | inl is ↦ ap (λ (j : ℕ). sector_of (disk_of (image j)) (body_start seal + k)) is
+          ∙ source_is (body_start seal + k) (subst (λ (j : ℕ). IsLive devices table j (image j)) is live.live)
           ∙ copied.same_body k within
-      | inr is ↦ ap (λ (j : ℕ). sector_of (disk_of (image j)) (body_start seal.number + k)) is ∙ sealed.has.has_body k within
+      | inr is ↦ ap (λ (j : ℕ). sector_of (disk_of (image j)) (body_start seal + k)) is ∙ sealed.has.has_body k within
     ]
 
     -- so it has the entry's sectors

@@ -11,14 +11,18 @@ use Rattle.superblock.specs.Counted.{Content, IsLive}
 use Rattle.superblock.specs.NextTables.{slots_of}
 use Rattle.stripe_journal.specs.declared.seal.Seal.{Seal}
 use Rattle.stripe_journal.specs.Body.{place_in}
-use Rattle.stripe_journal.specs.Forms.{holds, rows_in}
+use Rattle.stripe_journal.specs.Forms.{format_of, holds, rows_in}
 use Rattle.stripe_journal.specs.LastEntry.{Entry, IsGreatest, IsLastEntry, sector_of_last}
 use Rattle.stripe_journal.specs.OneEntry.{IsInHalf}
 use Rattle.stripe_journal.specs.Seals.{row_at}
 use Rattle.stripe_journal.proofs.Bodies.{in_own_half}
-use Rattle.stripe_journal.proofs.EntrySectors.{sector_held}
+use Rattle.stripe_journal.proofs.EntrySectors.{some_sector}
 use Rattle.stripe_journal.proofs.LastOfOne.{greatest_is_one}
 use Rattle.stripe_journal.proofs.Places.{place_of_row}
+use Rattle.layout_map.specs.declared.format.Format.{Format}
+use Rattle.layout_map.specs.Formats.{body_sectors}
+use Rattle.stripe_journal.specs.Entries.{half_start}
+use Rattle.stripe_journal.proofs.Halves.{one_half, start_least}
 use Rattle.array_io.specs.Steps.Bringing.{CountsOn}
 use Rattle.array_io.specs.Laws.Core.{AreJournalsInStep, HasRows}
 use Rattle.array_io.specs.Believed.Holds.{IsLiveJournal}
@@ -88,15 +92,15 @@ module _ (devices : ℕ) (table : Table) (puts : Contents) (reads : Slots) (X : 
   ]
 
   -- Sectors of a half of one journal were written, in which its last entry has no body.
-  pub half_says : (journal number : ℕ) → table.geometry.members ≤ journal
-      → ((device at : ℕ) (value : Bytes) → puts device at value → (device ≡ journal) × IsInHalf number at)
-      → ((seal : Seal) → IsGreatest table.id table.geometry (reads journal) seal → seal.number % HALVES ≢ number % HALVES)
+  pub half_says : (journal : ℕ) (next : Seal) → format_of next.form ≡ table.geometry.format → table.geometry.members ≤ journal
+      → ((device at : ℕ) (value : Bytes) → puts device at value → (device ≡ journal) × IsInHalf next at)
+      → ((seal : Seal) → IsGreatest table.id table.geometry (reads journal) seal → seal.number % HALVES ≢ next.number % HALVES)
       → SayTheSame devices table image before
-  half_says journal number beyond only apart = record {
+  half_says journal next format beyond only apart = record {
     alive = alive;
     seals = λ j place below live. elim ((from.put j).each (FIRST_SEAL + place)) [
       | inl same ↦ same
-      | inr put ↦ absurd (omega (arith, below, (only j (FIRST_SEAL + place) (sector_of (disk_of (image j)) (FIRST_SEAL + place)) put.1).1.0))
+      | inr put ↦ absurd (omega (arith, below, (only j (FIRST_SEAL + place) (sector_of (disk_of (image j)) (FIRST_SEAL + place)) put.1).1.0, start_least next))
     ];
     bodies = λ j seal live is row member place below found. elim ((from.put j).each place) [
       | inl same ↦ same
@@ -104,8 +108,10 @@ module _ (devices : ℕ) (table : Table) (puts : Contents) (reads : Slots) (X : 
           let where_it_is = only j place (sector_of (disk_of (image j)) place) put.1 in
           let here : reads j ≡ reads journal = ap reads where_it_is.0 in
           let last = subst (λ (c : Content). IsGreatest table.id table.geometry c seal) (journal_read j live ∙ here) is in
-          let half = in_own_half table.geometry.members seal row member place table.geometry.limits.members_most below found in
-          absurd (apart seal last (omega (arith, where_it_is.1.0, where_it_is.1.1, half.0, half.1)))
+          let same : format_of seal.form ≡ format_of next.form = last.counted.belongs.of_format ∙ sym format in
+          let half = subst (λ (f : Format). (half_start f seal.number ≤ place) × (place < half_start f seal.number + body_sectors f)) same
+          (in_own_half table.geometry.members seal row member place table.geometry.limits.members_most below found) in
+          absurd (apart seal last (one_half (format_of next.form) seal.number next.number place half.0 half.1 where_it_is.1.0 where_it_is.1.1))
     ];
     owns = λ last is row member below within none trusted. elim ((from.put member).each (FIRST_ROW + row)) [
       | inl same ↦ same
@@ -129,7 +135,9 @@ module _ (devices : ℕ) (table : Table) (puts : Contents) (reads : Slots) (X : 
     ];
     owns = λ last is row member below within none trusted. elim ((from.put member).each (FIRST_ROW + row)) [
       | inl same ↦ same
-      | inr put ↦ absurd (not_in_entry last is row member none (only member (FIRST_ROW + row) (sector_of (disk_of (image member)) (FIRST_ROW + row)) put.1).1)
+      | inr put ↦
+          absurd (not_in_entry last is row member within none
+          (only member (FIRST_ROW + row) (sector_of (disk_of (image member)) (FIRST_ROW + row)) put.1).1)
     ];
   }
     where
@@ -145,29 +153,30 @@ module _ (devices : ℕ) (table : Table) (puts : Contents) (reads : Slots) (X : 
 
       -- the last entry has each of these sectors
       not_in_entry : (last : Option Entry) → IsLastEntry table.id table.geometry (IsLiveJournal devices table before) before last → (row member : ℕ)
-          → sector_of_last table.geometry.members before last row member ≡ None
+          → member < table.geometry.members → sector_of_last table.geometry.members before last row member ≡ None
           → ¬ ((i : ℕ) × (i < length (rows_in seal.form)) × (holds table.geometry.members seal.form i member ≡ true)
           × (FIRST_ROW + row ≡ FIRST_ROW + row_at (rows_in seal.form) i))
-      not_in_entry None none row member is_none found =
+      not_in_entry None none row member below is_none found =
           let its = its_seal some_journal.0 some_journal.1 in
           absurd (none some_journal.0 its.place seal some_journal.1 its.counted)
-      not_in_entry (Some entry) latest row member is_none (i, within, held, is) =
+      not_in_entry (Some entry) latest row member below is_none (i, within, held, is) =
           let one : entry.seal ≡ seal = greatest_is_one table.id table.geometry (before entry.journal) entry.seal seal table.id_long latest.sealed
           (its_seal entry.journal latest.on_live) in
           let place : place_in (rows_in entry.seal.form) row ≡ Some i =
           ap (λ (s : Seal). place_in (rows_in s.form) row) one ∙ ap (λ (r : ℕ). place_in (rows_in seal.form) r) (same_row row (row_at (rows_in seal.form) i) is)
-          ∙ place_of_row (rows_in seal.form) i seal.allowed.rising within in
+          ∙ place_of_row (rows_in seal.form) i seal.allowed.rows.rising within in
           let its_held : holds table.geometry.members entry.seal.form i member ≡ true = ap (λ (s : Seal). holds table.geometry.members s.form i member) one
           ∙ held in
-          absurd (none-some _ (sym is_none ∙ sector_held table.geometry.members (before entry.journal) entry.seal row i member place its_held))
+          let its = some_sector table.geometry.members (before entry.journal) entry.seal row i member place below its_held in
+          absurd (none-some its.0 (sym is_none ∙ its.1))
 
   -- so every image keeps its rows
-  pub half_keeps : (journal number : ℕ) → table.geometry.members ≤ journal
-      → ((device at : ℕ) (value : Bytes) → puts device at value → (device ≡ journal) × IsInHalf number at)
-      → ((seal : Seal) → IsGreatest table.id table.geometry (reads journal) seal → seal.number % HALVES ≢ number % HALVES)
+  pub half_keeps : (journal : ℕ) (next : Seal) → format_of next.form ≡ table.geometry.format → table.geometry.members ≤ journal
+      → ((device at : ℕ) (value : Bytes) → puts device at value → (device ≡ journal) × IsInHalf next at)
+      → ((seal : Seal) → IsGreatest table.id table.geometry (reads journal) seal → seal.number % HALVES ≢ next.number % HALVES)
       → HasRows devices table X (IsLiveJournal devices table image) image × AreJournalsInStep devices table image
-  half_keeps journal number beyond only apart =
-      let same = half_says journal number beyond only apart in (
+  half_keeps journal next format beyond only apart =
+      let same = half_says journal next format beyond only apart in (
         says_the_same devices table image before same X record { sound = from.holds.sound; listed = from.holds.listed },
         steps_the_same devices table image before same from.holds.in_step,
       )

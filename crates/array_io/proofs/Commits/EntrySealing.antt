@@ -15,6 +15,7 @@ use Rattle.stripe_journal.specs.Entries.{body_start}
 use Rattle.stripe_journal.specs.LastEntry.{IsGreatest}
 use Rattle.stripe_journal.specs.OneEntry.{ACrashLeavesEither, HasThisEntry, IsNextOn, Sealed}
 use Rattle.stripe_journal.specs.Spelling.{seal_sector}
+use Rattle.stripe_journal.proofs.Halves.{seal_before}
 use Rattle.array_io.specs.Steps.Bringing.{CountsOn}
 use Rattle.array_io.proofs.Writes.Written.{IsWrittenFrom}
 use Rattle.array_io.proofs.Commits.EntryPhases.{is_read, live_or_not}
@@ -26,7 +27,7 @@ pub record IsSealedNext (table : Table) (puts : Contents) (reads : Slots) (targe
   pub beyond : table.geometry.members ≤ target
   pub of_set : target < slots_of table
   pub next : IsNextOn table.id table.geometry (disk_of (reads target)) seal
-  pub its_body : (k : ℕ) → k < length body → sector_of (disk_of (reads target)) (body_start seal.number + k) ≡ slice_index_or body k []
+  pub its_body : (k : ℕ) → k < length body → sector_of (disk_of (reads target)) (body_start seal + k) ≡ slice_index_or body k []
 
 -- either an image says what it said, or the new seal stands on the journal, which is live
 pub record StandsSealed (devices : ℕ) (table : Table) (target : ℕ) (seal : Seal) (body : List Bytes) (before image : Slots) : Type 0 where
@@ -77,7 +78,7 @@ module _ (law : ACrashLeavesEither) (devices : ℕ) (table : Table) (puts : Cont
     has = (law table.id table.geometry (disk_of (reads target)) (disk_of (image target)) seal body Sealed next.next (λ at. record {
       elsewhere = λ outside apart. other_places at apart ∙ ap (λ (c : Content). sector_of (disk_of c) at) read;
       in_half = λ later k within is. ap (sector_of (disk_of (image target))) is
-          ∙ other_places (body_start seal.number + k) (in_body k) ∙ ap (λ (c : Content). sector_of (disk_of c) (body_start seal.number + k)) read
+          ∙ other_places (body_start seal + k) (apart_from_seal k) ∙ ap (λ (c : Content). sector_of (disk_of c) (body_start seal + k)) read
           ∙ next.its_body k within;
       in_place = λ is. ap (sector_of (disk_of (image target))) is ∙ stands;
     })).this refl;
@@ -90,8 +91,8 @@ module _ (law : ACrashLeavesEither) (devices : ℕ) (table : Table) (puts : Cont
       read : before target ≡ reads target
       read = is_read devices table puts reads X whole before image from alive target counted live
 
-      in_body : (k : ℕ) → body_start seal.number + k ≢ seal_place seal.number
-      in_body k same = absurd (omega (arith, same))
+      apart_from_seal : (k : ℕ) → body_start seal + k ≢ seal_place seal.number
+      apart_from_seal k same = seal_before seal seal.number (body_start seal + k) (omega arith) same
 
   -- so it is the one or the other
   pub sealed_or_same : SayTheSame devices table image before ⊎ StandsSealed devices table target seal body before image

@@ -7,8 +7,7 @@ use Rattle.sector_model.specs.Moments.{Contents, Throughout}
 use Rattle.sector_model.specs.Readable.{readable}
 use Rattle.sector_model.proofs.Readable.{readable_up}
 use Rattle.sector_model.proofs.Steps.{throughout_last, up_seen}
-use Rattle.layout_map.specs.Formats.{journal_sectors}
-use Rattle.layout_map.specs.declared.sizes.TheConstants.{BODY_SECTORS}
+use Rattle.layout_map.specs.Formats.{body_sectors, journal_sectors}
 use Rattle.superblock.proofs.LeastSectors.{journal_least}
 use Rattle.superblock.specs.declared.table.Table.{Table}
 use Rattle.superblock.specs.Cases.{Lost}
@@ -16,6 +15,8 @@ use Rattle.superblock.specs.Counted.{Content, IsLive}
 use Rattle.stripe_journal.specs.declared.seal.Seal.{Seal}
 use Rattle.stripe_journal.specs.Body.{seal_place}
 use Rattle.stripe_journal.specs.Entries.{body_start}
+use Rattle.stripe_journal.specs.Forms.{format_of}
+use Rattle.stripe_journal.proofs.Halves.{start_least}
 use Rattle.stripe_journal.specs.LastEntry.{IsGreatest}
 use Rattle.stripe_journal.specs.OneEntry.{ACrashLeavesEither, HasEntryBefore, HasThisEntry, IsInHalf, IsNextOn, IsOn, MayStandOn, Sealed, Sealing, Staged}
 use Rattle.stripe_journal.specs.OneEntry.{StaysOff, Writing}
@@ -41,7 +42,7 @@ MayPut table h journal seal = IsNextOn table.id table.geometry (seen h journal) 
 -- its body stands there
 pub record HasBody (table : Table) (h : History) (journal : ℕ) (seal : Seal) (body : List Bytes) : Type 0 where
   pub next : MayPut table h journal seal
-  pub stands : (k : ℕ) → k < length body → sector_of (seen h journal) (body_start seal.number + k) ≡ slice_index_or body k []
+  pub stands : (k : ℕ) → k < length body → sector_of (seen h journal) (body_start seal + k) ≡ slice_index_or body k []
 
 -- the entry is its last
 abbrev pub HasIt : Table → History → ℕ → Seal → List Bytes → Type 0
@@ -72,12 +73,17 @@ journal_long table journal disk devices beyond live = omega (arith, journal_leas
 
 module _ (law : ACrashLeavesEither) (spellings : Spellings) (devices : ℕ) (base table : Table) (lost : Option Lost) (X : List (List Bytes)) (journal : ℕ)
     (seal : Seal) (body : List Bytes)
-    (beyond : table.geometry.members ≤ journal) (counted : CountsOn table journal) (few : length body ≤ BODY_SECTORS) (answered : Bool) (old new : History)
+    (beyond : table.geometry.members ≤ journal) (counted : CountsOn table journal) (few : length body ≤ body_sectors (format_of seal.form))
+    (answered : Bool) (old new : History)
     (from : WritesFrom devices base table lost X old) where
   room : is_down old journal ≡ false → journal_sectors table.geometry.format ≤ length (seen old journal)
   room up = journal_long table journal (seen old journal) devices beyond
       (subst (IsLive devices table journal) (read_is_seen spellings devices base table lost X old from journal counted)
       (from.there journal counted.of_set counted.there))
+
+  -- the same by the format of the entry's form
+  room_of : format_of seal.form ≡ table.geometry.format → is_down old journal ≡ false → journal_sectors (format_of seal.form) ≤ length (seen old journal)
+  room_of format up = omega (arith, ap journal_sectors format, room up)
 
   was_up : is_down old journal ≡ false
   was_up = counted_is_up spellings devices base table lost X old from journal counted
@@ -91,37 +97,37 @@ module _ (law : ACrashLeavesEither) (spellings : Spellings) (devices : ℕ) (bas
   -- the body
 
   abbrev PutsBody : Contents
-  PutsBody device at value = (device ≡ journal) × IsInHalf seal.number at
+  PutsBody device at value = (device ≡ journal) × IsInHalf seal at
 
-  body_allowed : (at : ℕ) (values : List Bytes) → body_start seal.number ≤ at → at + length values ≤ body_start seal.number + BODY_SECTORS
+  body_allowed : (at : ℕ) (values : List Bytes) → body_start seal ≤ at → at + length values ≤ body_start seal + body_sectors (format_of seal.form)
       → AllAllowed table PutsBody (writes_from journal at values ++ Flush journal ∷ [])
   body_allowed at [] least most = (counted, tt)
   body_allowed at (value ∷ values) least most = (
-    (counted, omega (arith, least), (refl, (least, omega (arith, most)))),
+    (counted, omega (arith, least, start_least seal), (refl, (least, omega (arith, most)))),
     body_allowed (at + 1) values (omega (arith, least)) (omega (arith, most)),
   )
 
   body_keeps : MayPut table old journal seal → KeepsRows devices table PutsBody (readable old) X X
   body_keeps next whole before image written = half_keeps devices table PutsBody (readable old) X whole before image written
-      (written_alive devices table PutsBody before image written.put) journal seal.number beyond (λ device at value put. put)
+      (written_alive devices table PutsBody before image written.put) journal seal next.belongs.of_format beyond (λ device at value put. put)
       (λ last is. other_half table.id table.geometry (seen old journal) seal last next
       (subst (λ (c : Content). IsGreatest table.id table.geometry c last) (read_is_seen spellings devices base table lost X old from journal counted) is))
 
-  body_writes : Made (writes_from journal (body_start seal.number) body ++ Flush journal ∷ []) answered old new
+  body_writes : Made (writes_from journal (body_start seal) body ++ Flush journal ∷ []) answered old new
       → Throughout (IsWriting table PutsBody old) old new
-  body_writes made = calls_write table PutsBody (writes_from journal (body_start seal.number) body ++ Flush journal ∷ [])
-      (body_allowed (body_start seal.number) body (omega arith) (omega (arith, few))) made
+  body_writes made = calls_write table PutsBody (writes_from journal (body_start seal) body ++ Flush journal ∷ [])
+      (body_allowed (body_start seal) body (omega arith) (omega (arith, few))) made
 
   -- Where the journal's device failed meanwhile, only that did.
-  pub body_failed : MayPut table old journal seal → Made (writes_from journal (body_start seal.number) body ++ Flush journal ∷ []) answered old new
+  pub body_failed : MayPut table old journal seal → Made (writes_from journal (body_start seal) body ++ Flush journal ∷ []) answered old new
       → is_down new journal ≡ true → HasFailedOnce devices base table lost X journal new
   body_failed next made failed =
-      let put = body_put journal (seen old journal) seal body table.geometry.format old new few room (writing_before journal seal body old single) made in
+      let put = body_put journal (seen old journal) seal body old new few (room_of next.belongs.of_format) (writing_before journal seal body old single) made in
       (failed_in_step spellings devices base table lost X X PutsBody journal old new from (body_keeps next) (body_writes made) (throughout_last new put.0).1
       counted failed).0
 
   -- The body comes onto the journal: every case keeps holding, and at its end the body stands.
-  pub body_step : MayPut table old journal seal → Made (writes_from journal (body_start seal.number) body ++ Flush journal ∷ []) answered old new
+  pub body_step : MayPut table old journal seal → Made (writes_from journal (body_start seal) body ++ Flush journal ∷ []) answered old new
       → HoldsThroughout base devices lost X old new × (answered ≡ true → IsStepOf devices base table lost X journal old new
       × HasBody table new journal seal body)
   body_step next made = (
@@ -134,10 +140,10 @@ module _ (law : ACrashLeavesEither) (spellings : Spellings) (devices : ℕ) (bas
 
       put : Throughout (λ h. IsOn journal (seen old journal) seal body Writing h × StaysOff (λ d. d ≡ journal) old h) old new
           × (answered ≡ true → IsPutOn journal (seen old journal) seal body Staged new)
-      put = body_put journal (seen old journal) seal body table.geometry.format old new few room (writing_before journal seal body old single) made
+      put = body_put journal (seen old journal) seal body old new few (room_of next.belongs.of_format) (writing_before journal seal body old single) made
 
       down : answered ≡ true → (d : ℕ) → is_down new d ≡ is_down old d
-      down all = made_down (subst (λ (b : Bool). Made (writes_from journal (body_start seal.number) body ++ Flush journal ∷ []) b old new) all made)
+      down all = made_down (subst (λ (b : Bool). Made (writes_from journal (body_start seal) body ++ Flush journal ∷ []) b old new) all made)
 
       off : StaysOff (λ d. d ≡ journal) old new
       off = (throughout_last new put.0).1
@@ -166,7 +172,7 @@ module _ (law : ACrashLeavesEither) (spellings : Spellings) (devices : ℕ) (bas
               number =
                   next.number;
             };
-            stands = λ k within. (on_it all (body_start seal.number + k)).in_half (λ is. absurd (differ is)) k within refl;
+            stands = λ k within. (on_it all (body_start seal + k)).in_half (λ is. absurd (differ is)) k within refl;
           }
         where
           differ : ¬ (Staged ≡ Writing)
@@ -196,7 +202,7 @@ module _ (law : ACrashLeavesEither) (spellings : Spellings) (devices : ℕ) (bas
       → Made (Write journal (seal_place seal.number) (seal_sector seal) ∷ Flush journal ∷ []) answered old new → is_down new journal ≡ true
       → HasFailedOnce devices base table lost X' journal new
   seal_failed X' has keeps made failed =
-      let put = seal_put journal (seen old journal) seal body table.geometry.format old new room (staged_on has) made in
+      let put = seal_put journal (seen old journal) seal body old new (room_of has.next.belongs.of_format) (staged_on has) made in
       (failed_in_step spellings devices base table lost X X' PutsSeal journal old new from keeps (seal_writes made) (throughout_last new put.0).1 counted
       failed).0
 
@@ -215,7 +221,7 @@ module _ (law : ACrashLeavesEither) (spellings : Spellings) (devices : ℕ) (bas
 
       put : Throughout (λ h. IsOn journal (seen old journal) seal body Sealing h × StaysOff (λ d. d ≡ journal) old h) old new
           × (answered ≡ true → IsPutOn journal (seen old journal) seal body Sealed new)
-      put = seal_put journal (seen old journal) seal body table.geometry.format old new room (staged_on has) made
+      put = seal_put journal (seen old journal) seal body old new (room_of has.next.belongs.of_format) (staged_on has) made
 
       down : answered ≡ true → (d : ℕ) → is_down new d ≡ is_down old d
       down all = made_down (subst (λ (b : Bool). Made (Write journal (seal_place seal.number) (seal_sector seal) ∷ Flush journal ∷ []) b old new) all made)

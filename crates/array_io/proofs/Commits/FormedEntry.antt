@@ -12,7 +12,7 @@ use Rattle.layout_map.specs.declared.sizes.TheConstants.{MOST_MEMBERS}
 use Rattle.parity.specs.Xor.{IsSoundRow}
 use Rattle.stripe_journal.specs.declared.entry.Entry.{Entry}
 use Rattle.stripe_journal.specs.Entries.{body_of, form_of, numbers_of, row_mask}
-use Rattle.stripe_journal.specs.Forms.{has_bit, holds, rank}
+use Rattle.stripe_journal.specs.Forms.{has_bit, in_body, rank}
 use Rattle.stripe_journal.specs.Seals.{row_at}
 use Rattle.stripe_journal.proofs.Entries.{body_at}
 use Rattle.degraded.specs.RowValue.{AreSound, Rows, logical_list, row_values, value}
@@ -54,7 +54,7 @@ value_at members base entry i member below within =
 
 -- the entry's stand in its body one after another
 pub body_is : (members : ℕ) (base : Rows) (entry : Entry) (i member : ℕ) → members ≤ MOST_MEMBERS → i < length (numbers_of entry) → member < members
-    → holds members (form_of entry) i member ≡ true
+    → in_body members (form_of entry) i member ≡ true
     → slice_index_or (body_of members entry) (rank members (form_of entry) i member) [] ≡ slice_index_or (slice_index_or (values_of members base entry) i [])
     member []
 body_is members base entry i member few below within held =
@@ -63,7 +63,7 @@ body_is members base entry i member few below within held =
 
 -- and the others are as they were
 pub kept : (members : ℕ) (base : Rows) (entry : Entry) (i member : ℕ) → base.members ≡ members → i < length (numbers_of entry) → member < members
-    → holds members (form_of entry) i member ≡ false → slice_index_or (slice_index_or (values_of members base entry) i []) member [] ≡ value base
+    → in_body members (form_of entry) i member ≡ false → slice_index_or (slice_index_or (values_of members base entry) i []) member [] ≡ value base
     (row_at (numbers_of entry) i) member
 kept members base entry i member width below within lacking =
     value_at members base entry i member below within

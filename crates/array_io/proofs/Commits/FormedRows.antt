@@ -249,7 +249,8 @@ value_beside geometry base after seal values takes sound row member below within
   where
     no_entry : (m : ℕ) → m < geometry.members → after.entry row m ≡ None
     no_entry m inside = takes.entry row m below inside
-        ∙ ap (option_and_then (λ (n : ℕ). if holds geometry.members seal.form n m then Some (slice_index_or (slice_index_or values n []) m []) else None)) none
+        ∙ ap (option_and_then (λ (n : ℕ). if holds geometry.members seal.form n m then Some (slice_index_or
+        (slice_index_or values n []) m []) else None)) none
 
 -- the rows with the entry are sound
 sound_formed : (geometry : Geometry) (base after : Rows) (sectors : List (ℕ × Bytes)) (seal : Seal) (values : List (List Bytes))

@@ -1,6 +1,6 @@
 -- An entry that is safe on the journals, and whose rows stand on all members that count, says what those hold.
-use Rattle.std.proofs.Common.{◌≡◌, ℕ, ◌+◌, ◌<◌, true, List, Option, Some, None, refl, sym, ◌∙◌, ap, subst, arith}
-use Rattle.std.specs.Prelude.{option_map}
+use Rattle.std.proofs.Common.{◌≡◌, ℕ, ◌+◌, ◌<◌, Bool, true, false, List, [], length, Option, Some, None, refl, sym, ◌∙◌, ap, subst, arith}
+use Rattle.std.specs.Prelude.{slice_index_or}
 use Rattle.std.proofs.lemmas.Option.{none-some, same_Some}
 use Rattle.sector_model.specs.History.{Bytes, History, disk_of, sector_of, seen}
 use Rattle.sector_model.specs.Readable.{readable}
@@ -13,22 +13,24 @@ use Rattle.superblock.specs.Counted.{Content}
 use Rattle.superblock.specs.Losses.{IsSingleFailure}
 use Rattle.superblock.specs.NextTables.{slots_of}
 use Rattle.stripe_journal.specs.declared.seal.Seal.{Seal}
-use Rattle.stripe_journal.specs.Body.{place_by_seal}
-use Rattle.stripe_journal.specs.Forms.{rank}
+use Rattle.stripe_journal.specs.Body.{place_in}
+use Rattle.stripe_journal.specs.Forms.{holds, rows_in}
+use Rattle.stripe_journal.specs.Entries.{body_start}
 use Rattle.stripe_journal.specs.LastEntry.{IsLastSealed, sector_in}
-use Rattle.stripe_journal.proofs.Bodies.{is_placed}
+use Rattle.stripe_journal.proofs.EntrySectors.{sector_lacking, sector_of_no_row}
+use Rattle.stripe_journal.proofs.Places.{row_of_place}
 use Rattle.array_io.specs.Steps.Bringing.{CountsOn}
 use Rattle.array_io.specs.Steps.EntryAtRest.{HasEntryAtRest}
 use Rattle.array_io.specs.Believed.Holds.{HoldsIn, IsLiveJournal}
 use Rattle.array_io.specs.Believed.Settled.{trusts}
 use Rattle.array_io.proofs.Rest.AtRestRows.{trusts_tells}
 use Rattle.array_io.proofs.Images.EntryByRows.{HaveOwnSectors, entry_at_rest_in_case}
-use Rattle.array_io.proofs.Commits.EntryCopied.{in_the_body}
+use Rattle.array_io.proofs.Commits.HeldSectors.{sector_of_held}
 use Rattle.array_io.proofs.Commits.EntrySteps.{read_is_seen}
 use Rattle.array_io.proofs.Rest.LastAtRest.{HasOneLast}
 use Rattle.array_io.proofs.Images.LossBefore.{by_table}
 use Rattle.array_io.proofs.Images.Spellings.{Spellings}
-use Rattle.array_io.specs.Steps.Putting.{IsPut, IsPutBefore, PutsFrom}
+use Rattle.array_io.specs.Steps.Putting.{IsPut, IsPutBefore, PutsFrom, held_sector}
 
 -- Once the rows stand on all members that count, those hold what the entry says.
 module _ (spellings : Spellings) (seal : Seal) (body : List Bytes) (from : PutsFrom) (table : Table) (h : History)
@@ -49,40 +51,46 @@ module _ (spellings : Spellings) (seal : Seal) (body : List Bytes) (from : PutsF
     there = is.writes.there;
   }
 
-  -- its sector of a row is the member's own, where the table trusts it
-  of_place : (journal : ℕ) → IsLiveJournal from.devices table (readable h) journal → (row member place : ℕ) → member < table.geometry.members
-      → trusts (state_at table.states member) row table.position ≡ true → place_by_seal table.geometry.members seal row member ≡ Some place
-      → sector_of (disk_of (readable h journal)) place ≡ sector_of (disk_of (readable h member)) (FIRST_ROW + row)
-  of_place journal live row member place within trusted found =
-      let members = table.geometry.members in
-      let on = on_journal journal live in
+  -- a sector that it holds is the member's own, where the table trusts it
+  of_held : (row i member : ℕ) → member < table.geometry.members → trusts (state_at table.states member) row table.position ≡ true
+      → place_in (rows_in seal.form) row ≡ Some i → holds table.geometry.members seal.form i member ≡ true
+      → held_sector table.geometry.members seal body i member ≡ sector_of (disk_of (readable h member)) (FIRST_ROW + row)
+  of_held row i member within trusted there held =
       let counts : CountsOn table member = record {
         of_set = omega (arith, within);
         there =
             ((trusts_tells (state_at table.states member) row table.position).0 trusted).there;
       } in
-      let at = is_placed members seal row member place found in
-      ap (λ (c : Content). sector_of (disk_of c) place) (read journal on)
-      ∙ ap (sector_of (seen h journal)) at.place_is
-      ∙ (is.on_journals journal live.beyond_members on).has_body (rank members seal.form at.i member)
-      (in_the_body members seal body at.i member is.long at.within within at.held)
-      ∙ sym (is.on_members member at.i within within at.within at.held
-      (subst (λ (r : ℕ). trusts (state_at table.states member) r table.position ≡ true) (sym at.row_is) trusted))
-      ∙ ap (λ (r : ℕ). sector_of (seen h member) (FIRST_ROW + r)) at.row_is
+      let at = row_of_place (rows_in seal.form) row i there in
+      sym (is.on_members member i within within at.0 held
+      (subst (λ (r : ℕ). trusts (state_at table.states member) r table.position ≡ true) (sym at.1) trusted))
+      ∙ ap (λ (r : ℕ). sector_of (seen h member) (FIRST_ROW + r)) at.1
       ∙ sym (ap (λ (c : Content). sector_of (disk_of c) (FIRST_ROW + row)) (read member counts))
 
   owns : HaveOwnSectors from.devices table (readable h) (Some seal)
-  owns journal other live one row member sector below within trusted has = by_place (place_by_seal table.geometry.members seal row member) refl
+  owns journal other live one row member sector below within trusted has = by_place (place_in (rows_in seal.form) row) refl
     where
       has_it : sector_in table.geometry.members (readable h journal) seal row member ≡ Some sector
       has_it = subst (λ (s : Seal). sector_in table.geometry.members (readable h journal) s row member ≡ Some sector) (sym (same_Some seal other one)) has
 
-      by_place : (place : Option ℕ) → place_by_seal table.geometry.members seal row member ≡ place
+      stands : (k : ℕ) → k < length body → sector_of (disk_of (readable h journal)) (body_start seal + k) ≡ slice_index_or body k []
+      stands k inside =
+          let on = on_journal journal live in
+          ap (λ (c : Content). sector_of (disk_of c) (body_start seal + k)) (read journal on)
+          ∙ (is.on_journals journal live.beyond_members on).has_body k inside
+
+      by_held : (i : ℕ) (b : Bool) → place_in (rows_in seal.form) row ≡ Some i → holds table.geometry.members seal.form i member ≡ b
           → sector ≡ sector_of (disk_of (readable h member)) (FIRST_ROW + row)
-      by_place None none = absurd (none-some sector (sym (ap (option_map (sector_of (disk_of (readable h journal)))) none) ∙ has_it))
-      by_place (Some place) found =
-          same_Some sector (sector_of (disk_of (readable h journal)) place) (sym has_it ∙ ap (option_map (sector_of (disk_of (readable h journal)))) found)
-          ∙ of_place journal live row member place within trusted found
+      by_held i true there held =
+          same_Some sector (held_sector table.geometry.members seal body i member) (sym has_it
+          ∙ sector_of_held table.geometry.members (readable h journal) seal body row i member is.long stands there within held)
+          ∙ of_held row i member within trusted there held
+      by_held i false there lacking =
+          absurd (none-some sector (sym (sector_lacking table.geometry.members (readable h journal) seal row i member there lacking) ∙ has_it))
+
+      by_place : (place : Option ℕ) → place_in (rows_in seal.form) row ≡ place → sector ≡ sector_of (disk_of (readable h member)) (FIRST_ROW + row)
+      by_place None none = absurd (none-some sector (sym (sector_of_no_row table.geometry.members (readable h journal) seal row member none) ∙ has_it))
+      by_place (Some i) there = by_held i (holds table.geometry.members seal.form i member) there refl
 
   -- what reads give is an image that a crash may leave, so it holds
   holds_now : HoldsIn from.devices table from.lists (readable h)

@@ -9,24 +9,26 @@ use Rattle.sector_model.specs.History.{Bytes, History, disk_of, is_down, seen, s
 use Rattle.sector_model.specs.Moments.{Contents}
 use Rattle.sector_model.specs.Readable.{readable}
 use Rattle.sector_model.proofs.Steps.{up_seen}
-use Rattle.layout_map.specs.declared.sizes.TheConstants.{BODY_SECTORS, FIRST_ROW}
+use Rattle.layout_map.specs.declared.sizes.TheConstants.{FIRST_ROW}
+use Rattle.layout_map.specs.declared.format.Format.{Format}
+use Rattle.layout_map.specs.Formats.{body_sectors}
 use Rattle.superblock.specs.declared.table.Table.{Table}
 use Rattle.superblock.specs.Tables.{state_at}
 use Rattle.superblock.specs.Counted.{Content}
 use Rattle.stripe_journal.specs.declared.seal.Seal.{Seal}
 use Rattle.stripe_journal.specs.Body.{seal_place}
-use Rattle.stripe_journal.specs.Entries.{body_start}
-use Rattle.stripe_journal.specs.Forms.{holds, rows_in}
+use Rattle.stripe_journal.specs.Entries.{body_start, half_start}
+use Rattle.stripe_journal.specs.Forms.{format_of, holds, rows_in}
 use Rattle.stripe_journal.specs.LastEntry.{IsGreatest}
 use Rattle.stripe_journal.specs.OneEntry.{ACrashLeavesEither, HasThisEntry, IsNextOn, StaysOff}
 use Rattle.stripe_journal.specs.Seals.{row_at}
 use Rattle.stripe_journal.specs.Spelling.{seal_sector}
-use Rattle.stripe_journal.proofs.Masks.{before_few}
+use Rattle.stripe_journal.proofs.HeldRuns.{body_few}
 use Rattle.array_io.specs.Believed.Settled.{trusts}
 use Rattle.array_io.specs.Believed.Moments.{HoldsThroughout}
 use Rattle.array_io.specs.Steps.Bringing.{CountsOn}
 use Rattle.array_io.specs.Steps.Putting.{Awaited, Copied, Formed, HasBody, HasOrigin, HasSeal, HasSource, IsAt, IsComing, IsFormedOn, IsPutBefore, MayWrite}
-use Rattle.array_io.specs.Steps.Putting.{Origin, Progress, PutsFrom, in_body, reached}
+use Rattle.array_io.specs.Steps.Putting.{Origin, Progress, PutsFrom, held_sector, reached}
 use Rattle.array_io.specs.Steps.PuttingRows.{HeldRows, IsRowOn, LeavesSeen, PutsMember, is_put}
 use Rattle.array_io.specs.Steps.Writing.{HasFailedOnce}
 use Rattle.array_io.specs.Believed.Holds.{IsLiveJournal}
@@ -92,7 +94,7 @@ module _ (spellings : Spellings) (seal : Seal) (body : List Bytes) (from : PutsF
   committed target list_then formed = record {
     formed = formed.formed;
     long = is.long;
-    body_is = formed.body_is;
+    held = formed.held;
     kept = formed.kept;
     width = formed.width;
     bare = formed.bare;
@@ -116,12 +118,8 @@ module _ (spellings : Spellings) (seal : Seal) (body : List Bytes) (from : PutsF
   module _ (law : ACrashLeavesEither) (origin : Origin) (journals : ℕ → Progress) (beyond : table.geometry.members ≤ slot)
       (is : IsComing origin seal body journals from table old) where
     -- the body is one of a journal
-    few : length body ≤ BODY_SECTORS
-    few = omega (
-      arith,
-      is.long,
-      before_few table.geometry.members seal.form (length (rows_in seal.form)) table.geometry.limits.members_most seal.allowed.rows_most,
-    )
+    few : length body ≤ body_sectors (format_of seal.form)
+    few = omega (arith, is.long, body_few table.geometry.members seal.form table.geometry.limits.members_most seal.formed)
 
     read : (k : ℕ) → CountsOn table k → readable old k ≡ Some (seen old k)
     read = read_there spellings seal body from table old origin journals is
@@ -147,10 +145,13 @@ module _ (spellings : Spellings) (seal : Seal) (body : List Bytes) (from : PutsF
           (λ on. absurd (marked_out spellings from slot table new_table old mid new counted off.others_seen marked writes on))
 
     -- the body
-    pub body_part : journals slot ≡ Awaited → Made (writes_from slot (body_start seal.number) body ++ Flush slot ∷ []) answered old mid
+    pub body_part : journals slot ≡ Awaited
+        → Made (writes_from slot (half_start table.geometry.format seal.number) body ++ Flush slot ∷ []) answered old mid
         → IsPartOf (IsComing origin seal body (reached journals slot HasBody)) from slot table old mid answered
-    body_part awaited made =
+    body_part awaited written =
         let next = stands Awaited awaited in
+        let made = subst (λ (f : Format). Made (writes_from slot (half_start f seal.number) body ++ Flush slot ∷ []) answered old mid)
+        (sym next.belongs.of_format) written in
         let no_source : journals slot ≢ HasSeal = λ sealed. sealed_not_awaited (sym awaited ∙ sealed) in
         let step = body_step law spellings from.devices from.base table from.lost from.lists slot seal body beyond counted few answered old mid is.writes next
         made in
@@ -174,7 +175,7 @@ module _ (spellings : Spellings) (seal : Seal) (body : List Bytes) (from : PutsF
         beyond = beyond;
         of_set = counted.of_set;
         next = subst (λ (c : Content). IsNextOn table.id table.geometry (disk_of c) seal) (sym (read slot counted)) (stands HasBody staged).0;
-        its_body = λ k within. ap (λ (c : Content). sector_of (disk_of c) (body_start seal.number + k)) (read slot counted)
+        its_body = λ k within. ap (λ (c : Content). sector_of (disk_of c) (body_start seal + k)) (read slot counted)
             ∙ (stands HasBody staged).1.stands k within;
       }
 
@@ -188,7 +189,7 @@ module _ (spellings : Spellings) (seal : Seal) (body : List Bytes) (from : PutsF
             counted = has.counted;
             says = subst (λ (c : Content). IsGreatest table.id table.geometry c seal) (sym (read has.source has.counted)) there.last;
             long = is.long;
-            same_body = λ k within. ap (λ (c : Content). sector_of (disk_of c) (body_start seal.number + k)) (read has.source has.counted)
+            same_body = λ k within. ap (λ (c : Content). sector_of (disk_of c) (body_start seal + k)) (read has.source has.counted)
                 ∙ there.has_body k within;
           }
 
@@ -226,7 +227,7 @@ module _ (spellings : Spellings) (seal : Seal) (body : List Bytes) (from : PutsF
   module _ (within : slot < table.geometry.members) (of : HeldRows) (rows_are : of.rows ≡ rows_in seal.form)
       (held_are : (i : ℕ) → i < length (rows_in seal.form) → of.held i slot ≡ holds table.geometry.members seal.form i slot)
       (values_are : (i : ℕ) → i < length (rows_in seal.form) → holds table.geometry.members seal.form i slot ≡ true
-      → of.values i slot ≡ in_body table.geometry.members seal body i slot)
+      → of.values i slot ≡ held_sector table.geometry.members seal body i slot)
       (is : IsPutBefore slot seal body from table old) (honest : Type 0) (fair : honest) (old_panel mid_panel : Panel) (result : Result (Unit {0}) Stop)
       (puts : PutsMember honest table of slot old_panel mid_panel old mid result) where
     abbrev PutsRows : Contents

@@ -11,19 +11,19 @@ use Rattle.layout_map.specs.declared.sizes.TheConstants.{FIRST_ROW, FIRST_SEAL, 
 use Rattle.superblock.specs.declared.table.Table.{Table}
 use Rattle.superblock.specs.Tables.{state_at}
 use Rattle.stripe_journal.specs.declared.seal.Seal.{Seal}
-use Rattle.stripe_journal.specs.Body.{place_by_seal}
 use Rattle.stripe_journal.specs.Entries.{body_start}
 use Rattle.stripe_journal.specs.Forms.{holds, rows_in}
 use Rattle.stripe_journal.specs.OneEntry.{HasThisEntry, IsNextOn}
 use Rattle.stripe_journal.specs.Seals.{row_at}
 use Rattle.degraded.specs.RowValue.{AreSound, logical_list, value}
+use Rattle.stripe_journal.proofs.Halves.{start_least}
 use Rattle.array_io.specs.Believed.ArrayCalls.{written}
 use Rattle.array_io.specs.Believed.Holds.{row_count}
 use Rattle.array_io.specs.Believed.Settled.{trusts}
 use Rattle.array_io.specs.Steps.Bringing.{CountsOn}
 use Rattle.array_io.specs.Steps.Forming.{IsFormed}
 use Rattle.array_io.specs.Steps.Putting.{Awaited, Copied, Formed, HasBody, HasOrigin, HasSeal, HasSource, IsAt, IsBodyLong, IsComing, IsFormedOn, IsPutBefore}
-use Rattle.array_io.specs.Steps.Putting.{MayWrite, Origin, Progress, PutsFrom, StandsBody, in_body, reached}
+use Rattle.array_io.specs.Steps.Putting.{MayWrite, Origin, Progress, PutsFrom, StandsBody, LacksSector, held_sector, reached}
 use Rattle.array_io.proofs.Rest.AtRestRows.{trusts_tells}
 use Rattle.array_io.proofs.Laws.Beginning.{live_is_up}
 use Rattle.array_io.proofs.Commits.EntryCarried.{CountsOnNoMore, counts_on_the_same, marked_goes_on}
@@ -69,7 +69,7 @@ module _ (old_table new_table : Table) (old new : History) (journal : ℕ) (seal
       }
 
   body_beyond : StandsBody old journal seal body → StandsBody new journal seal body
-  body_beyond stood = record { stands = λ k within. same (body_start seal.number + k) (omega arith) ∙ stood.stands k within }
+  body_beyond stood = record { stands = λ k within. same (body_start seal + k) (omega (arith, start_least seal)) ∙ stood.stands k within }
 
   pub entry_beyond : HasThisEntry old_table.id old_table.geometry (seen old journal) seal body
       → HasThisEntry new_table.id new_table.geometry (seen new journal) seal body
@@ -79,7 +79,7 @@ module _ (old_table new_table : Table) (old new : History) (journal : ℕ) (seal
       here = record {
         last = same_greatest old_table.id old_table.geometry (Some (seen new journal)) (Some (seen old journal))
             (λ place below. same (FIRST_SEAL + place) (omega arith)) seal has.last;
-        has_body = λ k within. same (body_start seal.number + k) (omega arith) ∙ has.has_body k within;
+        has_body = λ k within. same (body_start seal + k) (omega (arith, start_least seal)) ∙ has.has_body k within;
       }
 
   at_beyond : (progress : Progress) → IsAt progress old_table old journal seal body → IsAt progress new_table new journal seal body
@@ -157,8 +157,8 @@ module _ (slot : ℕ) (seal : Seal) (body : List Bytes) (from : PutsFrom) (table
     gives = ap (λ (g : Geometry). written (logical_list g is.rows) is.sectors) beside.goes.same_geometry ∙ is.gives;
     among = is.among;
     formed = subst (λ (g : Geometry). IsFormed g is.rows is.sectors (rows_in seal.form) is.values) (sym beside.goes.same_geometry) is.formed;
-    body_is = subst (λ (n : ℕ). (i member : ℕ) → i < length (rows_in seal.form) → member < n → holds n seal.form i member ≡ true
-        → in_body n seal body i member ≡ slice_index_or (slice_index_or is.values i []) member []) (sym members_are) is.body_is;
+    held = subst (λ (n : ℕ). (i member : ℕ) → i < length (rows_in seal.form) → member < n → holds n seal.form i member ≡ true
+        → held_sector n seal body i member ≡ slice_index_or (slice_index_or is.values i []) member []) (sym members_are) is.held;
     kept = subst (λ (n : ℕ). (i member : ℕ) → i < length (rows_in seal.form) → member < n → holds n seal.form i member ≡ false
         → slice_index_or (slice_index_or is.values i []) member [] ≡ value is.rows (row_at (rows_in seal.form) i) member) (sym members_are) is.kept;
     width = is.width ∙ sym members_are;
@@ -170,7 +170,7 @@ module _ (slot : ℕ) (seal : Seal) (body : List Bytes) (from : PutsFrom) (table
         beside.same member (FIRST_ROW + row) (λ same. absurd (omega (arith, same, is_journal, was_within member within)))
         (trusted_counts row member within trusted) (omega arith)
         ∙ is.own row member (was_below row below) (was_within member within) (beside.goes.trusts_it row member within trusted)
-        (subst (λ (n : ℕ). place_by_seal n seal row member ≡ None) members_are none);
+        (subst (λ (n : ℕ). LacksSector n seal row member) members_are none);
     whole_sectors = λ row member below within trusted. is.whole_sectors row member (was_below row below) (was_within member within) trusted;
   }
     where
@@ -216,7 +216,7 @@ module _ (slot : ℕ) (seal : Seal) (body : List Bytes) (from : PutsFrom) (table
   pub put_still : (n n' : ℕ) → IsPutBefore n seal body from table old → slot < table.geometry.members → ((k : ℕ) → k ≢ slot → k < n' → k < n)
       → (CountsOn new_table slot → (i : ℕ) → i < length (rows_in seal.form) → holds new_table.geometry.members seal.form i slot ≡ true
       → trusts (state_at new_table.states slot) (row_at (rows_in seal.form) i) new_table.position ≡ true
-      → sector_of (seen new slot) (FIRST_ROW + row_at (rows_in seal.form) i) ≡ in_body new_table.geometry.members seal body i slot)
+      → sector_of (seen new slot) (FIRST_ROW + row_at (rows_in seal.form) i) ≡ held_sector new_table.geometry.members seal body i slot)
       → IsPutBefore n' seal body from new_table new
   put_still n n' is is_member fewer here = record {
     writes = writes;
@@ -226,7 +226,7 @@ module _ (slot : ℕ) (seal : Seal) (body : List Bytes) (from : PutsFrom) (table
         (λ at. beside.same journal at (λ same. absurd (omega (arith, same, is_member, beyond_then journal beyond))) counted)
         (is.on_journals journal (beyond_then journal beyond) (beside.goes.counts journal counted));
     on_members = λ member i below within inside held trusted. elim (cases_eq member slot) [
-      | inl same ↦ subst (λ (k : ℕ). sector_of (seen new k) (FIRST_ROW + row_at (rows_in seal.form) i) ≡ in_body new_table.geometry.members seal body i k)
+      | inl same ↦ subst (λ (k : ℕ). sector_of (seen new k) (FIRST_ROW + row_at (rows_in seal.form) i) ≡ held_sector new_table.geometry.members seal body i k)
           (sym same)
           (here (subst (CountsOn new_table) same (trusted_counts (row_at (rows_in seal.form) i) member within trusted)) i inside
           (subst (λ (k : ℕ). holds new_table.geometry.members seal.form i k ≡ true) same held)
@@ -237,6 +237,6 @@ module _ (slot : ℕ) (seal : Seal) (body : List Bytes) (from : PutsFrom) (table
           ∙ is.on_members member i (fewer member apart below) (subst (λ (n : ℕ). member < n) members_are within) inside
           (subst (λ (n : ℕ). holds n seal.form i member ≡ true) members_are held)
           (beside.goes.trusts_it (row_at (rows_in seal.form) i) member within trusted)
-          ∙ ap (λ (m : ℕ). in_body m seal body i member) (sym members_are)
+          ∙ ap (λ (m : ℕ). held_sector m seal body i member) (sym members_are)
     ];
   }

@@ -1,7 +1,7 @@
 -- The calls that put a part of an entry on one slot, and what is made of their end, as steps.
-use Rattle.std.proofs.Common.{◌≡◌, ◌≢◌, ◌⊎◌, inl, inr, ℕ, ◌+◌, ◌<◌, ◌≤◌, Bool, true, false, List, [], ◌∷◌, ◌++◌, length, Ok, Err, Result, refl, sym, ◌∙◌, ap}
-use Rattle.std.proofs.Common.{subst, arith}
-use Rattle.std.specs.Prelude.{IfErr, is_ok, slice_index_or}
+use Rattle.std.proofs.Common.{◌≡◌, ◌≢◌, ◌⊎◌, inl, inr, ℕ, ◌+◌, ◌<◌, ◌≤◌, Bool, true, false, cond, List, [], ◌∷◌, ◌++◌, length, Ok, Err, Result, refl, sym, ◌∙◌}
+use Rattle.std.proofs.Common.{ap, subst, arith}
+use Rattle.std.specs.Prelude.{IfErr, is_ok, replicate, slice_index_or}
 use Rattle.std.proofs.lemmas.Bool.{cases_eq}
 use Rattle.sector_model.specs.declared.refusal.Refusal.{Refusal}
 use Rattle.sector_model.specs.declared.refusal.Refusal.TheVariants.{Worn}
@@ -19,9 +19,10 @@ use Rattle.superblock.specs.Losses.{IsSingleFailure}
 use Rattle.superblock.specs.NextTables.{slots_of}
 use Rattle.stripe_journal.specs.declared.entry.Entry.{Entry}
 use Rattle.stripe_journal.specs.declared.seal.Seal.{Seal}
-use Rattle.stripe_journal.specs.Entries.{body_of, sector_at}
-use Rattle.stripe_journal.specs.Forms.{holds, rows_in}
+use Rattle.stripe_journal.specs.Entries.{body_of, row_mask, sector_at}
+use Rattle.stripe_journal.specs.Forms.{has_bit, holds, rank, rows_in}
 use Rattle.stripe_journal.proofs.Entries.{body_at}
+use Rattle.stripe_journal.proofs.EntrySectors.{held_is_in_body, no_zeros}
 use Rattle.stripe_journal.proofs.HeldEntries.{IsEntryOf, rank_of_seal}
 use Rattle.stripe_journal.proofs.OneEntry.{a_crash_leaves_either}
 use Rattle.stripe_journal.proofs.OneEntryCalls.{AllOf, flushed_is_up, stays_off_calls}
@@ -31,7 +32,7 @@ use Rattle.array_io.specs.declared.array.put.Part.TheVariants as part
 use Rattle.array_io.specs.Believed.Views.{ArrayView, HasItsSlots, view_of}
 use Rattle.array_io.specs.Steps.Bringing.{CountsOn}
 use Rattle.array_io.specs.Steps.CallSteps.{CallsOne, KeepsFront}
-use Rattle.array_io.specs.Steps.Putting.{Awaited, HasBody, HasSeal, HoldsAll, IfSingleFailure, IsComing, IsPutBefore, MayWrite, PutsFrom, in_body, reached}
+use Rattle.array_io.specs.Steps.Putting.{Awaited, HasBody, HasSeal, HoldsAll, IfSingleFailure, IsComing, IsPutBefore, MayWrite, PutsFrom, held_sector, reached}
 use Rattle.array_io.specs.Steps.PuttingRows.{HeldRows, PutsMember}
 use Rattle.array_io.specs.Steps.PuttingSteps.{Brings, EndsOrFailsSlot, FitsPart, HasItsRows, IsUntouched, PutsCalls, PutsPart, StepsPart, both_bodies}
 use Rattle.array_io.specs.Steps.PuttingSteps.{both_sealed, rows_held}
@@ -230,16 +231,24 @@ module _ (spellings : Spellings) (honest : Type 0) (slot number : ℕ) (table : 
   abbrev Was : ArrayView
   Was = view_of old_panel old table number
 
-  -- what the entry holds of a row on a member is the body's sector there
-  sector_in_body : (i member : ℕ) → HasItsRows table seal entry → i < length (rows_in seal.form) → member < table.geometry.members
+  -- what the entry holds of a row on a member is what its seal says
+
+  its_held : (i member : ℕ) → HasItsRows table seal entry → i < length (rows_in seal.form) → member < table.geometry.members
+      → has_bit (row_mask entry i) member ≡ holds table.geometry.members seal.form i member
+  its_held i member its inside within =
+      its.held i member inside within ∙ sym (held_is_in_body table.geometry.members seal.form i member (sym its.same_format))
+
+  its_sector : (i member : ℕ) → HasItsRows table seal entry → i < length (rows_in seal.form) → member < table.geometry.members
       → holds table.geometry.members seal.form i member ≡ true
-      → sector_at entry i member ≡ in_body table.geometry.members seal body i member
-  sector_in_body i member its inside within held =
+      → sector_at entry i member ≡ held_sector table.geometry.members seal body i member
+  its_sector i member its inside within held =
       let of_entry : IsEntryOf table.geometry.members seal entry = record { rows = its.same; held = its.held } in
       sym (body_at table.geometry.members entry i member table.geometry.limits.members_most (subst (λ (r : List ℕ). i < length r) (sym its.same) inside) within
-      (its.held i member inside within ∙ held))
+      (its_held i member its inside within ∙ held))
       ∙ ap (λ (k : ℕ). slice_index_or body k []) (rank_of_seal table.geometry.members seal entry table.geometry.limits.members_most of_entry i member inside
       within)
+      ∙ sym (ap (λ (b : Bool). cond b (replicate 512 0) (slice_index_or body (rank table.geometry.members seal.form i member) []))
+      (no_zeros seal.form i (sym its.same_format)))
 
   -- a slot on which the table doesn't count is passed over
   pub part_passed : (kind : Part) → FitsPart kind table seal entry slot → ¬ CountsOn table slot → StepsPart honest kind seal body slot Was Was (Ok tt)
@@ -287,7 +296,7 @@ module _ (spellings : Spellings) (honest : Type 0) (slot number : ℕ) (table : 
         old_panel mid_panel old mid true_old true_mid new_panel new_table new done answer still more true_new its_slots counted
         (member_calls honest table (rows_held entry) slot old_panel mid_panel old mid done puts)
         (λ fair from loss is. rows_part spellings seal body from table old mid (is_ok done) slot counted (puts.off fair) within (rows_held entry) its.same
-        (λ i inside. its.held i slot inside within) (λ i inside held. sector_in_body i slot its inside within held) is honest fair old_panel mid_panel done puts
+        (λ i inside. its_held i slot its inside within) (λ i inside held. its_sector i slot its inside within held) is honest fair old_panel mid_panel done puts
         (λ all. by_ok done all)) ends
       where
         by_ok : (r : Result (Unit {0}) Stop) → is_ok r ≡ true → r ≡ Ok tt

@@ -6,27 +6,24 @@ use Rattle.parity.specs.Xor.{zero_sector}
 use Rattle.parity.proofs.Laws.{get_or-zero_sector}
 use Rattle.superblock.specs.Spelling.{superblock_sector}
 use Rattle.superblock.proofs.Spelled.{length-superblock_sector, one_superblock, read_letter}
-use Rattle.stripe_journal.specs.Forms.{rows_in}
 use Rattle.stripe_journal.specs.declared.form.Form.{Form}
 use Rattle.stripe_journal.specs.declared.seal.Seal.{Seal}
 use Rattle.stripe_journal.specs.Spelling.{first_mark, seal_bytes, seal_sector}
 use Rattle.stripe_journal.proofs.Seals.{same_seal}
-use Rattle.stripe_journal.proofs.Spellings.{length-first_mark, length-seal_bytes, length-seal_sector, seal_begins, sector_says}
+use Rattle.stripe_journal.proofs.Spellings.{form_back, length-first_mark, length-seal_bytes, length-seal_sector, seal_begins, sector_says}
 use Rattle.array_io.proofs.Images.Spellings.{Spellings}
 
 -- what stands after the id
-after_id : ℕ → List ℕ → Form → List ℕ
-after_id number rows form = drop (length (first_mark form)) (seal_bytes [] number rows form)
+after_id : ℕ → Form → List ℕ
+after_id number form = drop (length (first_mark form)) (seal_bytes [] number form)
 
--- the second of nine parts, between the first and the rest
-second_part : (m i a b c d e f g : List ℕ) → m ++ i ++ a ++ b ++ c ++ d ++ e ++ f ++ g ≡ m
-    ++ (i ++ drop (length m) (m ++ [] ++ a ++ b ++ c ++ d ++ e ++ f ++ g))
-second_part m i a b c d e f g = simp (append_assoc, drop-append_seam)
+-- the second of seven parts, between the first and the rest
+second_part : (m i a b c d e : List ℕ) → m ++ i ++ a ++ b ++ c ++ d ++ e ≡ m ++ (i ++ drop (length m) (m ++ [] ++ a ++ b ++ c ++ d ++ e))
+second_part m i a b c d e = simp (append_assoc, drop-append_seam)
 
-seal_bytes_are : (id : List ℕ) (number : ℕ) (rows : List ℕ) (form : Form) → seal_bytes id number rows form ≡ first_mark form
-    ++ (id ++ after_id number rows form)
+seal_bytes_are : (id : List ℕ) (number : ℕ) (form : Form) → seal_bytes id number form ≡ first_mark form ++ (id ++ after_id number form)
 unfolding seal_bytes after_id
-seal_bytes_are id number rows form = second_part (first_mark form) id _ _ _ _ _ _ _
+seal_bytes_are id number form = second_part (first_mark form) id _ _ _ _ _
 
 -- equal lists with fronts of one length have equal fronts and rests
 same_front : (a b r s : List ℕ) → length a ≡ length b → a ++ r ≡ b ++ s → (a ≡ b) × (r ≡ s)
@@ -38,9 +35,10 @@ same_front a b r s lengths same = (
 -- a sector spells one seal at most, however long its id
 one_seal : (first second : Seal) → seal_sector first ≡ seal_sector second → first ≡ second
 one_seal first second same =
-    let first_says = sector_says id first.number (rows_in first.form) first.form sector first.allowed first.formed long refl refl in
-    let second_says = sector_says id second.number (rows_in second.form) second.form sector second.allowed second.formed long equal refl in
-    same_seal first second parts.0 (first_says.1 ∙ sym second_says.1) (first_says.2 ∙ sym second_says.2)
+    let first_says = sector_says id first.number first.form sector first.allowed first.formed long refl in
+    let second_says = sector_says id second.number second.form sector second.allowed second.formed long equal in
+    same_seal first second parts.0 (first_says.number_is ∙ sym second_says.number_is)
+    (first_says.form_is second.form second.formed second.allowed.rows (form_back id second.number second.form sector second.formed long equal))
   where
     lengths : length first.id ≡ length second.id
     lengths = omega (
@@ -51,10 +49,10 @@ one_seal first second same =
     )
 
     beyond : Seal → List ℕ
-    beyond seal = after_id seal.number (rows_in seal.form) seal.form
+    beyond seal = after_id seal.number seal.form
 
     spelled : (seal : Seal) → seal_sector seal ≡ first_mark seal.form ++ (seal.id ++ beyond seal)
-    spelled seal = seal_bytes_are seal.id seal.number (rows_in seal.form) seal.form
+    spelled seal = seal_bytes_are seal.id seal.number seal.form
 
     marks : (first_mark first.form ≡ first_mark second.form) × (first.id ++ beyond first ≡ second.id ++ beyond second)
     marks = same_front (first_mark first.form) (first_mark second.form) (first.id ++ beyond first) (second.id ++ beyond second)
@@ -68,17 +66,17 @@ one_seal first second same =
     id = replicate 16 0
 
     sector : List ℕ
-    sector = seal_bytes id first.number (rows_in first.form) first.form
+    sector = seal_bytes id first.number first.form
 
     long : length sector ≡ 512
-    long = omega (arith, length-seal_bytes id first.number (rows_in first.form) first.form first.allowed.rows_most first.formed, length-replicate {A = ℕ} 16 0)
+    long = omega (arith, length-seal_bytes id first.number first.form first.formed, length-replicate {A = ℕ} 16 0)
 
-    equal : sector ≡ seal_bytes id second.number (rows_in second.form) second.form
+    equal : sector ≡ seal_bytes id second.number second.form
     equal =
-        seal_bytes_are id first.number (rows_in first.form) first.form
+        seal_bytes_are id first.number first.form
         ∙ ap (λ (mark : List ℕ). mark ++ (id ++ beyond first)) marks.0
         ∙ ap (λ (r : List ℕ). first_mark second.form ++ (id ++ r)) parts.1
-        ∙ sym (seal_bytes_are id second.number (rows_in second.form) second.form)
+        ∙ sym (seal_bytes_are id second.number second.form)
 
 -- a spelling begins with the mark, and no sector of zeros does
 zero_begins : (sector : List ℕ) → get_or sector 0 0 ≡ 82 → zero_sector ≢ sector

@@ -1,19 +1,21 @@
 -- An entry whose bodies have the members' own sectors, in an image that holds, says what the members hold.
 use Rattle.std.proofs.Common.{◌≡◌, ◌⊎◌, inl, inr, ℕ, ◌+◌, ◌<◌, Bool, true, false, IsTrue, List, length, Option, Some, None, refl, sym, ◌∙◌, ap, subst, arith}
-use Rattle.std.specs.Prelude.{map, option_map, unwrap_or}
+use Rattle.std.specs.Prelude.{map, replicate, unwrap_or}
+use Rattle.std.proofs.lemmas.List.{length-replicate}
 use Rattle.std.specs.List.{range_with_len}
 use Rattle.std.proofs.lemmas.Option.{none-some, same_Some}
 use Rattle.sector_model.specs.History.{Bytes, Slots, disk_of, sector_of}
 use Rattle.layout_map.specs.declared.sizes.TheConstants.{FIRST_ROW}
 use Rattle.parity.specs.Xor.{IsSoundRow, xor_of_all, zero_sector}
-use Rattle.layout_map.proofs.Places.{journal_least as bodies_least}
+use Rattle.layout_map.specs.Formats.{journal_sectors}
 use Rattle.superblock.proofs.LeastSectors.{journal_least}
 use Rattle.superblock.specs.declared.table.Table.{Table}
 use Rattle.superblock.specs.Tables.{state_at}
 use Rattle.superblock.specs.Cases.{HasWholeSectors}
 use Rattle.stripe_journal.specs.declared.seal.Seal.{Seal}
-use Rattle.stripe_journal.specs.Body.{place_by_seal}
-use Rattle.stripe_journal.specs.LastEntry.{Entry, IsGreatest, IsLastEntry, IsLastSealed, number_of, sector_in, sector_of_last}
+use Rattle.stripe_journal.specs.Body.{place_by_seal, zero_by_seal}
+use Rattle.stripe_journal.specs.Forms.{format_of}
+use Rattle.stripe_journal.specs.LastEntry.{Entry, IsGreatest, IsLastEntry, IsLastSealed, number_of, placed_or_zero, sector_in, sector_of_last}
 use Rattle.stripe_journal.proofs.Bodies.{bodies_within}
 use Rattle.degraded.specs.RowValue.{Rows, direct_of, others, value}
 use Rattle.degraded.proofs.Others.{map-others, sector_is_xor, xor_of_all-member}
@@ -33,21 +35,23 @@ HaveOwnSectors devices table image last = (journal : ℕ) (seal : Seal) → IsLi
     → IsTrue (trusts (state_at table.states member) row table.position)
     → sector_in table.geometry.members (image journal) seal row member ≡ Some sector → sector ≡ sector_of (disk_of (image member)) (FIRST_ROW + row)
 
--- a sector that an entry has stands in a place of its body
-in_its_place : (f : ℕ → Bytes) (found : Option ℕ) (sector : Bytes) → option_map f found ≡ Some sector → (place : ℕ) × (found ≡ Some place) × (f place ≡ sector)
-in_its_place f None sector has = absurd (none-some sector has)
-in_its_place f (Some place) sector has = (place, refl, same_Some (f place) sector has)
-
--- so it is whole
+-- a sector that an entry has is whole
 pub sector_whole : (devices : ℕ) (table : Table) (image : Slots) → HasWholeSectors image → (journal : ℕ) (seal : Seal)
-    → IsLiveJournal devices table image journal
+    → IsLiveJournal devices table image journal → format_of seal.form ≡ table.geometry.format
     → (row member : ℕ) (sector : Bytes) → member < table.geometry.members → sector_in table.geometry.members (image journal) seal row member ≡ Some sector
     → length sector ≡ 512
-sector_whole devices table image whole journal seal live row member sector within has =
-    let at = in_its_place (sector_of (disk_of (image journal))) (place_by_seal table.geometry.members seal row member) sector has in
-    let body = bodies_within table.geometry.members seal row member at.0 table.geometry.limits.members_most within at.1 in
-    let least = journal_least table.geometry journal live.beyond_members in
-    ap length (sym at.2) ∙ whole journal at.0 (omega (arith, body.1, least, live.live.long_enough, bodies_least table.geometry.format))
+sector_whole devices table image whole journal seal live format row member sector within has =
+    by_place (place_by_seal table.geometry.members seal row member) (zero_by_seal table.geometry.members seal row member) refl has
+  where
+    by_place : (found : Option ℕ) (zero : Bool) → place_by_seal table.geometry.members seal row member ≡ found
+        → placed_or_zero (disk_of (image journal)) found zero ≡ Some sector → length sector ≡ 512
+    by_place None true there is = ap length (sym (same_Some (replicate 512 0) sector is)) ∙ length-replicate {A = ℕ} 512 0
+    by_place None false there is = absurd (none-some sector is)
+    by_place (Some place) zero there is =
+        let body = bodies_within table.geometry.members seal row member place table.geometry.limits.members_most within there in
+        let least = journal_least table.geometry journal live.beyond_members in
+        ap length (sym (same_Some (sector_of (disk_of (image journal)) place) sector is))
+        ∙ whole journal place (omega (arith, body.1, ap journal_sectors format, least, live.live.long_enough))
 
 -- In an image that holds, with one last seal on all live journals, the rows by its last entry are sound.
 module _ (spellings : Spellings) (devices : ℕ) (table : Table) (X : List (List Bytes)) (image : Slots) (holds : HoldsIn devices table X image)
@@ -128,7 +132,8 @@ module _ (spellings : Spellings) (devices : ℕ) (table : Table) (X : List (List
         by_trust false out =
             let its : value rows row member ≡ sector = value-entry rows row member sector (entry_here member within ∙ has) in
             let long : length (value rows row member) ≡ 512 =
-            ap length its ∙ sector_whole devices table image whole journal seal live row member sector within has in
+            ap length its ∙ sector_whole devices table image whole journal seal live
+            (greatest_on journal seal live is).counted.belongs.of_format row member sector within has in
             let sound : xor_of_all (map (λ other. value rows row other) (range_with_len 0 table.geometry.members)) ≡ zero_sector =
             subst (λ (n : ℕ). IsSoundRow (map (λ (other : ℕ). value rows row other) (range_with_len 0 n))) are.width (holds.sound rows are row below) in
             sym its

@@ -12,6 +12,7 @@ use Rattle.stripe_journal.proofs.Bodies.{is_placed}
 use Rattle.stripe_journal.proofs.EntrySectors.{same_sectors}
 use Rattle.degraded.specs.RowValue.{Rows, AreSound, logical_list}
 use Rattle.degraded.proofs.Values.{AgreeInRow, value-agree}
+use Rattle.stripe_journal.proofs.Halves.{start_least}
 use Rattle.array_io.specs.Laws.Core.{AreJournalsInStep, HasRows}
 use Rattle.array_io.specs.Believed.Holds.{AreInStep, AreRowsOf, IsLiveJournal, IsTrusted, row_count}
 use Rattle.array_io.specs.Laws.Law.{AreAlike}
@@ -43,7 +44,7 @@ pub sector_beyond : (members : ℕ) (first second : Content) → AgreeBeyond fir
     → sector_in members first seal row member ≡ sector_in members second seal row member
 sector_beyond members first second agree seal row member = same_sectors members first second seal row member (λ place found.
     let at = is_placed members seal row member place found in
-    agree.same place (omega (arith, at.place_is)))
+    agree.same place (omega (arith, at.place_is, start_least seal)))
 
 -- journals that agree with two that are in step are in step
 pub step_beyond : (members : ℕ) (a b c d : Content) → AgreeBeyond a c → AgreeBeyond b d → (x y : Option Seal)

@@ -2,17 +2,18 @@
 use Rattle.std.proofs.Common.{Bool, IsTrue, List, None, Option, Some, [], ap, arith, false, inl, inr, length, subst, sym, ℕ, ◌+◌, ◌<◌, ◌↔◌, ◌∙◌, ◌≡◌, ◌≤◌}
 use Rattle.std.proofs.lemmas.Grind.{get_or-set_at}
 use Rattle.std.proofs.lemmas.List.{get_or-set_other, length-set}
-use Rattle.std.specs.Prelude.{slice_index_or, slice_set, option_map}
+use Rattle.std.specs.Prelude.{cond, replicate, slice_index_or, slice_set}
 use Rattle.std.proofs.lemmas.Bool.{cases_eq}
 use Rattle.sector_model.specs.History.{Bytes, Slots, disk_of, sector_of}
 use Rattle.layout_map.specs.declared.sizes.TheConstants.{FIRST_ROW, MOST_MEMBERS}
-use Rattle.layout_map.proofs.Places.{journal_least as bodies_least}
+use Rattle.layout_map.specs.Formats.{journal_sectors}
 use Rattle.superblock.proofs.LeastSectors.{journal_least, member_least}
 use Rattle.superblock.specs.declared.table.Table.{Table}
 use Rattle.superblock.specs.Counted.{least_sectors}
-use Rattle.stripe_journal.specs.Body.{place_by_seal}
-use Rattle.stripe_journal.specs.LastEntry.{Entry, IsLastEntry, sector_of_last}
+use Rattle.stripe_journal.specs.Body.{place_by_seal, zero_by_seal}
+use Rattle.stripe_journal.specs.LastEntry.{Entry, IsLastEntry, placed_or_zero, sector_of_last}
 use Rattle.stripe_journal.proofs.Bodies.{bodies_within}
+use Rattle.stripe_journal.proofs.EntrySectors.{sector_placed}
 use Rattle.degraded.specs.RowValue.{Rows}
 use Rattle.degraded.proofs.Values.{AgreeInRow, row_values-agree, value-agree}
 use Rattle.array_io.specs.Oracle.{HasLastEntry, HaveSameValues, entry_of}
@@ -116,15 +117,17 @@ entry_sector devices table image found last row member at sector is has within t
     let long = latest.on_live.live.long_enough in
     let least = journal_least table.geometry last.journal latest.on_live.beyond_members in
     let body = bodies_within table.geometry.members last.seal row member at table.geometry.limits.members_most within (sym there) in
-    let read : sector ≡ sector_of (disk_of (image last.journal)) at = reads (omega (arith, body.1, bodies_least table.geometry.format)) in
+    let read : sector ≡ sector_of (disk_of (image last.journal)) at = reads
+    (omega (arith, body.1, ap journal_sectors latest.sealed.counted.belongs.of_format, long, least)) in
     ap Some read
-    ∙ ap (option_map (sector_of (disk_of (image last.journal)))) there
+    ∙ sym (sector_placed table.geometry.members (image last.journal) last.seal row member at (sym there))
     ∙ ap (λ (o : Option LastEntry). sector_of_last table.geometry.members image (entry_of o) row member) (sym is)
 
--- and none, where it has no place
-pub no_entry_sector : (devices : ℕ) (table : Table) (image : Slots) (found : Option LastEntry) (last : LastEntry) (row member : ℕ)
+-- and where it has no place a zero one, if the seal says so
+pub no_entry_sector : (table : Table) (image : Slots) (found : Option LastEntry) (last : LastEntry) (row member : ℕ)
     → found ≡ Some last → place_by_seal table.geometry.members last.seal row member ≡ None
-    → sector_of_last table.geometry.members image (entry_of found) row member ≡ None
-no_entry_sector devices table image found last row member is none =
+    → sector_of_last table.geometry.members image (entry_of found) row member
+    ≡ cond (zero_by_seal table.geometry.members last.seal row member) (Some (replicate 512 0)) None
+no_entry_sector table image found last row member is none =
     ap (λ (o : Option LastEntry). sector_of_last table.geometry.members image (entry_of o) row member) is
-    ∙ ap (option_map (sector_of (disk_of (image last.journal)))) none
+    ∙ ap (λ (o : Option ℕ). placed_or_zero (disk_of (image last.journal)) o (zero_by_seal table.geometry.members last.seal row member)) none

@@ -1,6 +1,5 @@
 -- The last entry of a set at rest: it is one on all live journals, and has the values that the members give.
 use Rattle.std.proofs.Common.{◌≡◌, inl, inr, ℕ, ◌<◌, ◌≤◌, List, Option, Some, None, refl, sym, ◌∙◌, ap, subst, arith}
-use Rattle.std.specs.Prelude.{option_map}
 use Rattle.std.proofs.lemmas.Option.{none-some}
 use Rattle.std.proofs.lemmas.Bool.{cases_eq}
 use Rattle.sector_model.specs.History.{Slots, disk_of, sector_of}
@@ -11,7 +10,7 @@ use Rattle.superblock.specs.Counted.{Content, IsLive}
 use Rattle.stripe_journal.specs.declared.seal.Seal.{Seal}
 use Rattle.stripe_journal.specs.LastEntry.{IsGreatest, IsLastSealed, number_of, sector_in}
 use Rattle.stripe_journal.proofs.Bodies.{is_placed}
-use Rattle.stripe_journal.proofs.EntrySectors.{same_sectors}
+use Rattle.stripe_journal.proofs.EntrySectors.{same_sectors, sector_placed}
 use Rattle.array_io.specs.Laws.Core.{AreJournalsInStep}
 use Rattle.array_io.specs.Steps.EntryAtRest.{HasEntryAtRest}
 use Rattle.array_io.specs.Believed.Holds.{AreInStep, HaveEqualBodies, IsLiveJournal, row_count}
@@ -80,7 +79,7 @@ module _ (spellings : Spellings) (devices : ℕ) (table : Table) (number : ℕ) 
       let at = is_placed table.geometry.members seal row member place found in
       let below : row < row_count table = subst (λ (k : ℕ). k < row_count table) at.row_is (greatest.counted.belongs.below at.i at.within) in
       let here : (journal : ℕ) → sector_in table.geometry.members (image journal) seal row member ≡ Some (sector_of (disk_of (image journal)) place) =
-      λ journal. ap (option_map (sector_of (disk_of (image journal)))) found in
+      λ journal. sector_placed table.geometry.members (image journal) seal row member place found in
       entry.bodies first seal live is row member (sector_of (disk_of (image first)) place) below within (here first)
       ∙ sym (entry.bodies second seal live' is row member (sector_of (disk_of (image second)) place) below within (here second)))
 

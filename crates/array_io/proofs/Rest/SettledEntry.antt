@@ -112,7 +112,8 @@ module _ (spellings : Spellings) (devices : ℕ) (table : Table) (number : ℕ) 
         → sector_of_last table.geometry.members (readable h) last row member ≡ Some sector → length sector ≡ 512
     entry_whole None is_last row member sector within has = absurd (none-some sector has)
     entry_whole (Some entry) is_last row member sector within has =
-        sector_whole devices table (readable h) whole entry.journal entry.seal is_last.on_live row member sector within has
+        sector_whole devices table (readable h) whole entry.journal entry.seal is_last.on_live
+        is_last.sealed.counted.belongs.of_format row member sector within has
 
     rows : Rows
     rows = entry_rows spellings devices table (readable h) settled_last

@@ -1,5 +1,5 @@
 -- An entry comes onto a set: which part of it stands on which journal, and on which members its rows stand.
-use Rattle.std.specs.Prelude.{◌≡◌, ℕ, ◌+◌, ◌<◌, ◌≤◌, ◌==◌, if◌then◌else◌, true, false, List, [], Contains, length, Option, None, slice_index_or}
+use Rattle.std.specs.Prelude.{◌≡◌, ℕ, ◌+◌, ◌<◌, ◌≤◌, ◌==◌, if◌then◌else◌, true, false, List, [], Contains, length, Option, None, replicate, slice_index_or}
 use Rattle.sector_model.specs.History.{Bytes, History, seen, sector_of}
 use Rattle.sector_model.specs.Readable.{readable}
 use Rattle.layout_map.specs.declared.sizes.TheConstants.{FIRST_ROW}
@@ -9,9 +9,9 @@ use Rattle.superblock.specs.Cases.{Lost}
 use Rattle.superblock.specs.Losses.{IsSingleFailure}
 use Rattle.superblock.specs.NextTables.{slots_of}
 use Rattle.stripe_journal.specs.declared.seal.Seal.{Seal}
-use Rattle.stripe_journal.specs.Body.{place_by_seal}
+use Rattle.stripe_journal.specs.Body.{place_by_seal, zero_by_seal}
 use Rattle.stripe_journal.specs.Entries.{body_start}
-use Rattle.stripe_journal.specs.Forms.{held_before, holds, rank, rows_in}
+use Rattle.stripe_journal.specs.Forms.{has_zeros, held_before, holds, rank, rows_in}
 use Rattle.stripe_journal.specs.OneEntry.{HasThisEntry, IsNextOn}
 use Rattle.stripe_journal.specs.Seals.{row_at}
 use Rattle.degraded.specs.RowValue.{AreSound, Rows, logical_list, value}
@@ -55,7 +55,7 @@ reached journals journal progress = λ k. if k == journal then progress else jou
 
 -- the body of the entry stands on a journal
 pub record StandsBody (h : History) (journal : ℕ) (seal : Seal) (body : List Bytes) : Type 0 where
-  pub stands : (k : ℕ) → k < length body → sector_of (seen h journal) (body_start seal.number + k) ≡ slice_index_or body k []
+  pub stands : (k : ℕ) → k < length body → sector_of (seen h journal) (body_start seal + k) ≡ slice_index_or body k []
 
 -- how far the entry is there
 abbrev pub IsAt : Progress → Table → History → (journal : ℕ) → Seal → List Bytes → Type 0
@@ -67,9 +67,14 @@ IsAt HasSeal table h journal seal body = HasThisEntry table.id table.geometry (s
 abbrev pub IsBodyLong : (members : ℕ) → Seal → (body : List Bytes) → Type 0
 IsBodyLong members seal body = length body ≡ held_before members seal.form (length (rows_in seal.form))
 
--- the sector that a body has for a member in the i-th row, where that holds it
-abbrev pub in_body : (members : ℕ) → Seal → (body : List Bytes) → (i member : ℕ) → Bytes
-in_body members seal body i member = slice_index_or body (rank members seal.form i member) []
+-- the sector that an entry with this body has for a member in the i-th row, where it holds that: a zero one of a row of zeros, else that of the body
+abbrev pub held_sector : (members : ℕ) → Seal → (body : List Bytes) → (i member : ℕ) → Bytes
+held_sector members seal body i member = if has_zeros seal.form i then replicate 512 0 else slice_index_or body (rank members seal.form i member) []
+
+-- the entry of a seal holds no sector of a member in a row
+pub record LacksSector (members : ℕ) (seal : Seal) (row member : ℕ) : Type 0 where
+  pub no_place : place_by_seal members seal row member ≡ None
+  pub no_zero : zero_by_seal members seal row member ≡ false
 
 -- The entry is formed: from sound rows in which no entry counts, and which the members have but where the entry holds a sector, with sectors that make of their
 -- list this one of
@@ -81,8 +86,8 @@ pub record IsFormedOn (list_then : List Bytes) (seal : Seal) (body : List Bytes)
   pub gives : written (logical_list table.geometry rows) sectors ≡ list_then
   pub among : Contains from.lists list_then
   pub formed : IsFormed table.geometry rows sectors (rows_in seal.form) values
-  pub body_is : (i member : ℕ) → i < length (rows_in seal.form) → member < table.geometry.members → holds table.geometry.members seal.form i member ≡ true
-      → in_body table.geometry.members seal body i member ≡ slice_index_or (slice_index_or values i []) member []
+  pub held : (i member : ℕ) → i < length (rows_in seal.form) → member < table.geometry.members → holds table.geometry.members seal.form i member ≡ true
+      → held_sector table.geometry.members seal body i member ≡ slice_index_or (slice_index_or values i []) member []
   pub kept : (i member : ℕ) → i < length (rows_in seal.form) → member < table.geometry.members → holds table.geometry.members seal.form i member ≡ false
       → slice_index_or (slice_index_or values i []) member [] ≡ value rows (row_at (rows_in seal.form) i) member
   pub width : rows.members ≡ table.geometry.members
@@ -91,7 +96,7 @@ pub record IsFormedOn (list_then : List Bytes) (seal : Seal) (body : List Bytes)
   pub trust : (row member : ℕ) → row < row_count table → member < table.geometry.members → trusts (state_at table.states member) row table.position ≡ true
       → rows.trusted row member ≡ true
   pub own : (row member : ℕ) → row < row_count table → member < table.geometry.members → trusts (state_at table.states member) row table.position ≡ true
-      → place_by_seal table.geometry.members seal row member ≡ None → sector_of (seen h member) (FIRST_ROW + row) ≡ rows.own row member
+      → LacksSector table.geometry.members seal row member → sector_of (seen h member) (FIRST_ROW + row) ≡ rows.own row member
   pub whole_sectors : (row member : ℕ) → row < row_count table → member < table.geometry.members → rows.trusted row member ≡ true
       → length (rows.own row member) ≡ 512
 
@@ -127,7 +132,7 @@ pub record IsPutBefore (n : ℕ) (seal : Seal) (body : List Bytes) (from : PutsF
   pub on_members : (member i : ℕ) → member < n → member < table.geometry.members → i < length (rows_in seal.form)
       → holds table.geometry.members seal.form i member ≡ true
       → trusts (state_at table.states member) (row_at (rows_in seal.form) i) table.position ≡ true
-      → sector_of (seen h member) (FIRST_ROW + row_at (rows_in seal.form) i) ≡ in_body table.geometry.members seal body i member
+      → sector_of (seen h member) (FIRST_ROW + row_at (rows_in seal.form) i) ≡ held_sector table.geometry.members seal body i member
 
 -- The last entry, whose number this is (0 for none), says what the members hold.
 pub record IsPut (number : ℕ) (from : PutsFrom) (table : Table) (h : History) : Type 0 where

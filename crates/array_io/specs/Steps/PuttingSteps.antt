@@ -10,8 +10,8 @@ use Rattle.superblock.specs.declared.table.Table.{Table}
 use Rattle.stripe_journal.specs.declared.entry.Entry.{Entry}
 use Rattle.stripe_journal.specs.declared.seal.Seal.{Seal}
 use Rattle.stripe_journal.specs.Body.{seal_place}
-use Rattle.stripe_journal.specs.Entries.{body_of, body_start, form_of, numbers_of, row_mask, sector_at}
-use Rattle.stripe_journal.specs.Forms.{has_bit, holds, rows_in}
+use Rattle.stripe_journal.specs.Entries.{body_of, form_of, half_start, numbers_of, row_mask, sector_at}
+use Rattle.stripe_journal.specs.Forms.{format_of, has_bit, in_body, rows_in}
 use Rattle.stripe_journal.specs.Seals.{row_at}
 use Rattle.stripe_journal.specs.Spelling.{seal_sector}
 use Rattle.array_io.specs.declared.array.put.Part.{Part}
@@ -55,8 +55,9 @@ rows_held entry = record { rows = numbers_of entry; held = λ i member. has_bit 
 -- the entry has the rows of the seal, and holds of them what the seal says, and they are rows of the set
 pub record HasItsRows (table : Table) (seal : Seal) (entry : Entry) : Type 0 where
   pub same : numbers_of entry ≡ rows_in seal.form
+  pub same_format : format_of (form_of entry) ≡ format_of seal.form
   pub held : (i member : ℕ) → i < length (rows_in seal.form) → member < table.geometry.members
-      → holds table.geometry.members (form_of entry) i member ≡ holds table.geometry.members seal.form i member
+      → in_body table.geometry.members (form_of entry) i member ≡ in_body table.geometry.members seal.form i member
   pub below : (i : ℕ) → i < length (rows_in seal.form) → row_at (rows_in seal.form) i < row_count table
 
 -- what the slot is: a journal, or for the rows a member
@@ -69,8 +70,8 @@ FitsPart part.Rows table seal entry slot = (slot < table.geometry.members) × Ha
 abbrev pub PutsPart : (honest : Type 0) → Part → Table → Seal → Entry → (slot : ℕ) (old_panel new_panel : Panel) (old new : History) → Result (Unit {0}) Stop
     → Type 0
 PutsPart honest part.Body table seal entry slot old_panel new_panel old new result =
-    PutsCalls honest slot (writes_from slot (body_start seal.number) (body_of table.geometry.members entry) ++ Flush slot ∷ []) old_panel new_panel old new
-    result
+    PutsCalls honest slot (writes_from slot (half_start table.geometry.format seal.number) (body_of table.geometry.members entry) ++ Flush slot ∷ []) old_panel
+    new_panel old new result
 PutsPart honest part.Seal table seal entry slot old_panel new_panel old new result =
     PutsCalls honest slot (Write slot (seal_place seal.number) (seal_sector seal) ∷ Flush slot ∷ []) old_panel new_panel old new result
 PutsPart honest part.Rows table seal entry slot old_panel new_panel old new result =

@@ -5,7 +5,7 @@ ghost use Rattle.sector_model.specs.Calls.{Flush, Write, writes_from};
 ghost use Rattle.layout_map.specs.Formats.{journal_sectors};
 ghost use Rattle.layout_map.specs.declared.sizes.TheConstants.{FIRST_BODY};
 ghost use Rattle.stripe_journal.specs.Body.{seal_place};
-ghost use Rattle.stripe_journal.specs.Entries.{body_of, body_start, numbers_of};
+ghost use Rattle.stripe_journal.specs.Entries.{body_of, half_start, numbers_of};
 ghost use Rattle.stripe_journal.specs.Spelling.{seal_sector};
 ghost use Rattle.superblock.specs.NextTables.{slots_of};
 ghost use Rattle.array_io.specs.Believed.OpenArray.{array_on};
@@ -209,8 +209,8 @@ fn put_body<B: Bank>(
         → journal_sectors geometry.now.format ≤ (B.panel bank.old).sectors journal }
     ensures honest { B.honest bank.old ↔ B.honest bank.new }
     ensures puts { PutsCalls (B.honest bank.old) journal
-        (writes_from journal (body_start seal.now.number) (body_of geometry.now.members entry.now) ++ Flush journal
-        ∷ [])
+        (writes_from journal (half_start geometry.now.format seal.now.number) (body_of geometry.now.members entry.now)
+        ++ Flush journal ∷ [])
         (B.panel bank.old) (B.panel bank.new) (B.history bank.old) (B.history bank.new) result }
 {
     write_body(bank, journal, seal.number, entry, geometry)?;

@@ -1,7 +1,8 @@
 //! What one row of a set has in an image in memory.
-ghost use Rattle.std.specs.Prelude.{◌≡◌, ◌↔◌, ◌<◌, ℕ, IsTrue, length, vec_len};
+ghost use Rattle.std.specs.Prelude.{◌≡◌, ◌↔◌, ◌<◌, ℕ, IsTrue, None, Some, if◌then◌else◌, length, replicate, vec_len};
 ghost use Rattle.sector_model.specs.History.{disk_of, sector_of};
 ghost use Rattle.sector_model.specs.Memory.{slots_of};
+ghost use Rattle.stripe_journal.specs.Body.{zero_by_seal};
 ghost use Rattle.stripe_journal.specs.LastEntry.{sector_of_last};
 ghost use Rattle.degraded.specs.RowValue.{Rows, logical_value, row_values, value};
 ghost use Rattle.layout_map.specs.Placement.{data_sectors_of};
@@ -14,7 +15,8 @@ use super::{LastEntry, is_trusted_in, last_entry_in};
 use degraded::oracle::RowSources;
 use layout_map::FIRST_ROW;
 use sector_model::{Image, Sector};
-use stripe_journal::oracle::place_by_seal;
+use stripe_journal::Seal;
+use stripe_journal::oracle::{place_by_seal, zero_by_seal};
 use superblock::Table;
 
 /// What a row has of each member in an image, by this table. The row is below the table's number of rows.
@@ -90,10 +92,21 @@ fn entry_sector_in(
         Some(last) => {
             match place_by_seal(&last.seal, table.geometry.members, row, member as u8) {
                 Some(at) => Some(sector_at(image, last.journal, at as usize)),
-                None => None,
+                None => zero_sector_in(&last.seal, table.geometry.members, row, member as u8),
             }
         }
         None => None,
+    }
+}
+
+// A zero sector, where the entry of a seal says that a member's sector of a row is zero.
+fn zero_sector_in(seal: &Seal, members: u8, row: u64, member: u8) -> Option<Sector>
+    ensures { result ≡ (if zero_by_seal members seal.now row member then Some (replicate 512 0) else None) }
+{
+    if zero_by_seal(seal, members, row, member) {
+        Some([0; 512])
+    } else {
+        None
     }
 }
 

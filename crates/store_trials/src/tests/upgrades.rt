@@ -103,11 +103,11 @@ fn check_entry(rt: &impl Abort, image: &Image, slot: usize) {
     let seal = last_sealed_in(&image.slots[slot], &ID, &geometry).expect(rt, "an entry is sealed");
     same(
         rt,
-        (slot, seal.form.rows().as_slice() == ROWS.as_slice()),
+        (slot, seal.form.rows() == ROWS.as_slice()),
         (slot, true),
     );
     match &seal.form {
-        Form::Whole(_) => same(rt, (slot, false), (slot, true)),
+        Form::Whole(_) | Form::Runs(_) => same(rt, (slot, false), (slot, true)),
         Form::Held(_, masks) => same(rt, (slot, *masks), (slot, MASKS)),
     }
 }

@@ -7,6 +7,8 @@ use crate::testing::{
 use sector_model::{Bank, MemBank, Plan, Sector, Stop};
 use std::process::Abort;
 
+mod of_runs;
+
 /// What the rows of the entry hold in a whole entry of three members.
 const WHOLE: [u8; 2] = [7, 7];
 
@@ -24,7 +26,9 @@ fn copy(rt: &impl Abort, bank: &mut MemBank, sector: &Sector) -> Result<(), Stop
     let geometry = set(rt);
     check_room(rt, bank, FROM, geometry.format.journal_sectors());
     check_room(rt, bank, TO, geometry.format.journal_sectors());
-    copy_entry(bank, FROM, TO, &read_seal(rt, sector), &geometry)
+    let seal = read_seal(rt, sector);
+    assert!(rt; seal.form.format() == geometry.format);
+    copy_entry(bank, FROM, TO, &seal, &geometry)
 }
 
 // Two journals, of which the first has the entry of this number, once the entry was copied to the second: the copy

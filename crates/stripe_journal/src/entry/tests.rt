@@ -27,7 +27,7 @@ fn is_full(sector: Option<&Sector>, byte: Option<u8>) -> bool {
 // The first masks of an entry.
 fn first_masks(entry: &Entry) -> Option<[u8; 3]> {
     match entry.form() {
-        Form::Whole(_) => None,
+        Form::Whole(_) | Form::Runs(_) => None,
         Form::Held(_, masks) => Some([masks[0], masks[1], masks[2]]),
     }
 }

@@ -1,4 +1,4 @@
-use Rattle.std.proofs.Common.{◌≡◌, ◌↔◌, inl, inr, ℕ, true, List, [], ◌∷◌, ◌++◌, length, get_or, refl, sym, ◌∙◌, ap, subst, arith}
+use Rattle.std.proofs.Common.{◌≡◌, ◌↔◌, inl, inr, ℕ, ◌<◌, true, List, [], ◌∷◌, ◌++◌, length, get_or, refl, sym, ◌∙◌, ap, subst, arith}
 use Rattle.std.proofs.lemmas.Bool.{cases_eq}
 use Rattle.std.proofs.lemmas.List.{length-take-le, take_all, take_more}
 use Rattle.parity.proofs.Laws.{zero_sector-replicate}
@@ -27,9 +27,15 @@ loop-row-preserved c =
             subst (λ (m : ℕ). (has_bit m member ≡ true) ↔ changed i member) (sym (c.push.ensures.masks i (omega (arith, count, below, other))))
             (now.invariant.held i member (omega (arith, below, other)))
       ];
-      zeros = λ i member below within. elim (cases_eq i now.row-index) [
-        | inl same ↦ ap (λ (n : ℕ). sector_at new n member) (same ∙ sym count) ∙ c.push.ensures.zeros member within ∙ zero_sector-replicate 512 refl
-        | inr other ↦ c.push.ensures.others i member (omega (arith, count)) within ∙ now.invariant.zeros i member (omega arith) within
+      zeros = λ i member below within held. elim (cases_eq i now.row-index) [
+        | inl same ↦
+            let mask : row_mask new i ≡ c.changed_mask.result = ap (row_mask new) (same ∙ sym count) ∙ c.push.ensures.mask in
+            ap (λ (n : ℕ). sector_at new n member) (same ∙ sym count)
+            ∙ c.push.ensures.zeros member within (ap (λ (m : ℕ). has_bit m member) (sym mask) ∙ held) ∙ zero_sector-replicate 512 refl
+        | inr other ↦
+            let earlier : i < length (numbers_of now.entry) = omega (arith, count, below, other) in
+            c.push.ensures.others i member earlier within ∙ now.invariant.zeros i member (omega (arith, below, other)) within
+            (ap (λ (m : ℕ). has_bit m member) (sym (c.push.ensures.masks i earlier)) ∙ held)
       ];
     }
 

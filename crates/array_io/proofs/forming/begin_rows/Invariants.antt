@@ -11,5 +11,6 @@ abbrev pub invariant-loop-row : goal.invariant-loop-row
 invariant-loop-row l = record {
   numbers : numbers_of l.entry ≡ take l.row-index l.rows;
   held : (i member : ℕ) → i < l.row-index → (has_bit (row_mask l.entry i) member ≡ true) ↔ IsChanged l.geometry l.sectors (row_at l.rows i) member;
-  zeros : (i member : ℕ) → i < l.row-index → member < MOST_MEMBERS → sector_at l.entry i member ≡ zero_sector;
+  zeros : (i member : ℕ) → i < l.row-index → member < MOST_MEMBERS → has_bit (row_mask l.entry i) member ≡ true
+      → sector_at l.entry i member ≡ zero_sector;
 }

@@ -35,6 +35,6 @@ returns-clause-forms g c =
           sound_with_sum geometry.members entry c.args.i parity sum values few below here.in_set (c.requires.held parity here) (c.requires.zeros parity here)
           (c.in_ok-sum_row.ensures.sums.is_sum number from honest at values listed);
       others = λ other member within skip.
-          sector_elsewhere entry c.args.i parity other member sum (omega (arith, here.in_set, few)) within
+          sector_elsewhere entry c.args.i parity other member sum (omega (arith, here.in_set, few)) within (c.requires.held parity here)
           (λ same_row same_member. skip same_row (subst (λ (m : ℕ). HasParityOn geometry c.args.row m) (sym same_member) here));
     }

@@ -1,11 +1,13 @@
-use Rattle.std.proofs.Common.{◌≡◌, inr, ℕ, ◌<◌, Ok, Err, List, length, OnOk, sym, ◌∙◌, ap, subst, arith}
+use Rattle.std.proofs.Common.{◌≡◌, inr, ℕ, ◌<◌, true, Ok, Err, List, length, OnOk, sym, ◌∙◌, ap, subst, arith}
 use Rattle.layout_map.proofs.Places.{place_is_no_parity, place_member_below}
 use Rattle.layout_map.specs.declared.sizes.TheConstants.{MOST_MEMBERS}
-use Rattle.stripe_journal.specs.Entries.{numbers_of}
+use Rattle.layout_map.specs.declared.geometry.Geometry.{Geometry}
+use Rattle.stripe_journal.specs.declared.entry.Entry.{Entry}
+use Rattle.stripe_journal.specs.Entries.{numbers_of, row_mask}
 use Rattle.stripe_journal.specs.Forms.{has_bit}
 use Rattle.stripe_journal.specs.Seals.{row_at}
 use Rattle.array_io.specs.Believed.ArrayCalls.{Answer}
-use Rattle.array_io.specs.Steps.FormingRows.{AreRowsOf, HasSoundRow, IsChanged, LiesAt, logical_at}
+use Rattle.array_io.specs.Steps.FormingRows.{AreRowsOf, Given, HasParityOn, HasSoundRow, HoldsChanged, IsChanged, LiesAt, logical_at}
 use Rattle.array_io.proofs.Commits.BufferRows.{same_mask}
 use Rattle.array_io.proofs.Commits.ChangedRows.{changed_stays}
 use Rattle.array_io.proofs.forming.form_rows.Goals as goal
@@ -62,14 +64,19 @@ form_parities-requires-clause-rows g c = (subst (λ (list : List ℕ). AreRowsOf
 pub form_parities-requires-clause-numbers : goal.form_parities-requires-clause-numbers
 form_parities-requires-clause-numbers g c = c.put_given.ensures.numbers ∙ c.begin_rows.ensures.numbers
 
+-- the entry holds each row's parity
+
+parity_held : (geometry : Geometry) (sectors : Given) (rows : List ℕ) (entry : Entry) (i member : ℕ) → numbers_of entry ≡ rows
+    → HoldsChanged geometry sectors entry → i < length rows → HasParityOn geometry (row_at rows i) member → has_bit (row_mask entry i) member ≡ true
+parity_held geometry sectors rows entry i member numbers held inside parity =
+    (held i member (omega (arith, inside, ap length numbers))).1
+    (subst (λ (list : List ℕ). IsChanged geometry sectors (row_at list i) member) (sym numbers) (inr parity))
+
 pub form_parities-requires-clause-held : goal.form_parities-requires-clause-held
 form_parities-requires-clause-held g c = λ i member inside parity.
-    let begun = c.begin_rows.new.entry in
-    let numbers : numbers_of begun ≡ c.as_slice-rows.result.now = c.begin_rows.ensures.numbers in
-    let changed : IsChanged c.args.table.now.geometry c.args.sectors.now (row_at (numbers_of begun) i) member =
-    subst (λ (list : List ℕ). IsChanged c.args.table.now.geometry c.args.sectors.now (row_at list i) member) (sym numbers) (inr parity) in
-    ap (λ (mask : ℕ). has_bit mask member) (same_mask c.put_given.new.entry begun i c.put_given.ensures.form)
-    ∙ (c.begin_rows.ensures.held i member (omega (arith, inside, ap length numbers))).1 changed
+    ap (λ (mask : ℕ). has_bit mask member) (same_mask c.put_given.new.entry c.begin_rows.new.entry i c.put_given.ensures.form)
+    ∙ parity_held c.args.table.now.geometry c.args.sectors.now c.as_slice-rows.result.now c.begin_rows.new.entry i member c.begin_rows.ensures.numbers
+    c.begin_rows.ensures.held inside parity
 
 pub form_parities-requires-clause-zeros : goal.form_parities-requires-clause-zeros
 form_parities-requires-clause-zeros g c = λ i member inside parity.
@@ -77,6 +84,8 @@ form_parities-requires-clause-zeros g c = λ i member inside parity.
     let within : member < MOST_MEMBERS = omega (arith, parity.in_set, limits.members_most) in
     c.put_given.ensures.others i member inside within (λ given. place_is_no_parity limits given.lies parity)
     ∙ c.begin_rows.ensures.zeros i member inside within
+    (parity_held c.args.table.now.geometry c.args.sectors.now c.as_slice-rows.result.now c.begin_rows.new.entry i member c.begin_rows.ensures.numbers
+    c.begin_rows.ensures.held inside parity)
 
 pub returns-clause-honest : goal.returns-clause-honest
 returns-clause-honest g c = c.form_parities.ensures.honest

@@ -1,13 +1,15 @@
-use Rattle.std.proofs.Common.{◌≡◌, inl, inr, ℕ, ◌<◌, ◌≤◌, List, length, refl, sym, ◌∙◌, ap, subst, arith}
+use Rattle.std.proofs.Common.{◌≡◌, inl, inr, ℕ, ◌<◌, ◌≤◌, true, List, length, refl, sym, ◌∙◌, ap, subst, arith}
 use Rattle.std.proofs.lemmas.Bool.{cases_eq}
 use Rattle.layout_map.proofs.Places.{logical_is_one, place_is_one, place_member_below, rows_most}
 use Rattle.layout_map.specs.declared.sizes.TheConstants.{ENTRY_ROWS, MOST_MEMBERS}
+use Rattle.layout_map.specs.declared.geometry.Geometry.{Geometry}
+use Rattle.stripe_journal.specs.declared.entry.Entry.{Entry}
 use Rattle.stripe_journal.specs.declared.form.Form.{Form}
-use Rattle.stripe_journal.specs.Entries.{numbers_of, sector_at, with_sector}
-use Rattle.stripe_journal.specs.Forms.{holds}
+use Rattle.stripe_journal.specs.Entries.{form_of, numbers_of, row_mask, sector_at, with_sector}
+use Rattle.stripe_journal.specs.Forms.{has_bit, in_body}
 use Rattle.stripe_journal.specs.Seals.{row_at}
 use Rattle.stripe_journal.proofs.Entries.{sector_elsewhere, sector_there}
-use Rattle.array_io.specs.Steps.FormingRows.{IsChanged, LiesAt, bytes_at, logical_at}
+use Rattle.array_io.specs.Steps.FormingRows.{Given, HoldsChanged, IsChanged, LiesAt, bytes_at, logical_at}
 use Rattle.array_io.proofs.Commits.RisingRows.{GoesTo, goes_to_own, one_place}
 use Rattle.array_io.proofs.forming.put_given.Goals as goal
 
@@ -20,6 +22,38 @@ sector_mut-requires-clause-row c =
     let own = goes_to_own rows place.result.row c.place_in-i.result c.requires.rows.rising goes
     (c.requires.rows.each c.loop-sector.sector-index place.result.row place.result.member c.loop-sector-test.true place.ensures.placed) in
     omega (arith, own.0, ap length (c.loop-sector.invariant.numbers ∙ c.requires.numbers))
+
+-- where a given sector lies the entry holds it
+
+given_held : (geometry : Geometry) (sectors : Given) (rows : List ℕ) (old now : Entry) (k row i member : ℕ) → form_of now ≡ form_of old
+    → numbers_of old ≡ rows → HoldsChanged geometry sectors old → i < length rows → row_at rows i ≡ row → k < length sectors
+    → LiesAt geometry (logical_at sectors k) row member → has_bit (row_mask now i) member ≡ true
+given_held geometry sectors rows old now k row i member form numbers held inside at below lies =
+    let row_is : row_at (numbers_of old) i ≡ row = ap (λ (list : List ℕ). row_at list i) numbers ∙ at in
+    let given : IsChanged geometry sectors (row_at (numbers_of old) i) member = subst (λ (r : ℕ). IsChanged geometry sectors r member) (sym row_is)
+    (inl (record { which = k; within = below; lies = lies })) in
+    ap (λ (form : Form). in_body geometry.members form i member) form ∙ (held i member (omega (arith, inside, ap length numbers))).1 given
+
+pub sector_mut-requires-clause-held : goal.sector_mut-requires-clause-held
+sector_mut-requires-clause-held c =
+    let geometry = c.args.geometry.now in
+    let sectors = c.args.sectors.now in
+    let rows = c.args.rows.now in
+    let old = c.args.entry.now in
+    let place = c.place-place in
+    let k = c.loop-sector.sector-index in
+    let i = c.place_in-i.result in
+    let member = place.result.member in
+    let goes : GoesTo rows place.result.row i = record {
+      within = c.place_in-i.ensures.within;
+      below = c.place_in-i.ensures.below;
+      reached =
+          c.place_in-i.ensures.reached;
+    } in
+    let own = goes_to_own rows place.result.row i c.requires.rows.rising goes
+    (c.requires.rows.each k place.result.row member c.loop-sector-test.true place.ensures.placed) in
+    given_held geometry sectors rows old c.loop-sector.entry k place.result.row i member c.loop-sector.invariant.form c.requires.numbers c.requires.held own.0
+    own.1 c.loop-sector-test.true place.ensures.placed
 
 pub loop-sector-preserved : goal.loop-sector-preserved
 loop-sector-preserved c =
@@ -41,6 +75,9 @@ loop-sector-preserved c =
     let own = goes_to_own rows place.result.row at c.requires.rows.rising goes
     (c.requires.rows.each now.sector-index place.result.row target c.loop-sector-test.true place.ensures.placed) in
     let few : geometry.members ≤ MOST_MEMBERS = omega (arith, geometry.limits.members_most) in
+    let here_held : has_bit (row_mask now.entry at) target ≡ true =
+    given_held geometry sectors rows c.args.entry.now now.entry now.sector-index place.result.row at target now.invariant.form c.requires.numbers
+    c.requires.held own.0 own.1 c.loop-sector-test.true place.ensures.placed in
     let below_most_members : target < MOST_MEMBERS = omega (arith, place.ensures.member, few) in
     let below_entry_rows : at < ENTRY_ROWS = omega (arith, own.0, c.requires.rows.most) in
     let moved : (i member : ℕ) → i ≡ at → member ≡ target → LiesAt geometry (logical_at sectors now.sector-index) (row_at rows i) member =
@@ -58,17 +95,17 @@ loop-sector-preserved c =
             let same_row : i ≡ at = one_place rows i at c.requires.rows.rising inside own.0 (one.1 ∙ sym own.1) in
             ap (λ (n : ℕ). sector_at after n member) same_row
             ∙ ap (λ (m : ℕ). sector_at after at m) one.0
-            ∙ sector_there now.entry at target value below_entry_rows below_most_members
+            ∙ sector_there now.entry at target value below_entry_rows below_most_members here_held
             ∙ ap (λ (n : ℕ). bytes_at sectors n) (sym same)
         | inr other ↦
             let earlier : k < now.sector-index = omega arith in
-            sector_elsewhere now.entry at target i member value below_most_members (omega (arith, place_member_below geometry.limits lies, few))
+            sector_elsewhere now.entry at target i member value below_most_members (omega (arith, place_member_below geometry.limits lies, few)) here_held
             (λ same_row same_member. c.requires.apart k now.sector-index earlier c.loop-sector-test.true
             (logical_is_one geometry.limits lies (moved i member same_row same_member)))
             ∙ now.invariant.given k i member earlier inside lies
       ];
       others = λ i member inside within not_given.
-          sector_elsewhere now.entry at target i member value below_most_members within
+          sector_elsewhere now.entry at target i member value below_most_members within here_held
           (λ same_row same_member. not_given (record { which = now.sector-index; within = omega arith; lies = moved i member same_row same_member }))
           ∙ now.invariant.others i member inside within
           (λ before. not_given (record { which = before.which; within = omega (arith, before.within); lies = before.lies }));
@@ -104,27 +141,3 @@ pub returns-clause-others : goal.returns-clause-others
 returns-clause-others c = λ i member inside within none.
     c.loop-sector.invariant.others i member inside within
     (λ given. none record { which = given.which; within = omega (arith, given.within, c.loop-sector.auto.sector-index-end); lies = given.lies })
-
-pub sector_mut-requires-clause-held : goal.sector_mut-requires-clause-held
-sector_mut-requires-clause-held c =
-    let geometry = c.args.geometry.now in
-    let sectors = c.args.sectors.now in
-    let rows = c.args.rows.now in
-    let old = c.args.entry.now in
-    let place = c.place-place in
-    let k = c.loop-sector.sector-index in
-    let i = c.place_in-i.result in
-    let member = place.result.member in
-    let goes : GoesTo rows place.result.row i = record {
-      within = c.place_in-i.ensures.within;
-      below = c.place_in-i.ensures.below;
-      reached =
-          c.place_in-i.ensures.reached;
-    } in
-    let own = goes_to_own rows place.result.row i c.requires.rows.rising goes
-    (c.requires.rows.each k place.result.row member c.loop-sector-test.true place.ensures.placed) in
-    let row_is : row_at (numbers_of old) i ≡ place.result.row = ap (λ (list : List ℕ). row_at list i) c.requires.numbers ∙ own.1 in
-    let given : IsChanged geometry sectors (row_at (numbers_of old) i) member = subst (λ (r : ℕ). IsChanged geometry sectors r member) (sym row_is)
-    (inl (record { which = k; within = c.loop-sector-test.true; lies = place.ensures.placed })) in
-    ap (λ (form : Form). holds geometry.members form i member) c.loop-sector.invariant.form
-    ∙ (c.requires.held i member (omega (arith, own.0, ap length c.requires.numbers))).1 given

@@ -6,7 +6,7 @@ use Rattle.layout_map.specs.declared.geometry.Geometry.{Geometry}
 use Rattle.layout_map.specs.Placement.{rows_of}
 use Rattle.layout_map.specs.declared.sizes.TheConstants.{MOST_MEMBERS}
 use Rattle.parity.proofs.Laws.{zero_sector-replicate}
-use Rattle.stripe_journal.specs.Entries.{row_mask, sector_at}
+use Rattle.stripe_journal.specs.Entries.{row_mask, sector_at, sector_of_row}
 use Rattle.stripe_journal.specs.Forms.{has_bit}
 use Rattle.stripe_journal.proofs.Entries.{row_member}
 use Rattle.array_io.specs.Steps.FormingRows.{IsListed, sector_with}
@@ -62,7 +62,9 @@ loop-member-preserved g c =
       | in-Some w ↦
           let held : has_bit (row_mask entry i) now.member ≡ true = ap (λ (m : ℕ). has_bit m now.member) (sym mask) ∙ w.in-Some.ensures.some.0 in
           let new_is : w.in-Some.new.now ≡ sector_at entry i now.member = w.in-Some.ensures.some.1
-          ∙ ap (λ (row : List Bytes). slice_index_or row now.member []) c.view-view.ensures.sectors ∙ row_member entry i now.member below_most_members in
+          ∙ ap (λ (m : ℕ). sector_of_row m c.view-view.result.sectors.now now.member) mask
+          ∙ ap (λ (row : List Bytes). sector_of_row (row_mask entry i) row now.member) c.view-view.ensures.sectors
+          ∙ row_member entry i now.member below_most_members held in
           rw (w.bank-is, w.table-is, w.sum-is) record {
             honest = now.invariant.honest;
             still = now.invariant.still;

@@ -1,21 +1,25 @@
-use Rattle.std.proofs.Common.{◌≡◌, ◌≤◌, ◌∙◌, refl, sym, inl, inr, ℕ, ◌+◌, length, length-append, ap, arith, List, get_or}
+use Rattle.std.proofs.Common.{◌≡◌, ◌<◌, ◌≤◌, ◌∙◌, refl, sym, inl, inr, ℕ, ◌+◌, length, length-append, ap, arith, List, get_or}
 use Rattle.std.proofs.lemmas.Bool.{cases_eq}
 use Rattle.std.proofs.lemmas.List.{take_all}
 use Rattle.std.proofs.lemmas.Result.{err_from_is_err_and}
 use Rattle.sector_model.proofs.Panels.{later_same, later_both}
 use Rattle.sector_model.proofs.Reading.{read_none, read_both}
-use Rattle.layout_map.specs.declared.sizes.TheConstants.{ENTRY_ROWS, MOST_MEMBERS}
+use Rattle.layout_map.specs.declared.format.Format.{Format}
+use Rattle.layout_map.specs.declared.sizes.TheConstants.{MOST_MEMBERS}
+use Rattle.layout_map.specs.Formats.{journal_sectors}
 use Rattle.layout_map.proofs.Places.{journal_least}
-use Rattle.stripe_journal.specs.Entries.{body_start, row_mask}
-use Rattle.stripe_journal.specs.Forms.{count_held, has_bit, holds, rank, rows_in}
-use Rattle.stripe_journal.proofs.Masks.{before_few, before_on}
+use Rattle.stripe_journal.specs.Entries.{body_start, half_start, row_mask}
+use Rattle.stripe_journal.specs.Forms.{count_held, has_bit, in_body, rank, rows_in}
+use Rattle.stripe_journal.proofs.HeldRuns.{body_few}
+use Rattle.stripe_journal.proofs.Halves.{start_end}
+use Rattle.stripe_journal.proofs.Masks.{before_grows, before_on, count_agrees}
 use Rattle.degraded.proofs.Members.{up_before}
 use Rattle.array_io.proofs.Commits.LoadingEntries.{held_more, numbers_more, read_before, sector_kept}
 use Rattle.array_io.proofs.loading.load_entry.Goals as goal
 
 pub loop-i-init : goal.loop-i-init
 loop-i-init g c = record {
-  place = omega arith;
+  place = omega (arith, c.half_start-at.ensures.start, ap (λ (f : Format). half_start f c.args.seal.now.number) c.format.ensures);
   numbers = c.clear.ensures;
   count = ap length c.clear.ensures;
   panel = later_same _;
@@ -34,12 +38,17 @@ pub loop-i-preserved : goal.loop-i-preserved
 loop-i-preserved g c =
     let now = c.loop-i in
     let rows = rows_in c.args.seal.now.form in
-    let deref = c.deref-row-items.ensures.0 ∙ c.rows.ensures in
+    let deref = c.rows-row-items.ensures.listed c.requires.listed in
     let members = c.args.geometry.now.members in
     let form = c.args.seal.now.form in
     let few : members ≤ MOST_MEMBERS = omega (arith, c.args.geometry.now.limits.members_most) in
+    let masked : (member : ℕ) → member < MOST_MEMBERS → has_bit (row_mask c.push.new.self now.i) member ≡ in_body members form now.i member =
+    λ member within. ap (λ (n : ℕ). has_bit (row_mask c.push.new.self n) member) (sym now.invariant.count)
+    ∙ ap (λ (m : ℕ). has_bit m member) c.push.ensures.mask ∙ c.mask.ensures member within in
+    let counts : (n : ℕ) → n ≤ members → count_held (has_bit (row_mask c.push.new.self now.i)) n ≡ count_held (in_body members form now.i) n =
+    λ n most. count_agrees (has_bit (row_mask c.push.new.self now.i)) (in_body members form now.i) n (λ m below. masked m (omega (arith, below, most, few))) in
     record {
-      place = omega (arith, now.invariant.place, c.in_ok-at.ensures.beyond, before_on members form now.i);
+      place = omega (arith, now.invariant.place, c.in_ok-at.ensures.beyond, counts members (omega arith), before_on members form now.i);
       numbers = numbers_more rows _ _ _ now.i _ (omega (arith, ap length deref, c.loop-i-test.true)) (ap (λ (list : List ℕ). get_or list now.i 0) deref)
           now.invariant.numbers c.push.ensures.numbers c.load_row.ensures.numbers;
       count = omega (arith, ap length c.load_row.ensures.numbers, ap length c.push.ensures.numbers, length-append {A = ℕ}, now.invariant.count);
@@ -52,11 +61,11 @@ loop-i-preserved g c =
           c.load_row.ensures.form c.mask.ensures c.push.ensures.mask c.push.ensures.masks now.invariant.held;
       loaded = λ k member honest below within on. elim (cases_eq k now.i) [
         | inl same ↦
-            let there = ap (λ (n : ℕ). holds members form n member) (sym same) ∙ on in
-            let place : now.at + count_held (holds members form now.i) member ≡ body_start c.args.seal.now.number + rank members form now.i member =
-            omega (arith, now.invariant.place) in
+            let there = ap (λ (n : ℕ). in_body members form n member) (sym same) ∙ on in
+            let place : now.at + count_held (has_bit (row_mask c.push.new.self now.i)) member ≡ body_start c.args.seal.now + rank members form now.i member =
+            omega (arith, now.invariant.place, counts member (omega (arith, within))) in
             rw same (read_before c.args.journal _ _ _ (now.invariant.read honest) place
-            (c.in_ok-at.ensures.loaded member (now.invariant.honest honest) within there))
+            (c.in_ok-at.ensures.loaded member (now.invariant.honest honest) within (masked member (omega (arith, within, few)) ∙ there)))
         | inr other ↦
             sector_kept now.entry c.push.new.self c.load_row.new.entry k member _ (c.load_row.ensures.others k member other (omega arith))
             (c.push.ensures.others k member (omega (arith, now.invariant.count)) (omega arith)) (now.invariant.loaded k member honest (omega arith) within on)
@@ -64,7 +73,7 @@ loop-i-preserved g c =
     }
 
 pub push-requires : goal.push-requires
-push-requires g c = omega (arith, c.loop-i.invariant.count, ap length (c.deref-row-items.ensures.0 ∙ c.rows.ensures), c.loop-i-test.true)
+push-requires g c = omega (arith, c.loop-i.invariant.count, ap length (c.rows-row-items.ensures.listed c.requires.listed), c.loop-i-test.true)
 
 pub load_row-requires-clause-slot : goal.load_row-requires-clause-slot
 load_row-requires-clause-slot g c = omega (arith, c.loop-i.invariant.panel.devices, c.requires.slot)
@@ -72,17 +81,12 @@ load_row-requires-clause-slot g c = omega (arith, c.loop-i.invariant.panel.devic
 pub load_row-requires-clause-row : goal.load_row-requires-clause-row
 load_row-requires-clause-row g c = omega (arith, ap length c.push.ensures.numbers, length-append {A = ℕ}, c.loop-i.invariant.count)
 
-pub load_row-requires-clause-masked : goal.load_row-requires-clause-masked
-load_row-requires-clause-masked g c = λ member within.
-    ap (λ (n : ℕ). has_bit (row_mask c.push.new.self n) member) (sym c.loop-i.invariant.count)
-    ∙ ap (λ (m : ℕ). has_bit m member) c.push.ensures.mask ∙ c.mask.ensures member within
-
 pub returns-in_err-at-clause-held : goal.returns-in_err-at-clause-held
 returns-in_err-at-clause-held g c = λ i member below within. rw (err_from_is_err_and c.from_residual.result c.from_residual.ensures.1).1 tt
 
 pub returns-clause-held : goal.returns-clause-held
 returns-clause-held g c = λ k member below within.
-    c.loop-i.invariant.held k member (omega (arith, below, ap length (c.deref-row-items.ensures.0 ∙ c.rows.ensures), c.loop-i-test.false)) within
+    c.loop-i.invariant.held k member (omega (arith, below, ap length (c.rows-row-items.ensures.listed c.requires.listed), c.loop-i-test.false)) within
 
 pub load_row-requires-clause-within : goal.load_row-requires-clause-within
 load_row-requires-clause-within g c = λ up.
@@ -127,11 +131,17 @@ returns-clause-read g c = c.loop-i.invariant.read
 
 pub returns-clause-numbers : goal.returns-clause-numbers
 returns-clause-numbers g c = c.loop-i.invariant.numbers
-    ∙ take_all c.loop-i.i (rows_in c.args.seal.now.form) (omega (arith, ap length (c.deref-row-items.ensures.0 ∙ c.rows.ensures), c.loop-i-test.false))
+    ∙ take_all c.loop-i.i (rows_in c.args.seal.now.form) (omega (arith, ap length (c.rows-row-items.ensures.listed c.requires.listed), c.loop-i-test.false))
 
 pub returns-clause-loaded : goal.returns-clause-loaded
 returns-clause-loaded g c = λ k member honest below within on.
-    c.loop-i.invariant.loaded k member honest (omega (arith, below, ap length (c.deref-row-items.ensures.0 ∙ c.rows.ensures), c.loop-i-test.false)) within on
+    c.loop-i.invariant.loaded k member honest (omega (
+      arith,
+      below,
+      ap length
+          (c.rows-row-items.ensures.listed c.requires.listed),
+      c.loop-i-test.false,
+    )) within on
 
 pub returns-clause-others_stay : goal.returns-clause-others_stay
 returns-clause-others_stay g c = λ other honest apart. c.loop-i.invariant.stays other honest
@@ -149,13 +159,23 @@ pub load_row-requires-clause-end : goal.load_row-requires-clause-end
 load_row-requires-clause-end g c =
     let members = c.args.geometry.now.members in
     let form = c.args.seal.now.form in
-    let below : c.loop-i.i + 1 ≤ ENTRY_ROWS =
-    omega (arith, ap length (c.deref-row-items.ensures.0 ∙ c.rows.ensures), c.loop-i-test.true, c.args.seal.now.allowed.rows_most) in
+    let few : members ≤ MOST_MEMBERS = omega (arith, c.args.geometry.now.limits.members_most) in
+    let masked : (member : ℕ) → member < MOST_MEMBERS → has_bit (row_mask c.push.new.self c.loop-i.i) member ≡ in_body members form c.loop-i.i member =
+    λ member within. ap (λ (n : ℕ). has_bit (row_mask c.push.new.self n) member) (sym c.loop-i.invariant.count)
+    ∙ ap (λ (m : ℕ). has_bit m member) c.push.ensures.mask ∙ c.mask.ensures member within in
     omega (
       arith,
       c.loop-i.invariant.place,
+      count_agrees (has_bit (row_mask c.push.new.self c.loop-i.i)) (in_body members form c.loop-i.i) members (λ m below. masked m (omega (arith, below, few))),
       before_on members form c.loop-i.i,
-      before_few members form (c.loop-i.i + 1) c.args.geometry.now.limits.members_most
-          below,
+      before_grows members form (c.loop-i.i + 1) (length (rows_in form)) (omega (
+        arith,
+        ap length
+            (c.rows-row-items.ensures.listed c.requires.listed),
+        c.loop-i-test.true,
+      )),
+      body_few members form few c.args.seal.now.formed,
+      start_end c.args.seal.now,
+      ap journal_sectors c.requires.listed,
       journal_least c.args.geometry.now.format,
     )

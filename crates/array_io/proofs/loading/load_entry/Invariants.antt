@@ -3,12 +3,12 @@ use Rattle.sector_model.specs.Bank.{IsLater}
 use Rattle.sector_model.specs.History.{is_down, seen, sector_of}
 use Rattle.sector_model.specs.Reads.{HasRead}
 use Rattle.stripe_journal.specs.Entries.{body_start, form_of, numbers_of, sector_at}
-use Rattle.stripe_journal.specs.Forms.{held_before, holds, rank, rows_in}
+use Rattle.stripe_journal.specs.Forms.{held_before, in_body, rank, rows_in}
 use Rattle.array_io.proofs.loading.load_entry.Given as goal
 
 abbrev pub invariant-loop-i : goal.invariant-loop-i
 invariant-loop-i g l = record {
-  place : l.at ≡ body_start l.seal.number + held_before l.geometry.members l.seal.form l.i;
+  place : l.at ≡ body_start l.seal + held_before l.geometry.members l.seal.form l.i;
   numbers : numbers_of l.entry ≡ take l.i (rows_in l.seal.form);
   count : length (numbers_of l.entry) ≡ l.i;
   panel : IsLater (g.B.Bank.panel l.initial.bank) (g.B.Bank.panel l.bank);
@@ -17,8 +17,8 @@ invariant-loop-i g l = record {
   read : g.B.Bank.honest l.initial.bank → HasRead (g.B.Bank.history l.initial.bank) (g.B.Bank.history l.bank);
   stays : (device : ℕ) → g.B.Bank.honest l.initial.bank → is_down (g.B.Bank.history l.bank) device ≡ is_down (g.B.Bank.history l.initial.bank) device;
   held : (k member : ℕ) → k < l.i → member < l.geometry.members
-      → holds l.geometry.members (form_of l.entry) k member ≡ holds l.geometry.members l.seal.form k member;
-  loaded : (k member : ℕ) → g.B.Bank.honest l.initial.bank → k < l.i → member < l.geometry.members → holds l.geometry.members l.seal.form k member ≡ true
+      → in_body l.geometry.members (form_of l.entry) k member ≡ in_body l.geometry.members l.seal.form k member;
+  loaded : (k member : ℕ) → g.B.Bank.honest l.initial.bank → k < l.i → member < l.geometry.members → in_body l.geometry.members l.seal.form k member ≡ true
       → sector_at l.entry k member
-      ≡ sector_of (seen (g.B.Bank.history l.initial.bank) l.journal) (body_start l.seal.number + rank l.geometry.members l.seal.form k member);
+      ≡ sector_of (seen (g.B.Bank.history l.initial.bank) l.journal) (body_start l.seal + rank l.geometry.members l.seal.form k member);
 }

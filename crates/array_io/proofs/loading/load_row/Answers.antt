@@ -5,12 +5,14 @@ use Rattle.sector_model.proofs.Reading.{read_none, read_one, read_both}
 use Rattle.layout_map.specs.declared.sizes.TheConstants.{ENTRY_ROWS, MOST_MEMBERS}
 use Rattle.layout_map.proofs.Places.{journal_most}
 use Rattle.stripe_journal.specs.declared.form.Form.{Form}
-use Rattle.stripe_journal.specs.Forms.{count_held, holds}
+use Rattle.stripe_journal.specs.Entries.{row_mask}
+use Rattle.stripe_journal.specs.Forms.{count_held, has_bit, in_body}
 use Rattle.stripe_journal.proofs.Entries.{sector_elsewhere}
 use Rattle.stripe_journal.proofs.Masks.{count_beyond, count_on, count_over}
 use Rattle.degraded.proofs.Members.{up_before}
-use Rattle.array_io.proofs.Commits.LoadingEntries.{loaded_more, loaded_over, none_of_read, read_before}
-use Rattle.array_io.proofs.loading.load_row.Goals.{else-holds, then-holds+in_ok-read_sector}
+use Rattle.array_io.proofs.Reading.CountedReads.{is_held}
+use Rattle.array_io.proofs.Commits.LoadingEntries.{loaded_more, loaded_over, none_of_read, others_of_read, read_before}
+use Rattle.array_io.proofs.loading.load_row.Goals.{else-is_some, then-is_some+in_ok-read_sector}
 use Rattle.array_io.proofs.loading.load_row.Goals as goal
 
 pub loop-member-init : goal.loop-member-init
@@ -35,10 +37,17 @@ loop-member-preserved g c =
     let few = c.args.entry.now.few in
     let below : c.args.i < ENTRY_ROWS = omega arith in
     let within : c.loop-member.member < MOST_MEMBERS = omega arith in
-    let in_row = holds c.args.geometry.now.members c.args.seal.now.form c.args.i in
-    elim c.if-holds.branch [
-      | then-holds+in_ok-read_sector w ↦
-          let held : in_row c.loop-member.member ≡ true = sym c.holds.ensures ∙ w.if-holds.true in
+    let in_row = has_bit (row_mask c.args.entry.now c.args.i) in
+    let bit : c.is_some.result ≡ in_row c.loop-member.member =
+    is_held _ c.member.result (has_bit c.view.result.mask c.loop-member.member) c.is_some.result c.member.ensures.some c.member.ensures.none
+    c.is_some.ensures
+    ∙ ap (λ (m : ℕ). has_bit m c.loop-member.member) c.view.ensures.mask
+    ∙ ap (λ (f : Form). in_body 0 f c.args.i c.loop-member.member) now.invariant.form in
+    elim c.if-is_some.branch [
+      | then-is_some+in_ok-read_sector w ↦
+          let held : in_row c.loop-member.member ≡ true = sym bit ∙ w.if-is_some.true in
+          let here : has_bit (row_mask entry c.args.i) c.loop-member.member ≡ true =
+          ap (λ (f : Form). in_body 0 f c.args.i c.loop-member.member) now.invariant.form ∙ held in
           rw (w.bank-is, w.entry-is, w.at-is) record {
             panel = later_both _ _ _ now.invariant.panel w.read_sector.ensures.panel;
             honest = λ honest. w.read_sector.ensures.honest.0 (now.invariant.honest honest);
@@ -50,14 +59,14 @@ loop-member-preserved g c =
             loaded = λ honest.
                 let is = read_before journal _ _ _ (now.invariant.read honest) now.invariant.place
                 (w.in_ok-read_sector.ensures.bytes (now.invariant.honest honest)) in
-                loaded_more entry c.args.i c.args.first now.member in_row _ _ below within is (now.invariant.loaded honest);
+                loaded_more entry c.args.i c.args.first now.member in_row _ _ below within here is (now.invariant.loaded honest);
             stays = λ device honest. none_of_read journal device _ (w.in_ok-read_sector.ensures.history (now.invariant.honest honest))
                 ∙ now.invariant.stays device honest;
             others = λ other k apart wide.
-                sector_elsewhere entry c.args.i now.member other k _ within wide (λ same. absurd (apart same)) ∙ now.invariant.others other k apart wide;
+                sector_elsewhere entry c.args.i now.member other k _ within wide here (λ same. absurd (apart same)) ∙ now.invariant.others other k apart wide;
           }
-      | else-holds w ↦
-          let lacking : in_row c.loop-member.member ≡ false = sym c.holds.ensures ∙ w.if-holds.false in
+      | else-is_some w ↦
+          let lacking : in_row c.loop-member.member ≡ false = sym bit ∙ w.if-is_some.false in
           rw (w.bank-is, w.entry-is, w.at-is) record {
             panel = now.invariant.panel;
             honest = now.invariant.honest;
@@ -84,8 +93,13 @@ read_sector-requires-clause-device g c = omega (arith, c.loop-member.invariant.p
 pub read_sector-requires-clause-within : goal.read_sector-requires-clause-within
 read_sector-requires-clause-within g c = λ up.
     let was = c.requires.within (up_before c.args.journal c.loop-member.invariant.panel up) in
-    let in_row = holds c.args.geometry.now.members c.args.seal.now.form c.args.i in
-    let held : in_row c.loop-member.member ≡ true = sym c.holds.ensures ∙ c.if-holds.true in
+    let in_row = has_bit (row_mask c.args.entry.now c.args.i) in
+    let bit : c.is_some.result ≡ in_row c.loop-member.member =
+    is_held _ c.member.result (has_bit c.view.result.mask c.loop-member.member) c.is_some.result c.member.ensures.some c.member.ensures.none
+    c.is_some.ensures
+    ∙ ap (λ (m : ℕ). has_bit m c.loop-member.member) c.view.ensures.mask
+    ∙ ap (λ (f : Form). in_body 0 f c.args.i c.loop-member.member) c.loop-member.invariant.form in
+    let held : in_row c.loop-member.member ≡ true = sym bit ∙ c.if-is_some.true in
     omega (
       arith,
       was,
@@ -97,14 +111,20 @@ read_sector-requires-clause-within g c = λ up.
 
 pub sector_mut-requires-clause-held : goal.sector_mut-requires-clause-held
 sector_mut-requires-clause-held g c =
-    let within : c.loop-member.member < MOST_MEMBERS = omega (arith, c.args.geometry.now.limits.members_most, c.loop-member-test.true) in
-    ap (λ (f : Form). holds c.args.geometry.now.members f c.args.i c.loop-member.member) c.loop-member.invariant.form
-    ∙ c.requires.masked c.loop-member.member within ∙ sym c.holds.ensures ∙ c.if-holds.true
+    sym (is_held _ c.member.result (has_bit c.view.result.mask c.loop-member.member) c.is_some.result c.member.ensures.some c.member.ensures.none
+    c.is_some.ensures
+    ∙ ap (λ (m : ℕ). has_bit m c.loop-member.member) c.view.ensures.mask)
+    ∙ c.if-is_some.true
 
 pub overflow_add-at : goal.overflow_add-at
 overflow_add-at g c =
-    let in_row = holds c.args.geometry.now.members c.args.seal.now.form c.args.i in
-    let held : in_row c.loop-member.member ≡ true = sym c.holds.ensures ∙ c.if-holds.true in
+    let in_row = has_bit (row_mask c.args.entry.now c.args.i) in
+    let bit : c.is_some.result ≡ in_row c.loop-member.member =
+    is_held _ c.member.result (has_bit c.view.result.mask c.loop-member.member) c.is_some.result c.member.ensures.some c.member.ensures.none
+    c.is_some.ensures
+    ∙ ap (λ (m : ℕ). has_bit m c.loop-member.member) c.view.ensures.mask
+    ∙ ap (λ (f : Form). in_body 0 f c.args.i c.loop-member.member) c.loop-member.invariant.form in
+    let held : in_row c.loop-member.member ≡ true = sym bit ∙ c.if-is_some.true in
     omega (
       arith,
       c.loop-member.invariant.place,
@@ -135,7 +155,12 @@ returns-in_err-read_sector-clause-loaded g c = λ member honest within on. rw (e
 pub returns-in_err-read_sector-clause-others : goal.returns-in_err-read_sector-clause-others
 returns-in_err-read_sector-clause-others g c = λ other member apart wide.
     let within : c.loop-member.member < MOST_MEMBERS = omega (arith, c.args.geometry.now.limits.members_most, c.loop-member-test.true) in
-    sector_elsewhere c.loop-member.entry c.args.i c.loop-member.member other member _ within wide (λ same. absurd (apart same))
+    let held : has_bit (row_mask c.loop-member.entry c.args.i) c.loop-member.member ≡ true =
+    sym (is_held _ c.member.result (has_bit c.view.result.mask c.loop-member.member) c.is_some.result c.member.ensures.some c.member.ensures.none
+    c.is_some.ensures
+    ∙ ap (λ (m : ℕ). has_bit m c.loop-member.member) c.view.ensures.mask)
+    ∙ c.if-is_some.true in
+    sector_elsewhere c.loop-member.entry c.args.i c.loop-member.member other member _ within wide held (λ same. absurd (apart same))
     ∙ c.loop-member.invariant.others other member apart wide
 
 pub returns-in_err-read_sector-clause-none_failed : goal.returns-in_err-read_sector-clause-none_failed
@@ -164,7 +189,7 @@ returns-clause-loaded g c = λ member honest within on. c.loop-member.invariant.
 pub returns-clause-beyond : goal.returns-clause-beyond
 returns-clause-beyond g c =
     let end : c.loop-member.member ≡ c.args.geometry.now.members = omega arith in
-    c.loop-member.invariant.place ∙ ap (λ (n : ℕ). c.args.first + count_held (holds c.args.geometry.now.members c.args.seal.now.form c.args.i) n) end
+    c.loop-member.invariant.place ∙ ap (λ (n : ℕ). c.args.first + count_held (has_bit (row_mask c.args.entry.now c.args.i)) n) end
 
 pub returns-clause-form : goal.returns-clause-form
 returns-clause-form g c = c.loop-member.invariant.form
@@ -174,6 +199,12 @@ returns-in_err-read_sector-clause-form g c = c.loop-member.invariant.form
 
 pub returns-clause-others : goal.returns-clause-others
 returns-clause-others g c = c.loop-member.invariant.others
+
+pub returns-in_err-read_sector-clause-others_stay : goal.returns-in_err-read_sector-clause-others_stay
+returns-in_err-read_sector-clause-others_stay g c = λ other honest apart.
+    others_of_read (g.B.Bank.history c.loop-member.bank) (g.B.Bank.history c.read_sector.new.bank) c.args.journal other c.in_err-read_sector.field-0.0 apart
+    (c.in_err-read_sector.ensures.history (c.loop-member.invariant.honest honest))
+    ∙ c.loop-member.invariant.stays other honest
 
 pub returns-clause-others_stay : goal.returns-clause-others_stay
 returns-clause-others_stay g c = λ other honest apart. c.loop-member.invariant.stays other honest

@@ -77,7 +77,7 @@ fn check_seal(rt: &impl Abort, image: &Image, slot: usize) {
     assert!(rt; slot < image.slots.len());
     let last = last_sealed_in(&image.slots[slot], &ID, &geometry_of(rt, SET_A));
     let seal = last.expect(rt, "a seal counts");
-    let is_row = seal.form.rows().as_slice() == [32].as_slice();
+    let is_row = seal.form.rows() == [32].as_slice();
     same(rt, (slot, seal.number, is_row), (slot, 2, true));
 }
 

@@ -16,6 +16,6 @@ invariant-loop-i g l = record {
   made : g.B.Bank.honest l.initial.bank → (answered : Bool) (new : History)
       → Made (copied_from l.from l.to (l.first + l.i) (sectors_from (seen (g.B.Bank.history l.initial.bank) l.from) l.first l.i l.count)) answered
       (g.B.Bank.history l.bank) new
-      → Made (copied_from l.from l.to (body_start l.seal.number) (body_in l.geometry.members (seen (g.B.Bank.history l.initial.bank) l.from) l.seal)) answered
+      → Made (copied_from l.from l.to (body_start l.seal) (body_in l.geometry.members (seen (g.B.Bank.history l.initial.bank) l.from) l.seal)) answered
       (g.B.Bank.history l.initial.bank) new;
 }

@@ -1,6 +1,7 @@
 -- The masks of the rows so far fit.
 use Rattle.std.specs.Prelude.{◌<◌, ℕ}
-use Rattle.stripe_journal.specs.Forms.{HoldsRow, has_bit, mask_at}
+use Rattle.entry_runs.specs.Body.{has_bit}
+use Rattle.stripe_journal.specs.Forms.{HoldsRow, mask_at}
 use Rattle.stripe_journal.specs.Seals.{row_at}
 use Rattle.stripe_journal.proofs.counting.are_masks_of.Given as goal
 

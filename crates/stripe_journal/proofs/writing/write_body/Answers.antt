@@ -1,12 +1,13 @@
 use Rattle.std.proofs.Common.{arith, true, false, ◌≡◌, ◌+◌, ◌∙◌, ℕ, List, ap, subst}
 use Rattle.std.proofs.lemmas.Result.{err_from_is_err_and}
-use Rattle.layout_map.proofs.Places.{journal_least}
 use Rattle.sector_model.specs.Calls.{Made, writes_from}
 use Rattle.sector_model.specs.History.{Bytes}
 use Rattle.sector_model.proofs.Panels.{later_both}
 use Rattle.stripe_journal.specs.Entries.{form_of, held_of, row_mask}
-use Rattle.stripe_journal.specs.Forms.{count_held, has_bit, holds}
+use Rattle.entry_runs.specs.Body.{count_held, has_bit}
+use Rattle.stripe_journal.specs.Forms.{in_body}
 use Rattle.stripe_journal.proofs.Entries.{row_short, row_then}
+use Rattle.stripe_journal.proofs.Halves.{body_least, half_end}
 use Rattle.stripe_journal.proofs.Masks.{before_few, before_on}
 use Rattle.stripe_journal.proofs.writing.write_body.Goals as goal
 
@@ -21,7 +22,8 @@ write_row-requires-clause-end g c =
       few,
       before_on members form c.loop-i.i,
       ap (λ (mask : ℕ). count_held (has_bit mask) members) c.view.ensures.mask,
-      journal_least c.args.geometry.now.format,
+      half_end c.args.geometry.now.format c.args.number,
+      body_least c.args.geometry.now.format,
     )
 
 pub returns-in_err-at-clause-made : goal.returns-in_err-at-clause-made
@@ -39,9 +41,9 @@ pub loop-i-preserved : goal.loop-i-preserved
 loop-i-preserved g c =
     let members = c.args.geometry.now.members in
     let form = form_of c.args.entry.now in
-    let count_is : count_held (has_bit c.view.result.mask) members ≡ count_held (holds members form c.loop-i.i) members =
+    let count_is : count_held (has_bit c.view.result.mask) members ≡ count_held (in_body members form c.loop-i.i) members =
     ap (λ (mask : ℕ). count_held (has_bit mask) members) c.view.ensures.mask in
-    let beyond : c.in_ok-at.at ≡ c.loop-i.at + count_held (holds members form c.loop-i.i) members = c.in_ok-at.ensures.beyond
+    let beyond : c.in_ok-at.at ≡ c.loop-i.at + count_held (in_body members form c.loop-i.i) members = c.in_ok-at.ensures.beyond
     ∙ ap (λ (k : ℕ). c.loop-i.at + k) count_is in
     record {
       place = omega (arith, c.loop-i.invariant.place, beyond, before_on members form c.loop-i.i);

@@ -4,9 +4,9 @@ use Rattle.std.proofs.lemmas.Result.{err_from_is_err_and}
 use Rattle.layout_map.proofs.Places.{journal_most}
 use Rattle.layout_map.specs.Formats.{journal_sectors}
 use Rattle.sector_model.proofs.Panels.{later_both}
-use Rattle.stripe_journal.specs.Forms.{has_bit}
+use Rattle.entry_runs.specs.Body.{has_bit}
 use Rattle.stripe_journal.proofs.Entries.{held_short, held_then, lacking_then}
-use Rattle.stripe_journal.proofs.Masks.{count_beyond, count_on, count_over}
+use Rattle.entry_runs.proofs.Counts.{count_beyond, count_on, count_over}
 use Rattle.stripe_journal.proofs.writing.write_row.Goals.{in-Some+in_ok-write_sector, in_default}
 use Rattle.stripe_journal.proofs.writing.write_row.Goals as goal
 

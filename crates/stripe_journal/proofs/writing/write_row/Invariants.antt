@@ -3,7 +3,7 @@ use Rattle.sector_model.specs.Bank.{IsLater}
 use Rattle.sector_model.specs.Calls.{Made, writes_from}
 use Rattle.sector_model.specs.History.{History}
 use Rattle.stripe_journal.specs.Entries.{held_of}
-use Rattle.stripe_journal.specs.Forms.{count_held, has_bit}
+use Rattle.entry_runs.specs.Body.{count_held, has_bit}
 use Rattle.stripe_journal.proofs.Entries.{held_from}
 use Rattle.stripe_journal.proofs.writing.write_row.Given as goal
 

@@ -4,7 +4,7 @@ use Rattle.layout_map.specs.declared.geometry.Geometry.{Geometry}
 use Rattle.layout_map.specs.Placement.{rows_of}
 use Rattle.stripe_journal.specs.declared.form.Form.{Form}
 use Rattle.stripe_journal.specs.Entries.{numbers_of}
-use Rattle.stripe_journal.specs.Forms.{holds}
+use Rattle.stripe_journal.specs.Forms.{format_of, in_body}
 use Rattle.stripe_journal.specs.Seals.{row_at}
 use Rattle.array_io.specs.Believed.Holds.{row_count}
 use Rattle.array_io.proofs.Images.Codecs.{spellings}
@@ -32,7 +32,8 @@ put_on_members-requires-clause-its_rows g c =
     let same = (c.in_ok-form_rows.ensures.steps (g.B.Bank.panel c.args.self.now.bank).devices c.args.self.now.entry).goes_on.not_older.same_geometry in
     record {
       same = sym c.next_seal-seal.ensures.rows;
-      held = λ i member below within. ap (λ (f : Form). holds c.put_on_journals.new.table.geometry.members f i member) (sym c.next_seal-seal.ensures.form);
+      same_format = ap format_of (sym c.next_seal-seal.ensures.form);
+      held = λ i member below within. ap (λ (f : Form). in_body c.put_on_journals.new.table.geometry.members f i member) (sym c.next_seal-seal.ensures.form);
       below = subst (λ (rows : List ℕ). (i : ℕ) → i < length rows → row_at rows i < row_count c.put_on_journals.new.table) (sym c.next_seal-seal.ensures.rows)
           (subst (λ (s : Geometry). (i : ℕ) → i < length (numbers_of c.form_rows.new.entry)
           → row_at (numbers_of c.form_rows.new.entry) i < rows_of s.chunk s.stripes)
@@ -46,7 +47,8 @@ returns-in_err-put_on_journals-clause-commits g c =
     c.form_rows.new.table
     (g.B.Bank.panel c.args.self.now.bank) (g.B.Bank.panel c.form_rows.new.bank) (g.B.Bank.history c.args.self.now.bank) (g.B.Bank.history c.form_rows.new.bank)
     (λ fair. g.met.B.Bank.true_to _ fair) (λ fair. g.met.B.Bank.true_to _ (c.form_rows.ensures.honest.0 fair))
-    (g.B.Bank.honest c.form_rows.new.bank) (λ fair. c.form_rows.ensures.honest.0 fair) c.requires c.next_seal-seal.result c.form_rows.new.entry
+    (g.B.Bank.honest c.form_rows.new.bank) (λ fair. c.form_rows.ensures.honest.0 fair) c.requires c.form_rows.ensures.its_slots.of_format_one
+    c.next_seal-seal.result c.form_rows.new.entry
     c.in_ok-form_rows.ensures.steps c.in_ok-form_rows.ensures.formed c.next_seal-seal.ensures.id c.next_seal-seal.ensures.number c.next_seal-seal.ensures.rows
     c.next_seal-seal.ensures.form
     c.put_on_journals.new.table (g.B.Bank.panel c.put_on_journals.new.bank) (g.B.Bank.history c.put_on_journals.new.bank)
@@ -59,7 +61,8 @@ returns-in_err-put_on_members-clause-commits g c =
     c.form_rows.new.table
     (g.B.Bank.panel c.args.self.now.bank) (g.B.Bank.panel c.form_rows.new.bank) (g.B.Bank.history c.args.self.now.bank) (g.B.Bank.history c.form_rows.new.bank)
     (λ fair. g.met.B.Bank.true_to _ fair) (λ fair. g.met.B.Bank.true_to _ (c.form_rows.ensures.honest.0 fair))
-    (g.B.Bank.honest c.form_rows.new.bank) (λ fair. c.form_rows.ensures.honest.0 fair) c.requires c.next_seal-seal.result c.form_rows.new.entry
+    (g.B.Bank.honest c.form_rows.new.bank) (λ fair. c.form_rows.ensures.honest.0 fair) c.requires c.form_rows.ensures.its_slots.of_format_one
+    c.next_seal-seal.result c.form_rows.new.entry
     c.in_ok-form_rows.ensures.steps c.in_ok-form_rows.ensures.formed c.next_seal-seal.ensures.id c.next_seal-seal.ensures.number c.next_seal-seal.ensures.rows
     c.next_seal-seal.ensures.form
     c.put_on_journals.new.table (g.B.Bank.panel c.put_on_journals.new.bank) (g.B.Bank.history c.put_on_journals.new.bank)
@@ -74,7 +77,8 @@ returns-clause-commits g c =
     commit_done spellings (g.B.Bank.honest c.args.self.now.bank) c.args.self.now.entry c.args.sectors.now c.args.self.now.table c.form_rows.new.table
     (g.B.Bank.panel c.args.self.now.bank) (g.B.Bank.panel c.form_rows.new.bank) (g.B.Bank.history c.args.self.now.bank) (g.B.Bank.history c.form_rows.new.bank)
     (λ fair. g.met.B.Bank.true_to _ fair) (λ fair. g.met.B.Bank.true_to _ (c.form_rows.ensures.honest.0 fair))
-    (g.B.Bank.honest c.form_rows.new.bank) (λ fair. c.form_rows.ensures.honest.0 fair) c.requires c.next_seal-seal.result c.form_rows.new.entry
+    (g.B.Bank.honest c.form_rows.new.bank) (λ fair. c.form_rows.ensures.honest.0 fair) c.requires c.form_rows.ensures.its_slots.of_format_one
+    c.next_seal-seal.result c.form_rows.new.entry
     c.in_ok-form_rows.ensures.steps c.in_ok-form_rows.ensures.formed c.next_seal-seal.ensures.id c.next_seal-seal.ensures.number c.next_seal-seal.ensures.rows
     c.next_seal-seal.ensures.form
     c.put_on_journals.new.table (g.B.Bank.panel c.put_on_journals.new.bank) (g.B.Bank.history c.put_on_journals.new.bank)

@@ -1,6 +1,6 @@
-use Rattle.std.proofs.Common.{ℕ, ◌+◌, length, sym, ap, subst, arith}
+use Rattle.std.proofs.Common.{◌+◌, sym, ap, subst, arith}
 use Rattle.stripe_journal.specs.declared.form.Form.{Form}
-use Rattle.stripe_journal.specs.Forms.{IsForm, rows_in}
+use Rattle.stripe_journal.specs.Forms.{rows_in}
 use Rattle.stripe_journal.specs.Seals.{IsSeal}
 use Rattle.array_io.proofs.array.commit.next_seal.Goals as goal
 
@@ -9,13 +9,9 @@ invariant_of-result c = record {
   allowed = subst (λ (form : Form). IsSeal (c.args.number + 1) (rows_in form)) (sym c.form.ensures.form) (record {
     number_least = omega arith;
     number_most = omega (arith, c.requires.room);
-    rows_least = c.requires.least;
-    rows_most = c.args.entry.now.few;
-    row_most = c.form.ensures.fits;
-    rising = c.requires.rising;
+    rows = record { least = c.requires.least; each = c.form.ensures.fits; rising = c.requires.rising };
   });
-  formed = subst (λ (n : ℕ). IsForm c.form.result n) (sym (ap (λ (form : Form). length (rows_in form)) c.form.ensures.form))
-      (c.form.ensures.sealed c.requires.held);
+  formed = c.form.ensures.sealed c.requires.held;
 }
 
 pub returns-clause-rows : goal.returns-clause-rows

@@ -4,6 +4,7 @@ use Rattle.std.proofs.lemmas.List.{length-take-le, take_more}
 use Rattle.std.proofs.Math.Seq.{take-length}
 use Rattle.stripe_journal.specs.declared.form.Form.TheVariants.{Held}
 use Rattle.stripe_journal.specs.Entries.{numbers_of}
+use Rattle.stripe_journal.specs.Forms.{IsForm}
 use Rattle.stripe_journal.specs.Seals.{row_at}
 use Rattle.stripe_journal.proofs.FormTests.{formed_by}
 use Rattle.stripe_journal.proofs.entry.Entry.form.Goals as goal
@@ -44,6 +45,10 @@ returns-clause-form c =
     (c.loop-i.invariant.rows ∙ ap (λ (n : ℕ). take n entry.rows.items) all ∙ take-length entry.rows.items)
 
 pub returns-clause-sealed : goal.returns-clause-sealed
-returns-clause-sealed c =
+returns-clause-sealed c = λ two.
     let entry = c.args.self.now in
-    formed_by _ entry.masks _ entry.masked entry.bytes entry.rest
+    let all : c.loop-i.i ≡ length entry.rows.items = omega (arith, c.loop-i.invariant.most, c.loop-i-test.false, c.len-i-end.ensures) in
+    let same : c.loop-i.rows.items ≡ entry.rows.items =
+    c.loop-i.invariant.rows ∙ ap (λ (n : ℕ). take n entry.rows.items) all ∙ take-length entry.rows.items in
+    subst (λ (rows : List ℕ). IsForm (Held (record { items = rows }) entry.masks)) (sym same)
+    (formed_by entry.rows entry.masks entry.few entry.masked entry.bytes entry.rest two)

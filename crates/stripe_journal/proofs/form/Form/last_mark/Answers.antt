@@ -9,3 +9,7 @@ returns-in-Whole c = rw c.in-Whole.is refl
 pub returns-in-Held : goal.returns-in-Held
 unfolding last_mark
 returns-in-Held c = rw c.in-Held.is refl
+
+pub returns-in-Runs : goal.returns-in-Runs
+unfolding last_mark
+returns-in-Runs c = rw c.in-Runs.is refl

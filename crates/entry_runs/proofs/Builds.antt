@@ -66,7 +66,7 @@ each_taken runs n within each i below =
     subst IsRun (sym (get_or-take n runs i (record { first = 0; length = 0; mask = 0 }) (omega (arith, below, long))))
     (each i (omega (arith, below, long, within)))
 
-longer_run : (run next : Run) → IsRun run → IsRun next → touches run next ≡ true → run.length + next.length < 2 ^ 16 → IsRun (longer run next.length)
+pub longer_run : (run next : Run) → IsRun run → IsRun next → touches run next ≡ true → run.length + next.length < 2 ^ 16 → IsRun (longer run next.length)
 longer_run run next is is_next touch short = record {
   long = omega (arith, is.long);
   length_most = short;

@@ -73,13 +73,13 @@ held_bits (run ∷ runs) = ap (λ (n : ℕ). held_of run + n) (held_bits runs) �
 
 -- the bits before a row of the first run, and before one of the runs after it
 
-bits_before_first : (run : Run) (runs : List Run) (i : ℕ) → i ≤ run.length → bits_in (take i (masks_of_runs (run ∷ runs))) ≡ i * count_ones run.mask
+pub bits_before_first : (run : Run) (runs : List Run) (i : ℕ) → i ≤ run.length → bits_in (take i (masks_of_runs (run ∷ runs))) ≡ i * count_ones run.mask
 bits_before_first run runs i within =
     ap bits_in (take-append-le i (replicate run.length run.mask) (masks_of_runs runs) (omega (arith, length-replicate run.length run.mask, within))
     ∙ take-replicate i run.length run.mask within ∙ sym (append-nil (replicate i run.mask)))
     ∙ bits_repeated i run.mask [] ∙ omega arith
 
-bits_before_rest : (run : Run) (runs : List Run) (i : ℕ) → run.length ≤ i
+pub bits_before_rest : (run : Run) (runs : List Run) (i : ℕ) → run.length ≤ i
     → bits_in (take i (masks_of_runs (run ∷ runs))) ≡ held_of run + bits_in (take (i - run.length) (masks_of_runs runs))
 bits_before_rest run runs i beyond =
     let front = replicate run.length run.mask in

@@ -3,7 +3,9 @@ pub mod Builds
 pub mod ByRun
 pub mod Bytes
 pub mod Counts
+pub mod Fits
 pub mod Joins
+pub mod Listings
 pub mod Lookups
 pub mod Ranks
 pub mod Rows

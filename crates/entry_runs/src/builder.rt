@@ -1,11 +1,13 @@
 //! Runs from rows, one after another.
-ghost use Rattle.std.specs.Prelude.{◌≡◌, ◌≤◌, true, false, length};
+ghost use Rattle.std.specs.Prelude.{◌≡◌, ◌≤◌, ◌<◌, true, false, length};
 ghost use Rattle.entry_runs.specs.declared.sizes.TheConstants.{MOST_RUNS};
 ghost use Rattle.entry_runs.specs.Joined.{Lengthens, touches, with_run};
 ghost use Rattle.entry_runs.specs.Runs.{AreEach, FitEntry, IsRun, held_in, masked_in};
 
+use crate::checks::masked_in;
+use crate::listed::{count_rows, listed_in};
 use crate::run::end_of_runs;
-use crate::{MOST_HELD, MOST_ROWS, MOST_RUNS, Run, Runs};
+use crate::{ListedRow, MOST_HELD, MOST_ROWS, MOST_RUNS, Run, Runs};
 use arrayvec::ArrayVec;
 
 /// The runs of rows that come in rising order. It has no rows at first.
@@ -25,6 +27,7 @@ impl RunsBuilder {
     ghost use Rattle.std.specs.List.{range_with_len};
     ghost use Rattle.entry_runs.specs.declared.run.Run.{Run};
     ghost use Rattle.entry_runs.specs.Built.{runs_in};
+    ghost use Rattle.entry_runs.specs.Listed.{IsListed};
     ghost use Rattle.entry_runs.specs.Runs.{end_of_runs};
     ghost use Rattle.entry_runs.specs.WrittenOut.{masks_of_runs, rows_of_runs};
 
@@ -48,7 +51,7 @@ impl RunsBuilder {
 
     /// Adds a row after all that it has, with a mask of two bits at least (conditions). False, with nothing added,
     /// where no runs of an entry have these rows: they would be more than 58 runs, 2,048 rows with a mask or 4,096 held
-    /// sectors.
+    /// sectors. A row more than fewer than 32 is always added.
     pub fn push(&mut self, row: u32, mask: u8) -> bool
         requires after { end_of_runs (runs_in self.old) ≤ row }
         requires two { 2 ≤ count_ones mask }
@@ -57,6 +60,7 @@ impl RunsBuilder {
             → masks_of_runs (runs_in self.new) ≡ masks_of_runs (runs_in self.old) ++ mask ∷ [] }
         ensures ends { result ≡ true → end_of_runs (runs_in self.new) ≡ row + 1 }
         ensures kept { result ≡ false → runs_in self.new ≡ runs_in self.old }
+        ensures few { length (rows_of_runs (runs_in self.old)) < 32 → result ≡ true }
         ensures none { result ≡ false → (runs : List Run)
             → rows_of_runs runs ≡ rows_of_runs (runs_in self.old) ++ row ∷ []
             → masks_of_runs runs ≡ masks_of_runs (runs_in self.old) ++ mask ∷ [] → ¬ FitEntry runs }
@@ -92,15 +96,48 @@ impl RunsBuilder {
     }
 
     /// The runs of its rows, and `None` where it has none.
-    pub fn finish(self) -> Option<Runs>
-        ensures some { IfSome result (λ runs. runs.list.items ≡ runs_in self) }
-        ensures none { IsNone result → runs_in self ≡ [] }
+    pub fn to_runs(&self) -> Option<Runs>
+        ensures some { IfSome result (λ runs. runs.list.items ≡ runs_in self.now) }
+        ensures none { IsNone result → runs_in self.now ≡ [] }
     {
-        let RunsBuilder { list, .. } = self;
-        if list.is_empty() {
+        if self.list.is_empty() {
             return None;
         }
+        let list = copied(&self.list);
         Some(Runs { list })
+    }
+
+    /// Takes all rows out.
+    pub fn clear(&mut self)
+        ensures { runs_in self.new ≡ [] }
+    {
+        self.list.clear();
+        self.rows = 0;
+        self.held = 0;
+    }
+
+    /// Makes its rows those of an entry's runs.
+    pub fn set(&mut self, runs: &Runs)
+        ensures { runs_in self.new ≡ runs.now.list.items }
+    {
+        self.list = copied(&runs.list);
+        self.rows = masked_in(runs.list.as_slice());
+        self.held = runs.held();
+    }
+
+    /// How many rows it has, those of zeros too.
+    pub fn count(&self) -> usize
+        ensures { result ≡ length (rows_of_runs (runs_in self.now)) }
+    {
+        count_rows(self.list.as_slice())
+    }
+
+    /// The i-th of its rows, in rising order and those of zeros among them; `i` is below `count()` (condition).
+    pub fn listed(&self, i: usize) -> ListedRow
+        requires { i < length (rows_of_runs (runs_in self.now)) }
+        ensures { IsListed (runs_in self.now) i result }
+    {
+        listed_in(self.list.as_slice(), i)
     }
 
     // Adds the rows of a run, 1 at least, after all that it has, with a mask of two bits at least or of none
@@ -124,6 +161,17 @@ impl RunsBuilder {
         self.rows = rows;
         self.held = held;
         true
+    }
+}
+
+// A copy of the runs of an entry.
+fn copied(runs: &ArrayVec<Run, MOST_RUNS>) -> ArrayVec<Run, MOST_RUNS>
+    requires { FitEntry runs.now.items }
+    ensures { result.items ≡ runs.now.items }
+{
+    match ArrayVec::try_from(runs.as_slice()) {
+        Ok(copy) => copy,
+        Err(_) => unreachable!(),
     }
 }
 

@@ -70,7 +70,7 @@ fn are_few(runs: &[Run]) -> bool
 }
 
 /// How many rows of these runs, at most 58 (condition), have a mask.
-fn masked_in(runs: &[Run]) -> u32
+pub(crate) fn masked_in(runs: &[Run]) -> u32
     requires { length runs.now ≤ MOST_RUNS }
     ensures { result ≡ masked_in runs.now }
 {

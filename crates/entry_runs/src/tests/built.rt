@@ -25,7 +25,7 @@ fn add_each(rt: &impl Abort, builder: &mut RunsBuilder, first: u32, count: u32, 
 
 // The runs of a builder that has rows.
 fn finished(rt: &impl Abort, builder: RunsBuilder) -> Runs {
-    builder.finish().expect(rt, "the builder has rows")
+    builder.to_runs().expect(rt, "the builder has rows")
 }
 
 // A builder of these runs, of which one with the mask 0 is of zeros.
@@ -45,7 +45,7 @@ fn built(rt: &impl Abort, runs: &[Run]) -> RunsBuilder {
 fn no_rows(rt: HostRuntime) {
     let builder = RunsBuilder::new();
     same(&rt, builder.end(), 0);
-    assert!(rt; builder.finish().is_none());
+    assert!(rt; builder.to_runs().is_none());
 }
 
 #[test]
@@ -138,4 +138,47 @@ fn a_row_at_2_32(rt: HostRuntime) {
     assert!(rt; !add_zeros(&rt, &mut builder, 4_294_967_295, 2));
     assert!(rt; add_zeros(&rt, &mut builder, 4_294_967_295, 1));
     same(&rt, builder.end(), 4_294_967_296);
+}
+
+// Says of a builder's i-th row what it is.
+fn listed(rt: &impl Abort, builder: &RunsBuilder, i: usize, row: u32, mask: u8, before: u32) {
+    assert!(rt; i < builder.count());
+    let want = ListedRow { row, mask, before };
+    same(rt, builder.listed(i), want);
+}
+
+#[test]
+fn rows_in_their_order(rt: HostRuntime) {
+    let builder = built(&rt, &[run(32, 8, 0), run(40, 8, 7), run(50, 2, 5)]);
+    same(&rt, builder.count(), 18);
+    listed(&rt, &builder, 0, 32, 0, 0);
+    listed(&rt, &builder, 7, 39, 0, 0);
+    listed(&rt, &builder, 8, 40, 7, 0);
+    listed(&rt, &builder, 15, 47, 7, 21);
+    listed(&rt, &builder, 16, 50, 5, 24);
+    listed(&rt, &builder, 17, 51, 5, 26);
+}
+
+#[test]
+fn runs_taken_over(rt: HostRuntime) {
+    let runs = [run(32, 8, 0), run(40, 8, 7)];
+    let from = finished(&rt, built(&rt, &runs));
+    let mut builder = built(&rt, &[run(0, 2048, 3)]);
+    builder.set(&from);
+    assert!(rt; add(&rt, &mut builder, 48, 3));
+    same(
+        &rt,
+        finished(&rt, builder).list.as_slice(),
+        &[run(32, 8, 0), run(40, 8, 7), run(48, 1, 3)],
+    );
+}
+
+#[test]
+fn no_rows_once_cleared(rt: HostRuntime) {
+    let mut builder = built(&rt, &[run(0, 2048, 3)]);
+    builder.clear();
+    same(&rt, builder.count(), 0);
+    assert!(rt; builder.to_runs().is_none());
+    assert!(rt; add(&rt, &mut builder, 0, 3));
+    same(&rt, builder.count(), 1);
 }

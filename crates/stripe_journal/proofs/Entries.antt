@@ -7,16 +7,14 @@ use Rattle.std.proofs.lemmas.Bool.{cases_eq}
 use Rattle.std.proofs.lemmas.List.{flat_map_more, length-append, get_or-take, get_or-drop, get_or-set_same, get_or-set_other, get_or_append_left}
 use Rattle.std.proofs.lemmas.List.{get_or-append-add, get_or_at, map-append}
 use Rattle.std.proofs.lemmas.List.Elements.{filter-append}
-use Rattle.layout_map.specs.declared.sizes.TheConstants.{BODY_SECTORS, ENTRY_ROWS, MOST_MEMBERS}
-use Rattle.layout_map.specs.declared.format.Format.{Format}
-use Rattle.layout_map.specs.Formats.{journal_sectors}
+use Rattle.layout_map.specs.declared.sizes.TheConstants.{MOST_MEMBERS}
 use Rattle.sector_model.specs.declared.sector.Stop.{Stop}
 use Rattle.sector_model.specs.Bank.{IsTrueTo, Panel, after_try, after_write}
-use Rattle.sector_model.specs.Calls.{Call, Write, Made, after_all, writes_from}
-use Rattle.sector_model.specs.History.{History, Bytes, seen, sector_of}
-use Rattle.sector_model.proofs.Sequences.{made_both, made_short, made_stop, made_then, seen_writes}
+use Rattle.sector_model.specs.Calls.{Call, Write, Made, writes_from}
+use Rattle.sector_model.specs.History.{History, Bytes}
+use Rattle.sector_model.proofs.Sequences.{made_both, made_short, made_stop, made_then}
 use Rattle.stripe_journal.specs.declared.entry.Entry.{Entry}
-use Rattle.stripe_journal.specs.Entries.{body_of, half_start, form_of, held_of, numbers_of, place_at, row_mask, row_of, sector_at, sector_of_row}
+use Rattle.stripe_journal.specs.Entries.{body_of, form_of, held_of, numbers_of, place_at, row_mask, row_of, sector_at, sector_of_row}
 use Rattle.stripe_journal.specs.Entries.{with_sector}
 use Rattle.entry_runs.specs.Body.{bits_below, count_held, has_bit}
 use Rattle.entry_runs.proofs.Counts.{count_beyond}
@@ -24,8 +22,8 @@ use Rattle.arrayvec.specs.ArrayVec.{ArrayVec}
 use Rattle.stripe_journal.specs.declared.form.Form.{Form}
 use Rattle.stripe_journal.specs.declared.form.Form.TheVariants.{Held}
 use Rattle.stripe_journal.specs.Forms.{held_before, held_members, in_body, mask_at, rank}
-use Rattle.stripe_journal.proofs.Halves.{body_least, half_end}
-use Rattle.stripe_journal.proofs.Masks.{before_agrees, before_few, one_rank, rank_agrees, rank_before}
+use Rattle.stripe_journal.proofs.EntryRows.{place_within}
+use Rattle.stripe_journal.proofs.Masks.{before_agrees, one_rank, rank_agrees, rank_before}
 
 -- writes of one list of values after another
 pub writes_both : (device at : ℕ) (first second : List Bytes) → writes_from device at (first ++ second) ≡ writes_from device at first
@@ -197,22 +195,12 @@ row_short device at members entry i n {old = old} {new = new} within row =
 
 -- a sector of an entry, written and read
 
--- each has a place
-pub place_within : (entry : Entry) (i member : ℕ) → i < ENTRY_ROWS → member < MOST_MEMBERS → has_bit (row_mask entry i) member ≡ true
-    → place_at entry i member < BODY_SECTORS
-place_within entry i member below within held =
-    omega (
-      arith,
-      rank_before MOST_MEMBERS (form_of entry) i member (i + 1) held within (omega arith),
-      before_few MOST_MEMBERS (form_of entry) (i + 1) (omega arith) (omega (arith, below)),
-    )
-
 -- one that is held is there
 held_there : (entry : Entry) (i member : ℕ) → has_bit (row_mask entry i) member ≡ true
     → sector_at entry i member ≡ get_or entry.sectors.items (place_at entry i member) []
 held_there entry i member held = ap (λ (b : Bool). cond b (get_or entry.sectors.items (place_at entry i member) []) []) held
 
-pub sector_there : (entry : Entry) (i member : ℕ) (value : Bytes) → i < ENTRY_ROWS → member < MOST_MEMBERS → has_bit (row_mask entry i) member ≡ true
+pub sector_there : (entry : Entry) (i member : ℕ) (value : Bytes) → i < length (numbers_of entry) → member < MOST_MEMBERS → has_bit (row_mask entry i) member ≡ true
     → sector_at (with_sector entry i member value) i member ≡ value
 sector_there entry i member value below within held =
     held_there (with_sector entry i member value) i member held
@@ -243,11 +231,14 @@ by_held : (form : Form) (masks : List ℕ) (sectors : List Bytes) (i member : �
     → sector_by form masks sectors i member ≡ cond b (get_or sectors (rank MOST_MEMBERS form i member) []) []
 by_held form masks sectors i member b is = ap (λ (b : Bool). cond b (get_or sectors (rank MOST_MEMBERS form i member) []) []) is
 
--- masks of a row more, put in the place of others
+-- a row more, after so many, with the masks of those rows as they were
 module _ (rows rows' : ArrayVec ℕ) (masks masks' : List ℕ) (sectors sectors' : List Bytes) (count : ℕ)
     (same : (k : ℕ) → k < count → mask_at masks' k ≡ mask_at masks k) where
   abbrev first : ℕ
-  first = rank MOST_MEMBERS (Held rows masks) count 0
+  first = rank MOST_MEMBERS (Held rows' masks') count 0
+
+  before_is : held_before MOST_MEMBERS (Held rows' masks') count ≡ held_before MOST_MEMBERS (Held rows masks) count
+  before_is = before_agrees MOST_MEMBERS (Held rows' masks') (Held rows masks) count (λ k m below inside. ap (λ (mask : ℕ). has_bit mask m) (same k below))
 
   -- the rows before it keep their sectors, where those before its first stay
   pub pushed_kept : (i member : ℕ) → i < count → member < MOST_MEMBERS → ((k : ℕ) → k < first → get_or sectors' k [] ≡ get_or sectors k [])
@@ -268,7 +259,7 @@ module _ (rows rows' : ArrayVec ℕ) (masks masks' : List ℕ) (sectors sectors'
           let before = rank_before MOST_MEMBERS (Held rows masks) i member count held within below in
           by_held (Held rows' masks') masks' sectors' i member true (bit ∙ held)
           ∙ ap (λ (k : ℕ). get_or sectors' k []) place
-          ∙ kept (rank MOST_MEMBERS (Held rows masks) i member) (omega (arith, before))
+          ∙ kept (rank MOST_MEMBERS (Held rows masks) i member) (omega (arith, before, before_is))
           ∙ sym (by_held (Held rows masks) masks sectors i member true held)
 
   -- and it has zeros where those were put from there on
@@ -277,13 +268,10 @@ module _ (rows rows' : ArrayVec ℕ) (masks masks' : List ℕ) (sectors sectors'
       → sector_by (Held rows' masks') masks' sectors' count member ≡ replicate 512 0
   pushed_zeros member mask its within held zeros =
       let bit : has_bit (mask_at masks' count) member ≡ true = ap (λ (mask : ℕ). has_bit mask member) its ∙ held in
-      let before : held_before MOST_MEMBERS (Held rows' masks') count ≡ held_before MOST_MEMBERS (Held rows masks) count =
-      before_agrees MOST_MEMBERS (Held rows' masks') (Held rows masks) count
-      (λ k m below inside. ap (λ (mask : ℕ). has_bit mask m) (same k below)) in
       let bits : bits_below (mask_at masks' count) member ≡ bits_below mask member = ap (λ (mask : ℕ). bits_below mask member) its in
       by_held (Held rows' masks') masks' sectors' count member true bit
-      ∙ zeros (rank MOST_MEMBERS (Held rows' masks') count member) (omega (arith, before))
-      (omega (arith, before, bits, count_beyond (has_bit mask) member MOST_MEMBERS held within))
+      ∙ zeros (rank MOST_MEMBERS (Held rows' masks') count member) (omega arith)
+      (omega (arith, bits, count_beyond (has_bit mask) member MOST_MEMBERS held within))
 
 pub numbers_stay : (entry : Entry) (i member : ℕ) (value : Bytes) → numbers_of (with_sector entry i member value) ≡ numbers_of entry
 numbers_stay entry i member value = refl
@@ -349,20 +337,3 @@ body_at members entry i member few below within held =
     rows_at members entry (length (numbers_of entry)) i member below within held
     ∙ value_at (has_bit (row_mask entry i)) (sector_of_row (row_mask entry i) (row_of entry i)) members member held within
     ∙ row_member entry i member (omega (arith, few, within)) held
-
--- what reads of the journal give there once it is written
-pub body_seen : (format : Format) (device members number : ℕ) (entry : Entry) (h : History) (i member : ℕ) → members ≤ MOST_MEMBERS
-    → i < length (numbers_of entry)
-    → member < members
-    → in_body members (form_of entry) i member ≡ true → journal_sectors format ≤ length (seen h device)
-    → sector_of (seen (after_all (writes_from device (half_start format number) (body_of members entry)) h) device)
-    (half_start format number + rank members (form_of entry) i member) ≡ sector_at entry i member
-body_seen format device members number entry h i member few below within held room =
-    let body = body_of members entry in
-    let count = length (numbers_of entry) in
-    let long : length body ≡ held_before members (form_of entry) count = length-body members entry in
-    let most = before_few members (form_of entry) count few entry.few in
-    let inside = rank_before members (form_of entry) i member count held within below in
-    seen_writes device (half_start format number) body h (rank members (form_of entry) i member) (omega arith)
-    (omega (arith, room, most, long, inside, half_end format number, body_least format))
-    ∙ body_at members entry i member few below within held

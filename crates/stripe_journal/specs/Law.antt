@@ -12,7 +12,7 @@ use Rattle.stripe_journal.specs.declared.form.Form.{Form}
 use Rattle.stripe_journal.specs.declared.form.Form.TheVariants.{Held, Runs, Whole}
 use Rattle.stripe_journal.specs.declared.seal.Seal.{Seal}
 use Rattle.stripe_journal.specs.Body.{place_by_seal}
-use Rattle.stripe_journal.specs.Entries.{body_of, body_start, form_of, numbers_of, sector_at}
+use Rattle.stripe_journal.specs.Entries.{IsEntryOf, body_of, body_start, sector_at}
 use Rattle.stripe_journal.specs.Seals.{row_at}
 use Rattle.stripe_journal.specs.Spelling.{count_in, first_mark, last_mark, seal_sector, zeros}
 
@@ -78,9 +78,8 @@ abbrev pub WholeRowsFollow : Type 0
 WholeRowsFollow = (members : ℕ) (seal : Seal) (i member : ℕ) → (rows : ArrayVec ℕ) → seal.form ≡ Whole rows → i < length (rows_in seal.form) → member < members
     → place_by_seal members seal (row_at (rows_in seal.form) i) member ≡ Some (body_start seal + i * members + member)
 
--- what is written of an entry in memory stands where the seal with its rows and its form says
+-- what is written of an entry in memory stands where its seal says
 abbrev pub BodiesAreInPlace : Type 0
-BodiesAreInPlace = (members : ℕ) (seal : Seal) (entry : Entry) (i member k : ℕ) → members ≤ MOST_MEMBERS → numbers_of entry ≡ rows_in seal.form
-    → form_of entry ≡ seal.form
+BodiesAreInPlace = (members : ℕ) (seal : Seal) (entry : Entry) (i member k : ℕ) → members ≤ MOST_MEMBERS → IsEntryOf members seal.form entry
     → i < length (rows_in seal.form) → member < members → place_by_seal members seal (row_at (rows_in seal.form) i) member ≡ Some (body_start seal + k)
     → slice_index_or (body_of members entry) k [] ≡ sector_at entry i member

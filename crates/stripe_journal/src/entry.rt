@@ -1,32 +1,25 @@
 //! An entry in memory, before it is on a journal.
 ghost use Rattle.std.specs.Prelude.{◌≡◌, ◌≤◌, ◌<◌, ◌+◌, ◌-◌, ◌*◌, ◌^◌, ◌++◌, ◌∷◌, ◌==◌, [], ℕ, IfOk, IfErr};
-ghost use Rattle.std.specs.Prelude.{IfSome, IsNone, count_ones, false, true, length, replicate, slice_index_or, vec_len};
-ghost use Rattle.layout_map.specs.declared.sizes.TheConstants.{BODY_SECTORS, ENTRY_ROWS, MOST_MEMBERS};
+ghost use Rattle.std.specs.Prelude.{IfSome, IsNone, count_ones, false, true, length, nat_lt, replicate, slice_index_or, vec_len};
+ghost use Rattle.layout_map.specs.declared.sizes.TheConstants.{ENTRY_ROWS, MOST_MEMBERS};
+ghost use Rattle.entry_runs.specs.declared.sizes.TheConstants.{MOST_HELD};
 
-use crate::Form;
-use crate::form::held_by_masks;
+use crate::{Form, Seal};
 use arrayvec::ArrayVec;
-use entry_runs::{bits_below, has_bit};
-use layout_map::{ENTRY_ROWS, MOST_MEMBERS};
+use entry_runs::{MOST_HELD, Runs, RunsBuilder, bits_below, has_bit};
+use layout_map::{ENTRY_ROWS, Format, MOST_MEMBERS};
 use sector_model::{Refusal, Sector};
 use std::alloc::Global;
 
-/// The sectors for which an entry has room: those of 32 rows, one for each member that a set may have.
-const ENTRY_SECTORS: usize = ENTRY_ROWS * MOST_MEMBERS as usize;
-
-/// The rows of one entry: up to 32 numbered rows, of which it holds the sectors that the row's mask has: bit m says
-/// that it holds member m's. They stand by row and then by member, as in the body of an entry. The memory is taken
-/// once, by `new`.
+/// The rows of one entry, in rising order: numbered rows, of which it has the sectors that the row's mask has: bit m
+/// says that it has member m's. They stand by row and then by member, as in the body of an entry. A row with mask 0 is
+/// one of zeros: it holds every member's sector, which is zero, and has none. The memory is taken once, by `new`: it is
+/// enough for the entries of sets of both formats.
 #[derive(Drop)]
 pub struct Entry {
-    rows: ArrayVec<u32, ENTRY_ROWS>,
-    masks: [u8; ENTRY_ROWS],
+    runs: RunsBuilder,
     sectors: Vec<Sector>,
-    ghost masked: { length masks ≡ ENTRY_ROWS },
-    ghost bytes: { (i : ℕ) → slice_index_or masks i 0 < 256 },
-    ghost rest: { (i : ℕ) → length rows.items ≤ i → slice_index_or masks i 0 ≡ 0 },
-    ghost whole: { vec_len sectors ≡ BODY_SECTORS },
-    ghost few: { length rows.items ≤ ENTRY_ROWS },
+    ghost whole: { vec_len sectors ≡ MOST_HELD },
 }
 
 /// One row of an entry, lent without a copy.
@@ -36,55 +29,70 @@ pub struct EntryView<'a> {
     sectors: &'a [Sector],
 }
 
+// What each sector of a row of zeros is.
+const ZEROS: &Sector = &[0; 512];
+
 impl Entry {
     ghost use Rattle.std.specs.Borrow.{sem};
-    ghost use Rattle.stripe_journal.specs.Entries.{LendsSector, form_of, numbers_of, place_at};
-    ghost use Rattle.stripe_journal.specs.Entries.{row_mask, row_of, sector_at};
+    ghost use Rattle.std.specs.List.Sorted.{IsStrictlyIncreasing};
+    ghost use Rattle.layout_map.specs.declared.format.Format.TheVariants.{One, Two};
+    ghost use Rattle.stripe_journal.specs.Entries.{IsEntryOf, IsFormOf, LendsSector, ListsItsRows, end_of};
+    ghost use Rattle.stripe_journal.specs.Entries.{numbers_of, place_at, row_mask, row_of, sector_at};
     ghost use Rattle.entry_runs.specs.Body.{bits_below, has_bit};
-    ghost use Rattle.stripe_journal.specs.Forms.{IsForm};
+    ghost use Rattle.entry_runs.specs.Built.{runs_in};
+    ghost use Rattle.stripe_journal.specs.Forms.{mask_at};
+    ghost use Rattle.stripe_journal.specs.Seals.{row_at};
 
-    /// An entry without rows. `Memory` where there is none for its 256 sectors.
+    /// An entry without rows. `Memory` where there is none for its 4,096 sectors, which are 2 MiB.
     pub fn new(alloc: Global) -> Result<Entry, Refusal>
         ensures empty { IfOk result (λ entry. numbers_of entry ≡ []) }
+        ensures end { IfOk result (λ entry. end_of entry ≡ 0) }
         ensures err { IfErr result (λ refusal. refusal ≡ Refusal.Memory) }
     {
-        let sectors = vec![in alloc; [0; 512]; ENTRY_SECTORS]?;
-        let rows = ArrayVec::new();
-        let masks = [0; ENTRY_ROWS];
+        let sectors = vec![in alloc; [0; 512]; MOST_HELD as usize]?;
         Ok(Entry {
-            rows,
-            masks,
+            runs: RunsBuilder::new(),
             sectors,
         })
     }
 
     /// Takes all rows out.
     pub fn clear(&mut self)
-        ensures { numbers_of self.new ≡ [] }
+        ensures numbers { numbers_of self.new ≡ [] }
+        ensures end { end_of self.new ≡ 0 }
     {
-        self.masks = [0; ENTRY_ROWS];
-        self.rows.clear();
+        self.runs.clear();
     }
 
-    /// How many rows it has, 0 to 32.
+    /// How many rows it has, those of zeros among them.
     pub fn len(&self) -> usize
         ensures { result ≡ length (numbers_of self.now) }
     {
-        self.rows.len()
+        self.runs.count()
     }
 
     /// Whether it has no row.
     pub fn is_empty(&self) -> bool
         ensures { result ≡ (length (numbers_of self.now) == 0) }
     {
-        self.rows.is_empty()
+        self.runs.count() == 0
     }
 
-    /// Adds a row of zero sectors after the others, of which there are fewer than 32 (condition). Bit m of the mask
-    /// says that the entry holds member m's sector of the row.
+    /// The row after its last, 0 where it has none.
+    pub fn end(&self) -> u64
+        ensures { result ≡ end_of self.now }
+    {
+        self.runs.end()
+    }
+
+    /// Adds a row of zero sectors after all that it has, of which there are fewer than 32 (conditions). Bit m of the
+    /// mask, which has two bits at least (condition), says that the entry has member m's sector of the row.
     pub fn push(&mut self, row: u32, mask: u8)
-        requires { length (numbers_of self.old) < ENTRY_ROWS }
+        requires few { length (numbers_of self.old) < ENTRY_ROWS }
+        requires after { end_of self.old ≤ row }
+        requires two { 2 ≤ count_ones mask }
         ensures numbers { numbers_of self.new ≡ numbers_of self.old ++ row ∷ [] }
+        ensures end { end_of self.new ≡ row + 1 }
         ensures mask { row_mask self.new (length (numbers_of self.old)) ≡ mask }
         ensures masks { (i : ℕ) → i < length (numbers_of self.old) → row_mask self.new i ≡ row_mask self.old i }
         ensures zeros { (member : ℕ) → member < MOST_MEMBERS → has_bit mask member ≡ true
@@ -92,15 +100,38 @@ impl Entry {
         ensures others { (i member : ℕ) → i < length (numbers_of self.old) → member < MOST_MEMBERS
             → sector_at self.new i member ≡ sector_at self.old i member }
     {
-        let count = self.rows.len();
-        let first = self.place(count, 0);
-        put_zeros(
-            &mut self.sectors,
-            first,
-            bits_below(mask, MOST_MEMBERS) as usize,
-        );
-        self.masks[count] = mask;
-        self.rows.push(row);
+        let i = self.runs.count();
+        self.runs.push(row, mask);
+        let first = self.place(i, 0);
+        let count = bits_below(mask, MOST_MEMBERS) as usize;
+        put_zeros(&mut self.sectors, first, count);
+    }
+
+    /// Makes its rows those of a seal, in a set with 2 to 8 members (conditions). Of their sectors nothing is said.
+    pub fn set(&mut self, seal: &Seal, members: u8)
+        requires least { 2 ≤ members }
+        requires most { members ≤ MOST_MEMBERS }
+        ensures { IsEntryOf members seal.now.form self.new }
+    {
+        match &seal.form {
+            Form::Whole(rows) => self.set_listed(rows.as_slice(), &[whole_mask(members); ENTRY_ROWS]),
+            Form::Held(rows, masks) => self.set_listed(rows.as_slice(), masks),
+            Form::Runs(runs) => self.runs.set(runs),
+        }
+    }
+
+    // Makes its rows these, at most 32 rising rows, with their masks, each of two bits at least (conditions).
+    fn set_listed(&mut self, rows: &[u32], masks: &[u8; ENTRY_ROWS])
+        requires few { length rows.now ≤ ENTRY_ROWS }
+        requires rising { IsStrictlyIncreasing rows.now }
+        requires two { (i : ℕ) → i < length rows.now → 2 ≤ count_ones (mask_at masks.now i) }
+        ensures numbers { numbers_of self.new ≡ rows.now }
+        ensures masks { (i : ℕ) → i < length rows.now → row_mask self.new i ≡ mask_at masks.now i }
+    {
+        self.clear();
+        for (i, row) in rows.iter().enumerate() {
+            self.push(*row, masks[i]);
+        }
     }
 
     /// The sector of a member, 0 to 7, in the i-th row, to be written. `i` is below `len()`, and the row's mask has the
@@ -116,38 +147,64 @@ impl Entry {
         &mut self.sectors[place]
     }
 
-    // How many sectors it holds before that of a member, 0 to 7, in the i-th row, i from 0 to 31 (conditions): with
-    // those of a row at most 256.
+    // How many sectors it has before that of a member, 0 to 7, in the i-th row; `i` is below `len()` (conditions). With
+    // those of the row they are at most 4,096.
     fn place(&self, i: usize, member: u8) -> usize
-        requires row { i < ENTRY_ROWS }
+        requires row { i < length (numbers_of self.now) }
         requires member { member < MOST_MEMBERS }
         ensures place { result ≡ place_at self.now i member }
-        ensures most { result + (MOST_MEMBERS - member) ≤ BODY_SECTORS }
+        ensures most { result + bits_below (row_mask self.now i) MOST_MEMBERS
+            ≤ MOST_HELD + bits_below (row_mask self.now i) member }
     {
-        (held_by_masks(&self.masks[..i], MOST_MEMBERS) + bits_below(self.masks[i], member)) as usize
+        let row = self.runs.listed(i);
+        (row.before + bits_below(row.mask, member)) as usize
     }
 
-    /// Its rows, and which of their sectors it holds, by the masks of its rows, and zeros after them: where each mask
-    /// has at least two bits, a form that a seal may have.
-    pub fn form(&self) -> Form
-        ensures form { result ≡ form_of self.now }
-        ensures sealed { ((i : ℕ) → i < length (numbers_of self.now) → 2 ≤ count_ones (row_mask self.now i))
-            → IsForm result }
-        ensures fits { (i : ℕ) → i < length (numbers_of self.now) → slice_index_or (numbers_of self.now) i 0 < 2 ^ 32 }
+    /// Its rows, 1 at least, and which of their sectors it has, as a seal of a set of this format says it. In format 1
+    /// it has at most 32 rows, each with a mask of two bits at least (conditions).
+    pub fn form(&self, format: Format) -> Form
+        requires some { 1 ≤ length (numbers_of self.now) }
+        requires listed { format ≡ One → ListsItsRows self.now }
+        ensures { IsFormOf self.now format result }
+    {
+        match format {
+            Format::One => self.listed(),
+            Format::Two => self.written_as_runs(),
+        }
+    }
+
+    // Its rows, at most 32, written out, and their masks, each of two bits at least (conditions).
+    fn listed(&self) -> Form
+        requires { ListsItsRows self.now }
+        ensures { IsFormOf self.now One result }
     {
         let mut rows = ArrayVec::new();
+        let mut masks = [0; ENTRY_ROWS];
         for i in 0..self.len() {
-            rows.push(self.row(i));
+            let row = self.runs.listed(i);
+            rows.push(row.row);
+            masks[i] = row.mask;
         }
-        Form::Held(rows, self.masks)
+        Form::Held(rows, masks)
+    }
+
+    // Its rows, 1 at least (condition), as runs.
+    fn written_as_runs(&self) -> Form
+        requires { 1 ≤ length (numbers_of self.now) }
+        ensures { IsFormOf self.now Two result }
+    {
+        match self.runs.to_runs() {
+            Some(runs) => Form::Runs(runs),
+            None => unreachable!(),
+        }
     }
 
     /// The number of the i-th row; `i` is below `len()` (condition).
     pub fn row(&self, i: usize) -> u32
         requires { i < length (numbers_of self.now) }
-        ensures { result ≡ slice_index_or (numbers_of self.now) i 0 }
+        ensures { result ≡ row_at (numbers_of self.now) i }
     {
-        self.rows[i]
+        self.runs.listed(i).row
     }
 
     /// The i-th row; `i` is below `len()` (condition).
@@ -158,12 +215,21 @@ impl Entry {
         ensures whole { length result.sectors.now ≡ bits_below result.mask MOST_MEMBERS }
     {
         let first = self.place(i, 0);
-        let mask = self.masks[i];
+        let mask = self.runs.listed(i).mask;
         EntryView {
             mask,
             sectors: &self.sectors[first..first + bits_below(mask, MOST_MEMBERS) as usize],
         }
     }
+}
+
+// The mask with the bit of each of 1 to 8 members (conditions).
+fn whole_mask(members: u8) -> u8
+    requires least { 1 ≤ members }
+    requires most { members ≤ MOST_MEMBERS }
+    ensures { (member : ℕ) → member < MOST_MEMBERS → has_bit result member ≡ nat_lt member members }
+{
+    u8::MAX >> (8 - members)
 }
 
 // Puts zeros into so many sectors from one on.
@@ -180,10 +246,10 @@ fn put_zeros(sectors: &mut [Sector], first: usize, count: usize)
 
 impl<'a> EntryView<'a> {
     ghost use Rattle.entry_runs.specs.Body.{bits_below, has_bit};
-    ghost use Rattle.stripe_journal.specs.Entries.{sector_of_row};
+    ghost use Rattle.stripe_journal.specs.Entries.{mask_holds, sector_of_mask, sector_of_row};
 
-    /// The sector of a member, 0 to 7, in the row, and `None` where its mask lacks the member's bit. The row has the
-    /// sectors that its mask has (conditions).
+    /// The sector of a member, 0 to 7, that a body has of the row, and `None` where its mask lacks the member's bit.
+    /// The row has the sectors that its mask has (conditions).
     pub fn member(&self, member: u8) -> Option<&'a Sector>
         requires member { member < MOST_MEMBERS }
         requires whole { length self.now.sectors.now ≡ bits_below self.now.mask MOST_MEMBERS }
@@ -195,6 +261,22 @@ impl<'a> EntryView<'a> {
             Some(&self.sectors[bits_below(self.mask, member) as usize])
         } else {
             None
+        }
+    }
+
+    /// The sector of a member, 0 to 7, that the row holds, and `None` where it holds none: of a row of zeros a zero
+    /// sector, and of another one what a body has. The row has the sectors that its mask has (conditions).
+    pub fn held(&self, member: u8) -> Option<&'a Sector>
+        requires member { member < MOST_MEMBERS }
+        requires whole { length self.now.sectors.now ≡ bits_below self.now.mask MOST_MEMBERS }
+        ensures some { IfSome result (λ sector. (mask_holds self.now.mask member ≡ true) × (sector.now
+            ≡ sector_of_mask self.now.mask (sector_of_row self.now.mask self.now.sectors.now member))) }
+        ensures none { IsNone result → mask_holds self.now.mask member ≡ false }
+    {
+        if self.mask == 0 {
+            Some(ZEROS)
+        } else {
+            self.member(member)
         }
     }
 }

@@ -3,10 +3,9 @@ ghost use Rattle.std.specs.Prelude.{◌≡◌, ◌≤◌, ◌<◌, ◌*◌, ℕ,
 ghost use Rattle.layout_map.specs.Formats.{body_sectors};
 ghost use Rattle.layout_map.specs.declared.format.Format.TheVariants.{One};
 ghost use Rattle.layout_map.specs.declared.sizes.TheConstants.{ENTRY_ROWS, MOST_MEMBERS};
-ghost use Rattle.entry_runs.specs.Body.{has_bit};
 ghost use Rattle.entry_runs.specs.declared.sizes.TheConstants.{MOST_HELD};
 ghost use Rattle.entry_runs.specs.WrittenOut.{masks_of_runs};
-ghost use Rattle.stripe_journal.specs.Forms.{IsForm, format_of, held_before, held_by_masks, in_body, rows_in};
+ghost use Rattle.stripe_journal.specs.Forms.{IsForm, format_of, held_before, held_by_masks, rows_in};
 ghost use Rattle.stripe_journal.specs.Spelling.{count_in, first_mark, last_mark};
 
 use arrayvec::ArrayVec;
@@ -45,22 +44,6 @@ impl Form {
         match self {
             Form::Whole(rows) | Form::Held(rows, _) => rows.as_slice(),
             Form::Runs(_) => &[],
-        }
-    }
-
-    /// The mask with the bit of each member whose sector of the i-th row the body has, i from 0 to 31, where it lists
-    /// its rows, in a set with 1 to 8 members (conditions).
-    pub fn mask(&self, members: u8, i: usize) -> u8
-        requires listed { format_of self.now ≡ One }
-        requires row { i < ENTRY_ROWS }
-        requires least { 1 ≤ members }
-        requires most { members ≤ MOST_MEMBERS }
-        ensures { (member : ℕ) → member < MOST_MEMBERS → has_bit result member ≡ in_body members self.now i member }
-    {
-        match self {
-            Form::Whole(_) => u8::MAX >> (8 - members),
-            Form::Held(_, masks) => masks[i],
-            Form::Runs(_) => 0,
         }
     }
 

@@ -1,6 +1,6 @@
 //! The device calls that put an entry on a journal.
 ghost use Rattle.std.specs.Prelude.{◌≡◌, ◌⊎◌, ◌≤◌, ◌<◌, ◌+◌, ◌↔◌, [], ◌∷◌, false, is_ok, length, IfErr, IfOk};
-ghost use Rattle.layout_map.specs.Formats.{journal_sectors};
+ghost use Rattle.layout_map.specs.Formats.{body_sectors, journal_sectors};
 ghost use Rattle.layout_map.specs.declared.sizes.TheConstants.{FIRST_BODY, MOST_MEMBERS};
 ghost use Rattle.sector_model.specs.Bank.{IsCauseOf, IsLater};
 ghost use Rattle.sector_model.specs.Calls.{Made, Write, writes_from};
@@ -15,8 +15,8 @@ use sector_model::{Bank, Stop, write_sector};
 
 /// Writes the body of the entry of this number to a journal: of each row the sectors that its mask has, of the set's
 /// members. It flushes nothing. The journal is a slot of the bank, where it is up with as many sectors as a journal of
-/// the set's format has at least (conditions). `Down` names it where it is down; `Worn` where the count of device calls
-/// stands at 2^62.
+/// the set's format has at least, and the body fits a half there (conditions). `Down` names it where it is down; `Worn`
+/// where the count of device calls stands at 2^62.
 pub fn write_body<B: Bank>(
     bank: &mut B,
     dev: u8,
@@ -27,6 +27,7 @@ pub fn write_body<B: Bank>(
     requires device { dev < (B.panel bank.old).devices }
     requires within { (B.panel bank.old).down dev ≡ false
         → journal_sectors geometry.now.format ≤ (B.panel bank.old).sectors dev }
+    requires fits { length (body_of geometry.now.members entry.now) ≤ body_sectors geometry.now.format }
     ensures panel { IsLater (B.panel bank.old) (B.panel bank.new) }
     ensures honest { B.honest bank.old ↔ B.honest bank.new }
     ensures made { B.honest bank.old → Made

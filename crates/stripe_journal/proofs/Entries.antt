@@ -1,7 +1,10 @@
 -- An entry's sectors, by row and member, and its body.
+use denote.Struct.Props.{props}
 use Rattle.std.proofs.Common.{◌≡◌, ◌≢◌, inl, inr, Bool, true, false, cond, ℕ, zero, suc, ◌+◌, ◌-◌, ◌<◌, ◌≤◌, List, [], ◌∷◌, ◌++◌, length, drop, get_or}
 use Rattle.std.proofs.Common.{map, refl, sym, subst, ap, ◌∙◌, arith}
-use Rattle.std.specs.Prelude.{Err, Ok, filter, replicate}
+use Rattle.std.specs.Prelude.{Err, Ok, filter, replicate, vec_len}
+use Rattle.std.specs.Vec.{with_item}
+use Rattle.entry_runs.specs.declared.sizes.TheConstants.{MOST_HELD}
 use Rattle.std.specs.List.{flat_map, range_with_len}
 use Rattle.std.proofs.lemmas.Bool.{cases_eq}
 use Rattle.std.proofs.lemmas.List.{flat_map_more, length-append, get_or-take, get_or-drop, get_or-set_same, get_or-set_other, get_or_append_left}
@@ -196,9 +199,24 @@ row_short device at members entry i n {old = old} {new = new} within row =
 -- a sector of an entry, written and read
 
 -- one that is held is there
-held_there : (entry : Entry) (i member : ℕ) → has_bit (row_mask entry i) member ≡ true
+pub held_there : (entry : Entry) (i member : ℕ) → has_bit (row_mask entry i) member ≡ true
     → sector_at entry i member ≡ get_or entry.sectors.items (place_at entry i member) []
 held_there entry i member held = ap (λ (b : Bool). cond b (get_or entry.sectors.items (place_at entry i member) []) []) held
+
+-- one that is lent ends in its place
+pub sector_lent : (entry : Entry) (i member place : ℕ) (value : Bytes) (whole : vec_len (with_item entry.sectors place value) ≡ MOST_HELD)
+    → place ≡ place_at entry i member
+    → ◌≡◌ {A = Entry} (record { runs = entry.runs; sectors = with_item entry.sectors place value; whole = whole }) (with_sector entry i member value)
+sector_lent entry i member place value whole is =
+    subst (λ (n : ℕ). (whole : vec_len (with_item entry.sectors n value) ≡ MOST_HELD)
+    → ◌≡◌ {A = Entry} (record { runs = entry.runs; sectors = with_item entry.sectors n value; whole = whole }) (with_sector entry i member value)) (sym is)
+    (λ whole. ap (λ (w : vec_len entry.sectors ≡ MOST_HELD). put w) (one whole entry.whole)) whole
+  where
+    put : vec_len entry.sectors ≡ MOST_HELD → Entry
+    put whole = record { runs = entry.runs; sectors = with_item entry.sectors (place_at entry i member) value; whole = whole }
+
+    one : IsProp (vec_len entry.sectors ≡ MOST_HELD)
+    one = hlevel props
 
 pub sector_there : (entry : Entry) (i member : ℕ) (value : Bytes) → i < length (numbers_of entry) → member < MOST_MEMBERS → has_bit (row_mask entry i) member ≡ true
     → sector_at (with_sector entry i member value) i member ≡ value

@@ -1,14 +1,14 @@
 -- The rows of an entry in memory, written out: their masks, and how many sectors stand before each.
-use Rattle.std.proofs.Common.{◌≡◌, inl, inr, ℕ, zero, suc, ◌+◌, ◌-◌, ◌<◌, ◌≤◌, List, [], ◌∷◌, length, take, get_or, refl, ◌∙◌, ap, arith}
+use Rattle.std.proofs.Common.{◌≡◌, inl, inr, ℕ, zero, suc, ◌+◌, ◌-◌, ◌<◌, ◌≤◌, List, [], ◌∷◌, ◌++◌, length, take, refl, ◌∙◌, ap, arith}
 use Rattle.std.specs.Prelude.{count_ones, true}
 use Rattle.std.proofs.lemmas.Bool.{cases_lt}
-use Rattle.std.proofs.lemmas.List.{take_all}
+use Rattle.std.proofs.lemmas.List.{get_or_append_left, get_or_at, take_all}
 use Rattle.entry_runs.specs.declared.run.Run.{Run}
 use Rattle.entry_runs.specs.declared.sizes.TheConstants.{MOST_HELD}
 use Rattle.entry_runs.specs.Body.{bits_below, has_bit}
 use Rattle.entry_runs.specs.Built.{runs_in}
 use Rattle.entry_runs.specs.Runs.{run_at}
-use Rattle.entry_runs.specs.WrittenOut.{bits_in, masks_of_runs}
+use Rattle.entry_runs.specs.WrittenOut.{bits_in, masks_of_runs, rows_of_runs}
 use Rattle.entry_runs.proofs.Bits.{all_bits}
 use Rattle.entry_runs.proofs.Rows.{length-masks, mask_first, mask_rest}
 use Rattle.layout_map.specs.declared.sizes.TheConstants.{MOST_MEMBERS}
@@ -72,3 +72,16 @@ place_within entry i member below within held =
       rank_before MOST_MEMBERS (form_of entry) i member (length (numbers_of entry)) held within below,
       before_held MOST_MEMBERS entry (length (numbers_of entry)) (omega arith) (omega arith),
     )
+
+-- the masks of a row more
+
+pub pushed_mask : (old new : List Run) (mask : ℕ) → masks_of_runs new ≡ masks_of_runs old ++ mask ∷ []
+    → mask_at (masks_of_runs new) (length (rows_of_runs old)) ≡ mask
+pushed_mask old new mask is =
+    ap (λ (masks : List ℕ). mask_at masks (length (rows_of_runs old))) is
+    ∙ get_or_at (masks_of_runs old) mask [] 0 (length (rows_of_runs old)) (length-masks old)
+
+pub pushed_masks : (old new : List Run) (mask : ℕ) → masks_of_runs new ≡ masks_of_runs old ++ mask ∷ [] → (i : ℕ) → i < length (rows_of_runs old)
+    → mask_at (masks_of_runs new) i ≡ mask_at (masks_of_runs old) i
+pushed_masks old new mask is i within =
+    ap (λ (masks : List ℕ). mask_at masks i) is ∙ get_or_append_left (masks_of_runs old) (mask ∷ []) 0 i (omega (arith, within, length-masks old))

@@ -3,6 +3,7 @@ pub mod Copies
 pub mod CountedSeals
 pub mod Decisions
 pub mod Entries
+pub mod EntryForms
 pub mod EntryRows
 pub mod EntrySectors
 pub mod FormTests

@@ -162,7 +162,7 @@ one_rank members form i member i' member' is is' within within' same = elim (cas
 
 -- a whole row holds all members
 
-count_all : (members n : ℕ) → n ≤ members → count_held (λ m. nat_lt m members) n ≡ n
+pub count_all : (members n : ℕ) → n ≤ members → count_held (λ m. nat_lt m members) n ≡ n
 count_all members zero few = refl
 count_all members (suc n) few =
     count_next (λ m. nat_lt m members) n (lt-ltb n members (omega (arith, few))) ∙ omega (arith, count_all members n (omega (arith, few)))

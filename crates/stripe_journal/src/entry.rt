@@ -2,6 +2,7 @@
 ghost use Rattle.std.specs.Prelude.{◌≡◌, ◌≤◌, ◌<◌, ◌+◌, ◌-◌, ◌*◌, ◌^◌, ◌++◌, ◌∷◌, ◌==◌, [], ℕ, IfOk, IfErr};
 ghost use Rattle.std.specs.Prelude.{IfSome, IsNone, count_ones, false, true, length, nat_lt, replicate, slice_index_or, vec_len};
 ghost use Rattle.layout_map.specs.declared.sizes.TheConstants.{ENTRY_ROWS, MOST_MEMBERS};
+ghost use Rattle.entry_runs.specs.Body.{has_bit};
 ghost use Rattle.entry_runs.specs.declared.sizes.TheConstants.{MOST_HELD};
 
 use crate::{Form, Seal};
@@ -36,9 +37,9 @@ impl Entry {
     ghost use Rattle.std.specs.Borrow.{sem};
     ghost use Rattle.std.specs.List.Sorted.{IsStrictlyIncreasing};
     ghost use Rattle.layout_map.specs.declared.format.Format.TheVariants.{One, Two};
-    ghost use Rattle.stripe_journal.specs.Entries.{IsEntryOf, IsFormOf, LendsSector, ListsItsRows, end_of};
+    ghost use Rattle.stripe_journal.specs.Entries.{IsEntryOf, IsFormOf, LendsSector, ListsItsRows, body_of, end_of};
     ghost use Rattle.stripe_journal.specs.Entries.{numbers_of, place_at, row_mask, row_of, sector_at};
-    ghost use Rattle.entry_runs.specs.Body.{bits_below, has_bit};
+    ghost use Rattle.entry_runs.specs.Body.{bits_below};
     ghost use Rattle.entry_runs.specs.Built.{runs_in};
     ghost use Rattle.stripe_journal.specs.Forms.{mask_at};
     ghost use Rattle.stripe_journal.specs.Seals.{row_at};
@@ -75,7 +76,7 @@ impl Entry {
     pub fn is_empty(&self) -> bool
         ensures { result ≡ (length (numbers_of self.now) == 0) }
     {
-        self.runs.count() == 0
+        self.len() == 0
     }
 
     /// The row after its last, 0 where it has none.
@@ -100,11 +101,11 @@ impl Entry {
         ensures others { (i member : ℕ) → i < length (numbers_of self.old) → member < MOST_MEMBERS
             → sector_at self.new i member ≡ sector_at self.old i member }
     {
-        let i = self.runs.count();
+        let i = self.len();
         self.runs.push(row, mask);
-        let first = self.place(i, 0);
+        let start = self.place(i, 0);
         let count = bits_below(mask, MOST_MEMBERS) as usize;
-        put_zeros(&mut self.sectors, first, count);
+        put_zeros(&mut self.sectors, start, count);
     }
 
     /// Makes its rows those of a seal, in a set with 2 to 8 members (conditions). Of their sectors nothing is said.
@@ -114,7 +115,10 @@ impl Entry {
         ensures { IsEntryOf members seal.now.form self.new }
     {
         match &seal.form {
-            Form::Whole(rows) => self.set_listed(rows.as_slice(), &[whole_mask(members); ENTRY_ROWS]),
+            Form::Whole(rows) => self.set_listed(
+                rows.as_slice(),
+                &[whole_mask(members); ENTRY_ROWS],
+            ),
             Form::Held(rows, masks) => self.set_listed(rows.as_slice(), masks),
             Form::Runs(runs) => self.runs.set(runs),
         }
@@ -160,6 +164,18 @@ impl Entry {
         (row.before + bits_below(row.mask, member)) as usize
     }
 
+    /// How many sectors its body has in a set with so many members, at most 8 (condition): at most 4,096.
+    pub fn body_len(&self, members: u8) -> u32
+        requires { members ≤ MOST_MEMBERS }
+        ensures { result ≡ length (body_of members self.now) }
+    {
+        let mut count = 0;
+        for i in 0..self.len() {
+            count += bits_below(self.runs.listed(i).mask, members);
+        }
+        count
+    }
+
     /// Its rows, 1 at least, and which of their sectors it has, as a seal of a set of this format says it. In format 1
     /// it has at most 32 rows, each with a mask of two bits at least (conditions).
     pub fn form(&self, format: Format) -> Form
@@ -178,14 +194,14 @@ impl Entry {
         requires { ListsItsRows self.now }
         ensures { IsFormOf self.now One result }
     {
-        let mut rows = ArrayVec::new();
+        let mut numbers = ArrayVec::new();
         let mut masks = [0; ENTRY_ROWS];
         for i in 0..self.len() {
             let row = self.runs.listed(i);
-            rows.push(row.row);
+            numbers.push(row.row);
             masks[i] = row.mask;
         }
-        Form::Held(rows, masks)
+        Form::Held(numbers, masks)
     }
 
     // Its rows, 1 at least (condition), as runs.
@@ -245,7 +261,7 @@ fn put_zeros(sectors: &mut [Sector], first: usize, count: usize)
 }
 
 impl<'a> EntryView<'a> {
-    ghost use Rattle.entry_runs.specs.Body.{bits_below, has_bit};
+    ghost use Rattle.entry_runs.specs.Body.{bits_below};
     ghost use Rattle.stripe_journal.specs.Entries.{mask_holds, sector_of_mask, sector_of_row};
 
     /// The sector of a member, 0 to 7, that a body has of the row, and `None` where its mask lacks the member's bit.

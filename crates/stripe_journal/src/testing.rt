@@ -141,7 +141,7 @@ pub(crate) fn journals_of(rt: &(impl Abort + AllocGlobal), plan: Plan, sectors: 
         slots.push(journal).expect(rt, "memory");
     }
     assert!(rt; slots.len() == 5);
-    MemBank::new(alloc, Image { slots }, plan, 1_000).expect(rt, "memory")
+    MemBank::new(alloc, Image { slots }, plan, 4_000).expect(rt, "memory")
 }
 
 /// A set with 3 members and 256 rows.
@@ -165,10 +165,11 @@ pub(crate) fn fill(rt: &impl Abort, entry: &mut Entry, i: usize, member: u8, byt
     *entry.sector_mut(i, member) = [byte; 512];
 }
 
-/// An entry with rows 32 and 33, of which it holds what these masks have. Each sector of the first is full of 0x10 and
+/// An entry with rows 32 and 33, of which it has what these masks have, two bits each at least. Each sector of the first is full of 0x10 and
 /// its member's number, and of the second of 0x20 and its member's number.
 pub(crate) fn two_rows(rt: &(impl Abort + AllocGlobal), masks: [u8; 2]) -> Entry {
     let mut entry = Entry::new(rt.alloc()).ok().expect(rt, "memory");
+    assert!(rt; masks[0].count_ones() >= 2 && masks[1].count_ones() >= 2);
     entry.push(32, masks[0]);
     entry.push(33, masks[1]);
     for member in 0..8 {
@@ -194,8 +195,10 @@ pub(crate) fn put_body(
     masks: [u8; 2],
 ) -> Result<(), Stop> {
     let geometry = set(rt);
+    let entry = two_rows(rt, masks);
     check_room(rt, bank, FROM, geometry.format.journal_sectors());
-    write_body(bank, FROM, number, &two_rows(rt, masks), &geometry)
+    assert!(rt; entry.body_len(geometry.members) <= geometry.format.body_sectors());
+    write_body(bank, FROM, number, &entry, &geometry)
 }
 
 /// Writes the seal that a sector spells to the first journal.

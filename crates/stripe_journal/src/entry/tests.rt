@@ -1,9 +1,10 @@
 //! Entries in memory: their rows and sectors.
 use super::Entry;
-use crate::Form;
 use crate::testing::{fill, same, two_rows};
 use sector_model::Sector;
 use std::process::Abort;
+
+mod of_runs;
 
 // Of a row the sectors that its mask has, each full of its byte, and none where there is none.
 fn check_row(rt: &impl Abort, entry: &Entry, i: usize, bytes: &[Option<u8>; 8]) {
@@ -16,19 +17,11 @@ fn check_row(rt: &impl Abort, entry: &Entry, i: usize, bytes: &[Option<u8>; 8]) 
 }
 
 // Whether a sector is full of this byte, or neither is there.
-fn is_full(sector: Option<&Sector>, byte: Option<u8>) -> bool {
+pub(crate) fn is_full(sector: Option<&Sector>, byte: Option<u8>) -> bool {
     match (sector, byte) {
         (Some(sector), Some(byte)) => *sector == [byte; 512],
         (None, None) => true,
         _ => false,
-    }
-}
-
-// The first masks of an entry.
-fn first_masks(entry: &Entry) -> Option<[u8; 3]> {
-    match entry.form() {
-        Form::Whole(_) | Form::Runs(_) => None,
-        Form::Held(_, masks) => Some([masks[0], masks[1], masks[2]]),
     }
 }
 
@@ -55,7 +48,6 @@ fn rows_stand_apart(rt: HostRuntime) {
         1,
         &[Some(0x20), none, Some(0x22), none, none, none, none, none],
     );
-    same(&rt, first_masks(&entry), Some([0xff, 5, 0]));
 }
 
 #[test]
@@ -68,13 +60,12 @@ fn a_pushed_row_is_zero(rt: HostRuntime) {
     entry.push(8, 0xff);
     assert!(rt; entry.len() == 1);
     check_row(&rt, &entry, 0, &[Some(0); 8]);
-    same(&rt, first_masks(&entry), Some([0xff, 0, 0]));
 }
 
 // Pushes 32 rows that hold members 0 and 7, and fills the last sector of each with its number.
 fn fill_rows(rt: &impl Abort, entry: &mut Entry) {
     for row in 0..32u8 {
-        assert!(rt; entry.len() == row as usize);
+        assert!(rt; entry.len() == row as usize && entry.end() == u64::from(row));
         entry.push(u32::from(row), 0x81);
         fill(rt, entry, row as usize, 7, row);
     }

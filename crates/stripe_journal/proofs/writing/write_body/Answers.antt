@@ -1,29 +1,30 @@
-use Rattle.std.proofs.Common.{arith, true, false, ◌≡◌, ◌+◌, ◌∙◌, ℕ, List, ap, subst}
+use Rattle.std.proofs.Common.{arith, true, false, ◌≡◌, ◌+◌, ◌∙◌, ℕ, List, length, ap, subst}
 use Rattle.std.proofs.lemmas.Result.{err_from_is_err_and}
 use Rattle.sector_model.specs.Calls.{Made, writes_from}
 use Rattle.sector_model.specs.History.{Bytes}
 use Rattle.sector_model.proofs.Panels.{later_both}
-use Rattle.stripe_journal.specs.Entries.{form_of, held_of, row_mask}
+use Rattle.stripe_journal.specs.Entries.{form_of, held_of, numbers_of, row_mask}
 use Rattle.entry_runs.specs.Body.{count_held, has_bit}
 use Rattle.stripe_journal.specs.Forms.{in_body}
-use Rattle.stripe_journal.proofs.Entries.{row_short, row_then}
-use Rattle.stripe_journal.proofs.Halves.{body_least, half_end}
-use Rattle.stripe_journal.proofs.Masks.{before_few, before_on}
+use Rattle.stripe_journal.proofs.Entries.{length-body, row_short, row_then}
+use Rattle.stripe_journal.proofs.Halves.{half_end}
+use Rattle.stripe_journal.proofs.Masks.{before_grows, before_on}
 use Rattle.stripe_journal.proofs.writing.write_body.Goals as goal
 
 pub write_row-requires-clause-end : goal.write_row-requires-clause-end
 write_row-requires-clause-end g c =
     let members = c.args.geometry.now.members in
     let form = form_of c.args.entry.now in
-    let few = before_few members form (c.loop-i.i + 1) c.args.geometry.now.limits.members_most (omega (arith, c.args.entry.now.few)) in
+    let count = length (numbers_of c.args.entry.now) in
     omega (
       arith,
       c.loop-i.invariant.place,
-      few,
+      before_grows members form (c.loop-i.i + 1) count (omega (arith, c.loop-i-test.true, c.len-i-end.ensures)),
+      length-body members c.args.entry.now,
+      c.requires.fits,
       before_on members form c.loop-i.i,
       ap (λ (mask : ℕ). count_held (has_bit mask) members) c.view.ensures.mask,
       half_end c.args.geometry.now.format c.args.number,
-      body_least c.args.geometry.now.format,
     )
 
 pub returns-in_err-at-clause-made : goal.returns-in_err-at-clause-made

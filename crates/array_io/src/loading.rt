@@ -4,18 +4,17 @@ ghost use Rattle.sector_model.specs.Bank.{IsCauseOf, IsLater};
 ghost use Rattle.sector_model.specs.History.{is_down, seen, sector_of};
 ghost use Rattle.sector_model.specs.Reads.{HasRead};
 ghost use Rattle.layout_map.specs.Formats.{journal_sectors};
-ghost use Rattle.layout_map.specs.declared.format.Format.TheVariants.{One};
 ghost use Rattle.layout_map.specs.declared.sizes.TheConstants.{MOST_MEMBERS};
-ghost use Rattle.stripe_journal.specs.Entries.{body_start, form_of, numbers_of, row_mask, sector_at};
+ghost use Rattle.stripe_journal.specs.Entries.{IsEntryOf, body_start, form_of, numbers_of, row_mask, sector_at};
 ghost use Rattle.stripe_journal.specs.Forms.{count_held, format_of, has_bit, in_body, rank, rows_in};
 
 use layout_map::Geometry;
 use sector_model::{Bank, Stop, read_sector};
 use stripe_journal::{Entry, Seal, half_start};
 
-/// Reads the entry of a seal that lists its rows, one of format 1, from this journal, a slot of the bank with as many
-/// sectors as a journal of the set's format has at least where its device is up (conditions): its rows, and of each the
-/// sectors that the seal says are held. `Stop::Down` names the journal's device, `Stop::Worn` says that the count of
+/// Reads the entry of a seal of the set's format from this journal, a slot of the bank with as many sectors as a
+/// journal of that format has at least where its device is up (conditions): its rows, and of each the sectors that the
+/// seal says the body has. `Stop::Down` names the journal's device, `Stop::Worn` says that the count of
 /// device calls stands at 2^62.
 pub fn load_entry<B: Bank>(
     bank: &mut B,
@@ -25,16 +24,13 @@ pub fn load_entry<B: Bank>(
     entry: &mut Entry,
 ) -> Result<(), Stop>
     requires slot { journal < (B.panel bank.old).devices }
-    requires listed { format_of seal.now.form ≡ One }
+    requires of_format { format_of seal.now.form ≡ geometry.now.format }
     requires within { (B.panel bank.old).down journal ≡ false
         → journal_sectors geometry.now.format ≤ (B.panel bank.old).sectors journal }
     ensures panel { IsLater (B.panel bank.old) (B.panel bank.new) }
     ensures honest { B.honest bank.old ↔ B.honest bank.new }
     ensures read { B.honest bank.old → HasRead (B.history bank.old) (B.history bank.new) }
-    ensures numbers { OnOk result (numbers_of entry.new ≡ rows_in seal.now.form) }
-    ensures held { (i member : ℕ) → i < length (rows_in seal.now.form) → member < geometry.now.members
-        → OnOk result (in_body geometry.now.members (form_of entry.new) i member ≡ in_body geometry.now.members
-        seal.now.form i member) }
+    ensures entry { OnOk result (IsEntryOf geometry.now.members seal.now.form entry.new) }
     ensures loaded { (i member : ℕ) → B.honest bank.old → i < length (rows_in seal.now.form)
         → member < geometry.now.members
         → in_body geometry.now.members seal.now.form i member ≡ true
@@ -49,9 +45,8 @@ pub fn load_entry<B: Bank>(
         × ((stop ≡ Stop.Worn) ⊎ (stop ≡ Stop.Down journal))) }
 {
     let mut at = half_start(seal.form.format(), seal.number);
-    entry.clear();
-    for (i, row) in seal.form.rows().iter().enumerate() {
-        entry.push(*row, seal.form.mask(geometry.members, i));
+    entry.set(seal, geometry.members);
+    for i in 0..entry.len() {
         at = load_row(bank, journal, geometry, at, i, entry)?;
     }
     Ok(())

@@ -1,7 +1,7 @@
 //! The rows of an entry are put on a member.
 ghost use Rattle.std.specs.Prelude.{◌≡◌, ◌⊎◌, ◌↔◌, ◌<◌, ℕ, IfErr, IfSome, IsNone, false, length, true};
 ghost use Rattle.sector_model.specs.Bank.{IsCauseOf, IsLater};
-ghost use Rattle.stripe_journal.specs.Entries.{numbers_of, sector_at};
+ghost use Rattle.stripe_journal.specs.Entries.{numbers_of, sector_in_row};
 ghost use Rattle.array_io.specs.Steps.PuttingRows.{CanPutRows, IsMemberOn, PutsMember, WritesRows, is_put};
 ghost use Rattle.array_io.specs.Steps.PuttingSteps.{rows_held};
 
@@ -59,11 +59,11 @@ fn sector_to_put<'a>(table: &Table, entry: &'a Entry, i: usize, member: u8) -> O
     requires place { i < length (numbers_of entry.now) }
     requires member { member < table.now.geometry.members }
     ensures some { IfSome result (λ sector. (is_put table.now (rows_held entry.now) member i ≡ true)
-        × (sector.now ≡ sector_at entry.now i member)) }
+        × (sector.now ≡ sector_in_row entry.now i member)) }
     ensures none { IsNone result → is_put table.now (rows_held entry.now) member i ≡ false }
 {
     if counts_on(table, member, u64::from(entry.row(i))) {
-        entry.view(i).member(member)
+        entry.view(i).held(member)
     } else {
         None
     }

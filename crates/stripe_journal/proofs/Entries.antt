@@ -1,7 +1,7 @@
 -- An entry's sectors, by row and member, and its body.
 use denote.Struct.Props.{props}
 use Rattle.std.proofs.Common.{◌≡◌, ◌≢◌, inl, inr, Bool, true, false, cond, ℕ, zero, suc, ◌+◌, ◌-◌, ◌<◌, ◌≤◌, List, [], ◌∷◌, ◌++◌, length, drop, get_or}
-use Rattle.std.proofs.Common.{map, refl, sym, subst, ap, ◌∙◌, arith}
+use Rattle.std.proofs.Common.{◌==◌, map, refl, sym, subst, ap, ◌∙◌, arith}
 use Rattle.std.specs.Prelude.{Err, Ok, filter, replicate, vec_len}
 use Rattle.std.specs.Vec.{with_item}
 use Rattle.entry_runs.specs.declared.sizes.TheConstants.{MOST_HELD}
@@ -18,7 +18,7 @@ use Rattle.sector_model.specs.History.{History, Bytes}
 use Rattle.sector_model.proofs.Sequences.{made_both, made_short, made_stop, made_then}
 use Rattle.stripe_journal.specs.declared.entry.Entry.{Entry}
 use Rattle.stripe_journal.specs.Entries.{body_of, form_of, held_of, numbers_of, place_at, row_mask, row_of, sector_at, sector_of_row}
-use Rattle.stripe_journal.specs.Entries.{with_sector}
+use Rattle.stripe_journal.specs.Entries.{holds_sector, sector_in_row, sector_of_mask, with_sector}
 use Rattle.entry_runs.specs.Body.{bits_below, count_held, has_bit}
 use Rattle.entry_runs.proofs.Counts.{count_beyond}
 use Rattle.arrayvec.specs.ArrayVec.{ArrayVec}
@@ -304,6 +304,21 @@ row_member entry i member within held =
     (count_beyond (has_bit mask) member MOST_MEMBERS held within)
     ∙ get_or-drop (place_at entry i 0) entry.sectors.items (bits_below mask member) []
     ∙ ap (λ (k : ℕ). get_or entry.sectors.items k []) there ∙ sym (held_there entry i member held)
+
+-- and the one that the row holds
+pub row_held_member : (entry : Entry) (i member : ℕ) → member < MOST_MEMBERS → holds_sector entry i member ≡ true
+    → sector_of_mask (row_mask entry i) (sector_of_row (row_mask entry i) (row_of entry i) member) ≡ sector_in_row entry i member
+row_held_member entry i member within held = by_zeros (row_mask entry i == 0) refl
+  where
+    mask : ℕ
+    mask = row_mask entry i
+
+    by_zeros : (b : Bool) → (row_mask entry i == 0) ≡ b
+        → sector_of_mask mask (sector_of_row mask (row_of entry i) member) ≡ sector_in_row entry i member
+    by_zeros true zeros = ap (λ (b : Bool). cond b (replicate 512 0) (sector_of_row mask (row_of entry i) member)) zeros
+        ∙ sym (ap (λ (b : Bool). cond b (replicate 512 0) (sector_at entry i member)) zeros)
+    by_zeros false other = ap (sector_of_mask mask) (row_member entry i member within
+        (sym (ap (λ (b : Bool). cond b true (has_bit mask member)) other) ∙ held))
 
 -- lists, one after another
 lists_next : (f : ℕ → List Bytes) (n : ℕ) → flat_map f (range_with_len 0 (suc n)) ≡ flat_map f (range_with_len 0 n) ++ f n

@@ -10,11 +10,14 @@ use Rattle.entry_runs.specs.Built.{runs_in}
 use Rattle.entry_runs.specs.Runs.{run_at}
 use Rattle.entry_runs.specs.WrittenOut.{bits_in, masks_of_runs, rows_of_runs}
 use Rattle.entry_runs.proofs.Bits.{all_bits}
-use Rattle.entry_runs.proofs.Rows.{length-masks, mask_first, mask_rest}
+use Rattle.entry_runs.proofs.Builds.{fit_end}
+use Rattle.entry_runs.proofs.Lookups.{fit_rise}
+use Rattle.entry_runs.proofs.Rows.{length-masks, mask_first, mask_rest, rows_end, rows_rise}
 use Rattle.layout_map.specs.declared.sizes.TheConstants.{MOST_MEMBERS}
 use Rattle.stripe_journal.specs.declared.entry.Entry.{Entry}
 use Rattle.stripe_journal.specs.Entries.{form_of, masks_of, numbers_of, place_at, row_mask}
 use Rattle.stripe_journal.specs.Forms.{held_before, held_by_masks, mask_at}
+use Rattle.stripe_journal.specs.Seals.{AreRows}
 use Rattle.stripe_journal.proofs.HeldRuns.{held_by_few, held_listed}
 use Rattle.stripe_journal.proofs.Masks.{before_grows, rank_before}
 
@@ -85,3 +88,14 @@ pub pushed_masks : (old new : List Run) (mask : ℕ) → masks_of_runs new ≡ m
     → mask_at (masks_of_runs new) i ≡ mask_at (masks_of_runs old) i
 pushed_masks old new mask is i within =
     ap (λ (masks : List ℕ). mask_at masks i) is ∙ get_or_append_left (masks_of_runs old) (mask ∷ []) 0 i (omega (arith, within, length-masks old))
+
+-- the rows of an entry that has some are such as a seal has
+pub entry_rows : (entry : Entry) → 1 ≤ length (numbers_of entry) → AreRows (numbers_of entry)
+entry_rows entry some =
+    let runs = runs_in entry.runs in
+    let fit = entry.runs.fit in
+    record {
+      least = some;
+      each = λ i within. omega (arith, rows_end runs i (fit_rise runs fit) within, fit_end runs fit);
+      rising = rows_rise runs (fit_rise runs fit);
+    }

@@ -1,5 +1,7 @@
 -- An entry in memory and its seal: where they agree on what is held, its body is the seal's.
-use Rattle.std.proofs.Common.{◌≡◌, ℕ, ◌+◌, ◌<◌, ◌≤◌, Bool, true, false, cond, List, [], length, get_or, refl, sym, ap, ◌∙◌, arith, Some, None}
+use Rattle.std.proofs.Common.{◌≡◌, ℕ, ◌+◌, ◌<◌, ◌≤◌, ◌==◌, nat_lt, Bool, true, false, cond, List, [], length, get_or, refl, sym, ap, ◌∙◌, arith, Some, None}
+use Rattle.std.specs.Prelude.{count_ones}
+use Rattle.std.proofs.lemmas.Bool.{lt-ltb}
 use Rattle.layout_map.specs.declared.format.Format.{Format}
 use Rattle.layout_map.specs.declared.sizes.TheConstants.{MOST_MEMBERS}
 use Rattle.layout_map.specs.Formats.{body_sectors}
@@ -7,12 +9,13 @@ use Rattle.sector_model.specs.History.{Bytes}
 use Rattle.stripe_journal.specs.declared.entry.Entry.{Entry}
 use Rattle.stripe_journal.specs.declared.form.Form.{Form}
 use Rattle.stripe_journal.specs.declared.seal.Seal.{Seal}
-use Rattle.stripe_journal.specs.Entries.{IsEntryOf, IsFormOf, body_of, body_start, form_of, numbers_of, sector_at}
-use Rattle.stripe_journal.specs.Forms.{format_of, held_before, in_body, rank, rows_in}
+use Rattle.stripe_journal.specs.Entries.{IsEntryOf, IsFormOf, body_of, body_start, form_of, holds_sector, masks_of, numbers_of, row_mask, sector_at}
+use Rattle.stripe_journal.specs.Forms.{format_of, has_bit, has_zeros, held_before, holds, in_body, mask_at, rank, rows_in}
 use Rattle.stripe_journal.specs.Seals.{row_at}
 use Rattle.stripe_journal.specs.Body.{place_by_seal}
 use Rattle.stripe_journal.proofs.Bodies.{place_held, place_lacking}
 use Rattle.stripe_journal.proofs.Entries.{body_at, length-body}
+use Rattle.stripe_journal.proofs.EntryForms.{no_row_of_zeros}
 use Rattle.stripe_journal.proofs.HeldRuns.{body_few}
 use Rattle.stripe_journal.proofs.Masks.{before_agrees, rank_agrees}
 use Rattle.stripe_journal.proofs.Places.{place_of_row}
@@ -64,3 +67,46 @@ pub body_fits : (members : ℕ) (format : Format) (seal : Seal) (entry : Entry) 
     → IsEntryOf members seal.form entry → length (body_of members entry) ≤ body_sectors format
 body_fits members format seal entry few of_format is =
     omega (arith, length_of_seal members seal entry few is, body_few members seal.form few seal.formed, ap body_sectors of_format)
+
+-- what an entry in memory holds is what its seal says
+
+pub holds_as_form : (members : ℕ) (form : Form) (entry : Entry) (i member : ℕ) → IsEntryOf members form entry → i < length (rows_in form) → member < members
+    → holds_sector entry i member ≡ holds members form i member
+holds_as_form members form entry i member is below within = by_zeros (has_zeros form i) refl
+  where
+    mask : ℕ
+    mask = row_mask entry i
+
+    by_zeros : (b : Bool) → has_zeros form i ≡ b → holds_sector entry i member ≡ holds members form i member
+    by_zeros true zeros =
+        ap (λ (b : Bool). cond b true (has_bit mask member)) (sym (is.zeros i below) ∙ zeros) ∙ sym (lt-ltb member members within)
+        ∙ sym (ap (λ (b : Bool). cond b (nat_lt member members) (in_body members form i member)) zeros)
+    by_zeros false other =
+        ap (λ (b : Bool). cond b true (has_bit mask member)) (sym (is.zeros i below) ∙ other) ∙ is.held i member below within
+        ∙ sym (ap (λ (b : Bool). cond b (nat_lt member members) (in_body members form i member)) other)
+
+-- of a row of which it has two sectors it holds what its body has
+
+pub none_of_zeros : (entry : Entry) (format : Format) (form : Form) (i : ℕ) → IsFormOf entry format form → i < length (numbers_of entry)
+    → 2 ≤ count_ones (row_mask entry i) → has_zeros form i ≡ false
+none_of_zeros entry format form i is within two = is.zeros i within ∙ no_row_of_zeros (row_mask entry i) two
+
+pub holds_bits : (members : ℕ) (entry : Entry) (format : Format) (form : Form) (i member : ℕ) → IsFormOf entry format form → i < length (numbers_of entry)
+    → 2 ≤ count_ones (row_mask entry i) → holds members form i member ≡ has_bit (row_mask entry i) member
+holds_bits members entry format form i member is within two =
+    ap (λ (b : Bool). cond b (nat_lt member members) (in_body members form i member)) (none_of_zeros entry format form i is within two)
+    ∙ is.held members i member within
+
+-- an entry of the same form as another is of the same seal
+pub entry_stays : (members : ℕ) (form : Form) (old new : Entry) → form_of new ≡ form_of old → IsEntryOf members form old → IsEntryOf members form new
+entry_stays members form old new same is = record {
+  rows = ap rows_in same ∙ is.rows;
+  held = λ i member below within. ap (λ (f : Form). in_body members f i member) same ∙ is.held i member below within;
+  zeros = λ i below. is.zeros i below ∙ ap (λ (mask : ℕ). mask == 0) (sym (same_mask i));
+}
+  where
+    same_masks : (old new : Entry) → form_of new ≡ form_of old → masks_of new ≡ masks_of old
+    same_masks old new same = cc
+
+    same_mask : (i : ℕ) → row_mask new i ≡ row_mask old i
+    same_mask i = ap (λ (masks : List ℕ). mask_at masks i) (same_masks old new same)

@@ -75,8 +75,8 @@ sector_of_mask mask value = if mask == 0 then replicate 512 0 else value
 abbrev pub holds_sector : Entry → (i member : ℕ) → Bool
 holds_sector entry i member = mask_holds (row_mask entry i) member
 
-abbrev pub held_sector : Entry → (i member : ℕ) → Bytes
-held_sector entry i member = sector_of_mask (row_mask entry i) (sector_at entry i member)
+abbrev pub sector_in_row : Entry → (i member : ℕ) → Bytes
+sector_in_row entry i member = sector_of_mask (row_mask entry i) (sector_at entry i member)
 
 -- of a row's sectors, those that its mask has, the ones of so many members
 abbrev pub held_of : (members mask : ℕ) → List Bytes → List Bytes

@@ -5,7 +5,6 @@ use Rattle.sector_model.specs.declared.refusal.Refusal.{Refusal}
 use Rattle.sector_model.specs.declared.refusal.Refusal.TheVariants.{TwoLost, Worn}
 use Rattle.sector_model.specs.Bank.{IsLater, Panel}
 use Rattle.sector_model.specs.History.{Bytes, History}
-use Rattle.layout_map.specs.declared.format.Format.TheVariants.{One}
 use Rattle.superblock.specs.declared.state.State.TheVariants.{InSync, Missing}
 use Rattle.superblock.specs.declared.table.Table.{Table}
 use Rattle.superblock.specs.Tables.{state_at}
@@ -35,10 +34,8 @@ pub record RestsAfter (before : Option Lost) (array : ArrayView) (V : List Bytes
   pub is_lost : IsLostAfter before array.table lost
   pub rests : RestsOn array lost V
 
--- On any bank: the set's slots are slots of the bank, and each slot that the table doesn't call missing is long enough, where it is up. The set is of
--- format 1: no array of format 2 is opened yet, since its entries and volumes are not there.
+-- On any bank: the set's slots are slots of the bank, and each slot that the table doesn't call missing is long enough, where it is up.
 pub record HasItsSlots (table : Table) (panel : Panel) : Type 0 where
-  pub of_format_one : table.geometry.format ≡ One
   pub of_bank : slots_of table ≤ panel.devices
   pub fit : (slot : ℕ) → slot < slots_of table → state_at table.states slot ≢ Missing → panel.down slot ≡ false
       → least_sectors table.geometry slot ≤ panel.sectors slot

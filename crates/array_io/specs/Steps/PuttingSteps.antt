@@ -6,12 +6,13 @@ use Rattle.sector_model.specs.declared.sector.Stop.TheVariants as stop
 use Rattle.sector_model.specs.Bank.{Panel}
 use Rattle.sector_model.specs.Calls.{Call, Flush, Made, Write, writes_from}
 use Rattle.sector_model.specs.History.{Bytes, History}
+use Rattle.layout_map.specs.Formats.{body_sectors}
 use Rattle.superblock.specs.declared.table.Table.{Table}
 use Rattle.stripe_journal.specs.declared.entry.Entry.{Entry}
 use Rattle.stripe_journal.specs.declared.seal.Seal.{Seal}
 use Rattle.stripe_journal.specs.Body.{seal_place}
-use Rattle.stripe_journal.specs.Entries.{body_of, form_of, half_start, numbers_of, row_mask, sector_at}
-use Rattle.stripe_journal.specs.Forms.{format_of, has_bit, in_body, rows_in}
+use Rattle.stripe_journal.specs.Entries.{IsEntryOf, body_of, half_start, holds_sector, numbers_of, sector_in_row}
+use Rattle.stripe_journal.specs.Forms.{rows_in}
 use Rattle.stripe_journal.specs.Seals.{row_at}
 use Rattle.stripe_journal.specs.Spelling.{seal_sector}
 use Rattle.array_io.specs.declared.array.put.Part.{Part}
@@ -48,21 +49,22 @@ EndsOrFailsSlot honest slot old_panel new_panel old_table new_table old new (Err
 EndsOrFailsSlot honest slot old_panel new_panel old_table new_table old new (Err (stop.Down device)) answer =
     MarksOn honest slot old_panel new_panel old_table new_table old new answer
 
--- the rows of an entry, and the sectors of them that it holds
+-- the rows of an entry, and the sectors of them that it holds: of a row of zeros those of all members
 abbrev pub rows_held : Entry → HeldRows
-rows_held entry = record { rows = numbers_of entry; held = λ i member. has_bit (row_mask entry i) member; values = sector_at entry }
+rows_held entry = record { rows = numbers_of entry; held = holds_sector entry; values = sector_in_row entry }
 
--- the entry has the rows of the seal, and holds of them what the seal says, and they are rows of the set
+-- the entry has the rows of the seal, and of them what the seal says, and they are rows of the set
 pub record HasItsRows (table : Table) (seal : Seal) (entry : Entry) : Type 0 where
-  pub same : numbers_of entry ≡ rows_in seal.form
-  pub same_format : format_of (form_of entry) ≡ format_of seal.form
-  pub held : (i member : ℕ) → i < length (rows_in seal.form) → member < table.geometry.members
-      → in_body table.geometry.members (form_of entry) i member ≡ in_body table.geometry.members seal.form i member
+  pub of_seal : IsEntryOf table.geometry.members seal.form entry
   pub below : (i : ℕ) → i < length (rows_in seal.form) → row_at (rows_in seal.form) i < row_count table
 
--- what the slot is: a journal, or for the rows a member
+-- the body of an entry fits a half of the set's journals
+abbrev pub FitsAHalf : Table → Entry → Type 0
+FitsAHalf table entry = length (body_of table.geometry.members entry) ≤ body_sectors table.geometry.format
+
+-- what the slot is: a journal, for a body one that it fits, or for the rows a member
 abbrev pub FitsPart : Part → Table → Seal → Entry → (slot : ℕ) → Type 0
-FitsPart part.Body table seal entry slot = table.geometry.members ≤ slot
+FitsPart part.Body table seal entry slot = (table.geometry.members ≤ slot) × FitsAHalf table entry
 FitsPart part.Seal table seal entry slot = table.geometry.members ≤ slot
 FitsPart part.Rows table seal entry slot = (slot < table.geometry.members) × HasItsRows table seal entry
 

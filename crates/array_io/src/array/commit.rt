@@ -1,9 +1,8 @@
 //! Logical sectors are written, all of them or none.
 ghost use Rattle.std.specs.Prelude.{◌≡◌, ◌≤◌, ◌<◌, ◌+◌, ◌^◌, ◌↔◌, ℕ, count_ones, length};
-ghost use Rattle.std.specs.List.Sorted.{IsStrictlyIncreasing};
+ghost use Rattle.layout_map.specs.declared.sizes.TheConstants.{ENTRY_ROWS};
 ghost use Rattle.sector_model.specs.declared.calls.TheConstants.{GREATEST_COUNT};
-ghost use Rattle.stripe_journal.specs.Entries.{form_of, numbers_of, row_mask};
-ghost use Rattle.stripe_journal.specs.Forms.{rows_in};
+ghost use Rattle.stripe_journal.specs.Entries.{IsFormOf, numbers_of, row_mask};
 ghost use Rattle.array_io.specs.Believed.ArrayCalls.{Commits, MayCommit};
 ghost use Rattle.array_io.specs.Believed.OpenArray.{IsHonest, array_view};
 
@@ -46,16 +45,15 @@ impl<B: Bank> Array<B> {
 fn next_seal(table: &Table, number: u64, entry: &Entry) -> Seal
     requires room { number < GREATEST_COUNT }
     requires least { 1 ≤ length (numbers_of entry.now) }
-    requires rising { IsStrictlyIncreasing (numbers_of entry.now) }
+    requires few { length (numbers_of entry.now) ≤ ENTRY_ROWS }
     requires held { (i : ℕ) → i < length (numbers_of entry.now) → 2 ≤ count_ones (row_mask entry.now i) }
     ensures id { result.id ≡ table.now.id }
     ensures number { result.number ≡ number + 1 }
-    ensures rows { rows_in result.form ≡ numbers_of entry.now }
-    ensures form { result.form ≡ form_of entry.now }
+    ensures form { IsFormOf entry.now table.now.geometry.format result.form }
 {
     Seal {
         id: table.id,
         number: number + 1,
-        form: entry.form(),
+        form: entry.form(table.geometry.format),
     }
 }

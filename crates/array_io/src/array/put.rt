@@ -2,7 +2,7 @@
 ghost use Rattle.std.specs.Prelude.{◌≡◌, ◌≢◌, ◌<◌, ◌≤◌, ◌+◌, ◌++◌, ◌↔◌, ℕ, [], ◌∷◌, false, length};
 ghost use Rattle.sector_model.specs.Bank.{IsLater};
 ghost use Rattle.sector_model.specs.Calls.{Flush, Write, writes_from};
-ghost use Rattle.layout_map.specs.Formats.{journal_sectors};
+ghost use Rattle.layout_map.specs.Formats.{body_sectors, journal_sectors};
 ghost use Rattle.layout_map.specs.declared.sizes.TheConstants.{FIRST_BODY};
 ghost use Rattle.stripe_journal.specs.Body.{seal_place};
 ghost use Rattle.stripe_journal.specs.Entries.{body_of, half_start, numbers_of};
@@ -11,7 +11,8 @@ ghost use Rattle.superblock.specs.NextTables.{slots_of};
 ghost use Rattle.array_io.specs.Believed.OpenArray.{array_on};
 ghost use Rattle.array_io.specs.Believed.Views.{HasItsSlots};
 ghost use Rattle.array_io.specs.Steps.Bringing.{CountsOn};
-ghost use Rattle.array_io.specs.Steps.PuttingSteps.{EndsOrFailsSlot, FitsPart, HasItsRows, PutsCalls, PutsPart};
+ghost use Rattle.array_io.specs.Steps.PuttingSteps.{EndsOrFailsSlot, FitsAHalf, FitsPart, HasItsRows};
+ghost use Rattle.array_io.specs.Steps.PuttingSteps.{PutsCalls, PutsPart};
 ghost use Rattle.array_io.specs.Steps.PuttingSteps.{StepsJournal, StepsJournals, StepsMembers, StepsPart};
 
 use super::mark_slot;
@@ -36,7 +37,7 @@ pub(crate) enum Part {
 /// journal whose device goes down is marked missing, and one that the table calls missing is passed over. Refused as
 /// `part_or_fail_slot` is.
 ///
-/// The set's slots are as `part_or_fail_slot` asks (condition).
+/// The set's slots are as `part_or_fail_slot` asks, and the body fits a half of a journal (conditions).
 pub(crate) fn put_on_journals<B: Bank>(
     bank: &mut B,
     table: &mut Table,
@@ -44,6 +45,7 @@ pub(crate) fn put_on_journals<B: Bank>(
     entry: &Entry,
 ) -> Result<(), Refusal>
     requires its_slots { HasItsSlots table.old (B.panel bank.old) }
+    requires fits { FitsAHalf table.old entry.now }
     ensures honest { B.honest bank.old ↔ B.honest bank.new }
     ensures its_slots { HasItsSlots table.new (B.panel bank.new) }
     ensures geometry { table.new.geometry ≡ table.old.geometry }
@@ -62,7 +64,8 @@ pub(crate) fn put_on_journals<B: Bank>(
 /// seal. Where its device goes down, or the table calls it missing, it goes as with `part_or_fail_slot`, and that says
 /// how this is refused.
 ///
-/// The slot is a journal of the set, and the set's slots are as `part_or_fail_slot` asks (conditions).
+/// The slot is a journal of the set, the body fits a half of it, and the set's slots are as `part_or_fail_slot` asks
+/// (conditions).
 pub fn put_on_journal<B: Bank>(
     bank: &mut B,
     table: &mut Table,
@@ -73,6 +76,7 @@ pub fn put_on_journal<B: Bank>(
     requires its_slots { HasItsSlots table.old (B.panel bank.old) }
     requires of_set { journal < slots_of table.old }
     requires beyond { table.old.geometry.members ≤ journal }
+    requires fits { FitsAHalf table.old entry.now }
     ensures honest { B.honest bank.old ↔ B.honest bank.new }
     ensures its_slots { HasItsSlots table.new (B.panel bank.new) }
     ensures geometry { table.new.geometry ≡ table.old.geometry }
@@ -114,8 +118,8 @@ pub fn put_on_members<B: Bank>(
 /// table calls it missing already. Refused as `mark_slot` is, and with `Worn` where the count of device calls stands at
 /// 2^62.
 ///
-/// The slot is a journal, or for the rows a member; the entry's rows are then those of the seal, and rows of the set.
-/// The set's slots are slots of the bank, each long enough where it is up, and where the table does not call it missing
+/// The slot is a journal, for the body one that it fits, or for the rows a member; the entry's rows are then those of
+/// the seal, and rows of the set. The set's slots are slots of the bank, each long enough where it is up, and where the table does not call it missing
 /// (conditions).
 pub(crate) fn part_or_fail_slot<B: Bank>(
     bank: &mut B,
@@ -194,8 +198,8 @@ pub fn done_or_fail_slot<B: Bank>(
     }
 }
 
-// Writes the body of an entry to a journal, a slot of the bank with as many sectors as a journal of the set's format
-// has at least where its device is up (conditions), sector after sector, and makes it safe by one flush. `Stop::Down`
+// Writes the body of an entry, which fits a half of a journal, to a journal, a slot of the bank with as many sectors as
+// a journal of the set's format has at least where its device is up (conditions), sector after sector, and makes it safe by one flush. `Stop::Down`
 // names the journal, `Stop::Worn` says that the count of device calls stands at 2^62.
 fn put_body<B: Bank>(
     bank: &mut B,
@@ -207,6 +211,7 @@ fn put_body<B: Bank>(
     requires device { journal < (B.panel bank.old).devices }
     requires within { (B.panel bank.old).down journal ≡ false
         → journal_sectors geometry.now.format ≤ (B.panel bank.old).sectors journal }
+    requires fits { length (body_of geometry.now.members entry.now) ≤ body_sectors geometry.now.format }
     ensures honest { B.honest bank.old ↔ B.honest bank.new }
     ensures puts { PutsCalls (B.honest bank.old) journal
         (writes_from journal (half_start geometry.now.format seal.now.number) (body_of geometry.now.members entry.now)

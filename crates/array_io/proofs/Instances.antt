@@ -129,7 +129,7 @@ goes_on_in_reads n array = record {
   later = record { devices = refl; sectors = λ d. refl; calls = omega arith; down = λ d is. is };
   not_older = not_older_same array.table;
   number = omega arith;
-  its_slots = λ has. record { of_format_one = has.of_format_one; of_bank = has.of_bank; fit = has.fit };
+  its_slots = λ has. record { of_bank = has.of_bank; fit = has.fit };
 }
 
 not_failed : (slot : ℕ) (array new : ArrayView) → new.panel.down slot ≡ array.panel.down slot → DeviceFailed slot array.panel new.panel → ⊥

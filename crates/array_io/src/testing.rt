@@ -296,8 +296,9 @@ pub(crate) fn entry_of(rt: &(impl Abort + AllocGlobal), rows: &[Row]) -> Entry {
 
 fn put_rows(rt: &impl Abort, entry: &mut Entry, rows: &[Row]) {
     for i in 0..rows.len() {
-        assert!(rt; entry.len() < 32);
-        entry.push(rows[i].0, rows[i].1);
+        let (row, mask, _) = rows[i];
+        assert!(rt; entry.len() < 32 && entry.end() <= u64::from(row) && mask.count_ones() >= 2);
+        entry.push(row, mask);
         fill_row(rt, entry, i, rows[i].1, &rows[i].2);
     }
 }

@@ -91,11 +91,10 @@ abbrev AreThere : (honest : Type 0) → BankView → Table → Type 0
 AreThere honest bank table = (slot : ℕ) → slot < slots_of table → state_at table.states slot ≢ Missing → IsThere honest bank table slot
 
 -- each is long enough
-pub its_slots : (honest : Type 0) (mid : BankView) (table : Table) (panel : Panel) → table.geometry.format ≡ One → slots_of table ≤ mid.panel.devices
+pub its_slots : (honest : Type 0) (mid : BankView) (table : Table) (panel : Panel) → slots_of table ≤ mid.panel.devices
     → IsLater mid.panel panel
     → ((slot : ℕ) → slot < slots_of table → state_at table.states slot ≢ Missing → IsThere honest mid table slot) → HasItsSlots table panel
-its_slots honest mid table panel of_format_one room later there = record {
-  of_format_one = of_format_one;
+its_slots honest mid table panel room later there = record {
   of_bank = omega (arith, room, later.devices);
   fit = λ slot of_set counted up. subst (λ (n : ℕ). least_sectors table.geometry slot ≤ n) (sym (later.sectors slot)) (there slot of_set counted).long_enough;
 }
@@ -156,7 +155,8 @@ module _ (spellings : Spellings) (honest asked : Type 0) (still : honest → ask
   assembled_whole ok = put_in_order honest id old (view_of panel new table 0) record {
     later = later;
     of_id = has.of_id;
-    its_slots = its_slots asked mid table panel has.of_format_one room brings.brings.later are_there;
+    its_slots = its_slots asked mid table panel room brings.brings.later are_there;
+    of_format_one = has.of_format_one;
     moments = moments;
     rests = λ is_honest base lost X same_id may single_failure.
         let is_from = from is_honest base lost X same_id may in
@@ -230,7 +230,7 @@ module _ (spellings : Spellings) (honest asked : Type 0) (still : honest → ask
       counted = brings.brings.named slot is
 
       its : HasItsSlots table panel
-      its = its_slots asked mid table panel has.of_format_one room brings.brings.later are_there
+      its = its_slots asked mid table panel room brings.brings.later are_there
 
       down : honest → is_down new slot ≡ true
       down is_honest = sym ((true_new is_honest).down slot) ∙ brings.brings.cause (stop.Down slot) is

@@ -365,7 +365,8 @@ module _ (spellings : Spellings) (honest marking : Type 0) (still : honest → m
       opened_by = put_in_order honest id old (view_of new_panel new new_table 0) record {
         later = later_new;
         of_id = is.marked.same_id ∙ m.surveyed.of_id;
-        its_slots = others_stay before.panel new_panel table new_table slot m.surveyed.of_format_one m.of_set is.marked is.publishes.later m.others;
+        its_slots = others_stay before.panel new_panel table new_table slot m.of_set is.marked is.publishes.later m.others;
+        of_format_one = ap (λ (g : Geometry). g.format) is.marked.same_geometry ∙ m.surveyed.of_format_one;
         moments = moments_marked;
         rests = rests;
         states = states;

@@ -276,6 +276,8 @@ module _ (spellings : Spellings) (honest still : Type 0) (more : honest → stil
       later = later_both old.panel panel1 panel2 first.assembles.later settles.goes_on.later;
       of_id = λ array same. of_opened (λ a. a.table.id ≡ id) Now array same (settles.goes_on.not_older.same_id ∙ its_id);
       its_slots = λ array same. of_opened (λ a. HasItsSlots a.table a.panel) Now array same (settles.goes_on.its_slots (first.assembles.its_slots Mid refl));
+      of_format_one = λ array same. of_opened (λ a. a.table.geometry.format ≡ One) Now array same
+          (ap (λ (g : Geometry). g.format) settles.goes_on.not_older.same_geometry ∙ first.assembles.of_format_one Mid refl);
       moments = λ fair base lost X same_id may_assemble. moments fair base lost X same_id may_assemble;
       rests = λ fair base lost X same_id may_assemble array same. of_opened (λ a. IsSingleFailure (slots_of base) lost a.history → OpensOnOne base lost X a) Now
           array same
@@ -373,6 +375,7 @@ module _ (spellings : Spellings) (honest still : Type 0) (more : honest → stil
     later = later_both old.panel panel1 panel2 first.assembles.later settles.goes_on.later;
     of_id = λ array same. absurd (not_opened array (bank_view panel2 h2) refusal same);
     its_slots = λ array same. absurd (not_opened array (bank_view panel2 h2) refusal same);
+    of_format_one = λ array same. absurd (not_opened array (bank_view panel2 h2) refusal same);
     moments = λ fair base lost X same_id may_assemble. moments fair base lost X same_id may_assemble;
     rests = λ fair base lost X same_id may_assemble array same. absurd (not_opened array (bank_view panel2 h2) refusal same);
     states = λ fair base lost X same_id may_assemble array same. absurd (not_opened array (bank_view panel2 h2) refusal same);
@@ -390,6 +393,7 @@ unordered_set honest id old panel h refusal first = record {
   later = first.assembles.later;
   of_id = λ array same. absurd (not_opened array (bank_view panel h) refusal same);
   its_slots = λ array same. absurd (not_opened array (bank_view panel h) refusal same);
+  of_format_one = λ array same. absurd (not_opened array (bank_view panel h) refusal same);
   moments = first.assembles.moments;
   rests = λ fair base lost X same_id may_assemble array same. absurd (not_opened array (bank_view panel h) refusal same);
   states = λ fair base lost X same_id may_assemble array same. absurd (not_opened array (bank_view panel h) refusal same);

@@ -13,7 +13,7 @@ use Rattle.superblock.specs.declared.table.Table.{Table}
 use Rattle.superblock.specs.NextTables.{IsMarked}
 use Rattle.stripe_journal.specs.declared.entry.Entry.{Entry}
 use Rattle.stripe_journal.specs.declared.seal.Seal.{Seal}
-use Rattle.stripe_journal.specs.Entries.{body_of, body_start, form_of, numbers_of, sector_at}
+use Rattle.stripe_journal.specs.Entries.{IsEntryOf, body_of, body_start, sector_at}
 use Rattle.stripe_journal.specs.Forms.{in_body, rank, rows_in}
 use Rattle.array_io.specs.Believed.ArrayCalls.{Answer}
 use Rattle.array_io.specs.Believed.Views.{ArrayView, HasItsSlots, view_of}
@@ -41,9 +41,7 @@ module _ (spellings : Spellings) (honest : Type 0) (latest : Latest) (number : �
 
   -- it is in memory
   module _ (entry : Entry) (body_is : body ≡ body_of table.geometry.members entry) (result : Result (Unit {0}) Stop) (done : Unit {0}) (ok : result ≡ Ok done)
-      (numbers : OnOk result (numbers_of entry ≡ rows_in latest.seal.form))
-      (held : (i member : ℕ) → i < length (rows_in latest.seal.form) → member < table.geometry.members
-      → OnOk result (in_body table.geometry.members (form_of entry) i member ≡ in_body table.geometry.members latest.seal.form i member))
+      (its_entry : OnOk result (IsEntryOf table.geometry.members latest.seal.form entry))
       (loaded : (i member : ℕ) → honest → i < length (rows_in latest.seal.form) → member < table.geometry.members
       → in_body table.geometry.members latest.seal.form i member ≡ true
       → OnOk result (sector_at entry i member ≡ sector_of (seen old latest.source)
@@ -58,7 +56,7 @@ module _ (spellings : Spellings) (honest : Type 0) (latest : Latest) (number : �
         of_set.source.counted later read others true_old true_mid (λ fair device. on_ok _ (stay device fair))
         (λ fair from loss is still. subst (λ (b : List Bytes). IsComing Copied latest.seal b (progress_of latest) from table mid)
         (sym (body_is ∙ body_loaded table.geometry.members entry (seen mid latest.source) latest.seal table.geometry.limits.members_most
-        (record { rows = on_ok _ numbers; held = λ i member inside within. on_ok _ (held i member inside within) })
+        (on_ok _ its_entry)
         (λ i member inside within is. on_ok _ (loaded i member fair inside within is)
         ∙ ap (λ (disk : List Bytes). sector_of disk (body_start latest.seal + rank table.geometry.members latest.seal.form i member))
         (sym (seen_read (read fair) latest.source)))))

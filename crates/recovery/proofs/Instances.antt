@@ -80,7 +80,6 @@ fresh_rests panel image table fresh = settled_begins spellings (fresh_set_holds 
 fresh_slots : (panel : Panel) (image : Slots) (table : Table) → table.geometry.format ≡ One → IsFresh panel.devices table image
     → IsTrueTo panel (Began image) → HasItsSlots table panel
 fresh_slots panel image table one fresh true_to = record {
-  of_format_one = one;
   of_bank = fresh.has_slots;
   fit = λ slot of_set counted up. subst (λ (n : ℕ). least_sectors table.geometry slot ≤ n) (sym (true_to.sectors slot))
       (both_most (least_sectors table.geometry slot) (length (disk_of (image slot))) (2 ^ 32 - 1) (fresh.long_enough slot of_set)
@@ -109,6 +108,7 @@ makes_fresh honest panel image table one fresh true_to = record {
       (first_of_fresh panel.devices image table fresh);
   number = λ array is. opened_is (λ a. a.number ≡ 0) (fresh_array panel image table) array is refl;
   its_slots = λ array is. opened_is (λ a. HasItsSlots a.table a.panel) (fresh_array panel image table) array is (fresh_slots panel image table one fresh true_to);
+  of_format_one = λ array is. opened_is (λ a. a.table.geometry.format ≡ One) (fresh_array panel image table) array is one;
   rests = λ fair quiet array is. opened_is (λ a. RestsOn a None (zeros_of table.geometry)) (fresh_array panel image table) array is
       (fresh_rests panel image table fresh);
   cause = λ bank refusal is. not_returned (IsNoMake table.geometry bank.panel refusal) (fresh_array panel image table) bank refusal is;
@@ -122,6 +122,7 @@ makes_none honest id geometry bank refusal because = record {
   first = λ array is. not_opened (IsFirstTable id geometry array.table) bank refusal array is;
   number = λ array is. not_opened (array.number ≡ 0) bank refusal array is;
   its_slots = λ array is. not_opened (HasItsSlots array.table array.panel) bank refusal array is;
+  of_format_one = λ array is. not_opened (array.table.geometry.format ≡ One) bank refusal array is;
   rests = λ fair quiet array is. not_opened (RestsOn array None (zeros_of geometry)) bank refusal array is;
   cause = λ other said is. returned_is (λ b r. IsNoMake geometry b.panel r) bank other refusal said is because;
 }
@@ -355,6 +356,7 @@ assembles_fresh honest panel now image table n one fresh true_to later =
       of_id = λ array is. opened_is (λ a. a.table.id ≡ table.id) given array is refl;
       its_slots = λ array is. opened_is (λ a. HasItsSlots a.table a.panel) given array is
           (its_slots_later table panel now later (fresh_slots panel image table one fresh true_to));
+      of_format_one = λ array is. opened_is (λ a. a.table.geometry.format ≡ One) given array is one;
       moments = λ fair base lost X same may. throughout_reads base panel.devices lost X (Began image) n may.holds;
       rests = λ fair base lost X same may array is single.
           opened_is (λ a. IsSingleFailure (slots_of base) lost a.history → OpensOnOne base lost X a) given array is
@@ -388,6 +390,7 @@ assembles_refused honest id bank now n refusal later listed because = record {
   later = later;
   of_id = λ array is. not_opened (array.table.id ≡ id) (given_back bank now n) refusal array is;
   its_slots = λ array is. not_opened (HasItsSlots array.table array.panel) (given_back bank now n) refusal array is;
+  of_format_one = λ array is. not_opened (array.table.geometry.format ≡ One) (given_back bank now n) refusal array is;
   moments = λ fair base lost X same may. throughout_reads base bank.panel.devices lost X bank.history n may.holds;
   rests = λ fair base lost X same may array is one. not_opened (OpensOnOne base lost X array) (given_back bank now n) refusal array is;
   states = λ fair base lost X same may array is one table chosen. not_opened (HasStatesOf table bank array) (given_back bank now n) refusal array is;

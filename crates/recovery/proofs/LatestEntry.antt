@@ -18,14 +18,14 @@ use Rattle.stripe_journal.specs.declared.entry.Entry.{Entry}
 use Rattle.stripe_journal.specs.declared.form.Form.{Form}
 use Rattle.stripe_journal.specs.declared.seal.Seal.{Seal}
 use Rattle.stripe_journal.specs.Copying.{body_in}
-use Rattle.stripe_journal.specs.Entries.{body_of, body_start, form_of, sector_at}
+use Rattle.stripe_journal.specs.Entries.{IsEntryOf, body_of, body_start, form_of, sector_at}
 use Rattle.stripe_journal.specs.Forms.{count_held, held_before, in_body, rank, rows_in}
 use Rattle.stripe_journal.specs.LastEntry.{IsGreatest, IsLastSealed, number_of, sector_in}
 use Rattle.stripe_journal.specs.OneEntry.{HasThisEntry, IsNextOn}
 use Rattle.stripe_journal.specs.Seals.{row_at}
 use Rattle.stripe_journal.proofs.Entries.{body_at}
 use Rattle.stripe_journal.proofs.EntrySectors.{sector_held}
-use Rattle.stripe_journal.proofs.HeldEntries.{IsEntryOf, length_of_seal, rank_of_seal}
+use Rattle.stripe_journal.proofs.HeldEntries.{length_of_seal, rank_of_seal}
 use Rattle.stripe_journal.proofs.Masks.{count_next, count_same}
 use Rattle.stripe_journal.proofs.Places.{place_of_row}
 use Rattle.array_io.specs.Believed.Holds.{AreInStep, HaveEqualBodies, HoldsIn, IsLiveJournal}
@@ -93,7 +93,7 @@ body_in_at members disk seal k below = get_or-map-range_with_len (λ i. sector_o
     (omega arith)
 
 -- the entry in memory, whose sectors are those of a journal, has the body that reads of it give
-pub body_loaded : (members : ℕ) (entry : Entry) (disk : List Bytes) (seal : Seal) → members ≤ MOST_MEMBERS → IsEntryOf members seal entry
+pub body_loaded : (members : ℕ) (entry : Entry) (disk : List Bytes) (seal : Seal) → members ≤ MOST_MEMBERS → IsEntryOf members seal.form entry
     → ((i member : ℕ) → i < length (rows_in seal.form) → member < members → in_body members seal.form i member ≡ true
     → sector_at entry i member ≡ sector_of disk (body_start seal + rank members seal.form i member))
     → body_of members entry ≡ body_in members disk seal

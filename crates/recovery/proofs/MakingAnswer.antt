@@ -1,6 +1,6 @@
 -- What making a set answers, put together.
 use denote.Enum.Bare.{sameb}
-use Rattle.std.proofs.Common.{◌≡◌, ℕ, ◌+◌, List, false, not, refl, sym, subst}
+use Rattle.std.proofs.Common.{◌≡◌, ℕ, ◌+◌, List, false, not, refl, sym, ◌∙◌, ap, subst}
 use Rattle.std.specs.Prelude.{None}
 use Rattle.sector_model.specs.declared.refusal.Refusal.{Refusal}
 use Rattle.sector_model.specs.Bank.{IsLater, Panel}
@@ -34,16 +34,17 @@ not_both array bank refusal is = subst (OnOpened (λ a. Unit {0})) is tt
 
 -- the set of this first table is there
 pub made_opened : (honest : Type 0) (id : List ℕ) (geometry : Geometry) (old : BankView) (panel : Panel) (history : History) (table : Table)
-    → IsFirstTable id geometry table → IsLater old.panel panel → HasItsSlots table panel
+    → IsFirstTable id geometry table → geometry.format ≡ One → IsLater old.panel panel → HasItsSlots table panel
     → (honest → IsQuietBeyond table.id (slots_of table) old → IsSettled panel.devices table 0 history None (zeros_of table.geometry))
     → Makes honest id geometry old (opened panel history table 0)
-made_opened honest id geometry old panel history table first later its_slots rests =
+made_opened honest id geometry old panel history table first one later its_slots rests =
     let made : ArrayView = view_of panel history table 0 in
     record {
       later = later;
       first = λ array is. of_opened (λ a. IsFirstTable id geometry a.table) made array is first;
       number = λ array is. of_opened (λ a. a.number ≡ 0) made array is refl;
       its_slots = λ array is. of_opened (λ a. HasItsSlots a.table a.panel) made array is its_slots;
+      of_format_one = λ array is. of_opened (λ a. a.table.geometry.format ≡ One) made array is (ap (λ (g : Geometry). g.format) first.of_geometry ∙ one);
       rests = λ true_bank quiet array is. of_opened (λ a. RestsOn a None (zeros_of geometry)) made array is
           (subst (λ (g : Geometry). IsSettled panel.devices table 0 history None (zeros_of g)) first.of_geometry
           (rests true_bank (subst (λ (g : Geometry). IsQuietBeyond table.id (g.members + 2) old) (sym first.of_geometry)

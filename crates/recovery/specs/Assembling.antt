@@ -8,6 +8,7 @@ use Rattle.sector_model.specs.History.{Bytes, History, Slots, calls_of, cut_at, 
 use Rattle.sector_model.specs.Readable.{NothingPending, readable}
 use Rattle.sector_model.specs.Reads.{HasRead}
 use Rattle.superblock.specs.declared.state.State.TheVariants.{Missing}
+use Rattle.layout_map.specs.declared.format.Format.TheVariants.{One}
 use Rattle.superblock.specs.declared.table.Table.{Table}
 use Rattle.superblock.specs.Tables.{state_at}
 use Rattle.superblock.specs.Cases.{HasNone, Lost}
@@ -86,6 +87,8 @@ pub record AssemblesTo (Reaches : (base : Table) (lost : Option Lost) (X : List 
   pub later : IsLater old.panel (bank_after outcome).panel
   pub of_id : (array : ArrayView) → outcome ≡ Opened array → array.table.id ≡ id
   pub its_slots : (array : ArrayView) → outcome ≡ Opened array → HasItsSlots array.table array.panel
+  -- none of format 2 is served
+  pub of_format_one : (array : ArrayView) → outcome ≡ Opened array → array.table.geometry.format ≡ One
   -- at each moment all cases hold for the same lists
   pub moments : honest → (base : Table) (lost : Option Lost) (X : List (List Bytes)) → base.id ≡ id → MayAssemble base lost X old
       → HoldsThroughout base old.panel.devices lost X old.history (bank_after outcome).history

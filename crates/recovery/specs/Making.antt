@@ -80,6 +80,8 @@ pub record Makes (honest : Type 0) (id : List ℕ) (geometry : Geometry) (old : 
   pub first : (array : ArrayView) → outcome ≡ Opened array → IsFirstTable id geometry array.table
   pub number : (array : ArrayView) → outcome ≡ Opened array → array.number ≡ 0
   pub its_slots : (array : ArrayView) → outcome ≡ Opened array → HasItsSlots array.table array.panel
+  -- none of format 2 is served
+  pub of_format_one : (array : ArrayView) → outcome ≡ Opened array → array.table.geometry.format ≡ One
   pub rests : honest → IsQuietBeyond id (geometry.members + 2) old → (array : ArrayView) → outcome ≡ Opened array → RestsOn array None (zeros_of geometry)
   pub cause : (bank : BankView) (refusal : Refusal) → outcome ≡ Returned bank refusal → IsNoMake geometry bank.panel refusal
 

@@ -80,10 +80,9 @@ fn first_table(id: [u8; 16], geometry: Geometry) -> Table
     }
 }
 
-// Puts a new set of format 1 (condition) with this first table on the bank.
+// Puts a new set with this first table on the bank.
 fn put_set<B: Bank>(bank: &mut B, table: &Table) -> Result<(), Refusal>
     requires first { IsFirstTable table.now.id table.now.geometry table.now }
-    requires of_format_one { table.now.geometry.format ≡ One }
     ensures panel { IsLater (B.panel bank.old) (B.panel bank.new) }
     ensures honest { B.honest bank.old ↔ B.honest bank.new }
     ensures its_slots { OnOk result (HasItsSlots table.now (B.panel bank.new)) }

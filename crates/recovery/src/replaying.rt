@@ -4,7 +4,7 @@ ghost use Rattle.stripe_journal.specs.Entries.{body_of};
 ghost use Rattle.array_io.specs.Believed.Views.{HasItsSlots};
 ghost use Rattle.array_io.specs.Believed.OpenArray.{array_on};
 ghost use Rattle.array_io.specs.Steps.Putting.{Copied, IsComing, IsPutBefore};
-ghost use Rattle.array_io.specs.Steps.PuttingSteps.{Brings};
+ghost use Rattle.array_io.specs.Steps.PuttingSteps.{Brings, FitsAHalf};
 ghost use Rattle.recovery.specs.Replaying.{IsLatestOf, SettlesEntry, progress_of};
 
 use crate::latest::{Latest, latest_entry, stale_journal};
@@ -39,7 +39,8 @@ pub(crate) fn settle_entry<B: Bank>(
     Ok(latest.seal.number)
 }
 
-// Puts the last entry on the stale journal, if there is one. Refused as `settle_entry` is.
+// Puts the last entry, whose body fits a half of a journal (condition), on the stale journal, if there is one. Refused
+// as `settle_entry` is.
 fn copy_to_stale_journal<B: Bank>(
     bank: &mut B,
     table: &mut Table,
@@ -48,6 +49,7 @@ fn copy_to_stale_journal<B: Bank>(
 ) -> Result<(), Refusal>
     requires its_slots { HasItsSlots table.old (B.panel bank.old) }
     requires latest { IsLatestOf table.old latest.now }
+    requires fits { FitsAHalf table.old entry.now }
     ensures honest { B.honest bank.old ↔ B.honest bank.new }
     ensures its_slots { HasItsSlots table.new (B.panel bank.new) }
     ensures geometry { table.new.geometry ≡ table.old.geometry }

@@ -158,6 +158,12 @@ pub(crate) fn check_room(rt: &impl Abort, bank: &MemBank, dev: u8, sectors: u32)
     assert!(rt; dev < bank.devices() && (bank.is_down(dev) || sectors <= bank.sectors(dev)));
 }
 
+/// Adds a row to an entry that has fewer than 32, all below it.
+pub(crate) fn push(rt: &impl Abort, entry: &mut Entry, row: u32, mask: u8) {
+    assert!(rt; entry.len() < 32 && entry.end() <= u64::from(row) && mask.count_ones() >= 2);
+    entry.push(row, mask);
+}
+
 /// Fills the sector of a member in a row, which the row's mask has, with one byte.
 pub(crate) fn fill(rt: &impl Abort, entry: &mut Entry, i: usize, member: u8, byte: u8) {
     assert!(rt; i < entry.len() && member < 8);
@@ -169,9 +175,8 @@ pub(crate) fn fill(rt: &impl Abort, entry: &mut Entry, i: usize, member: u8, byt
 /// its member's number, and of the second of 0x20 and its member's number.
 pub(crate) fn two_rows(rt: &(impl Abort + AllocGlobal), masks: [u8; 2]) -> Entry {
     let mut entry = Entry::new(rt.alloc()).ok().expect(rt, "memory");
-    assert!(rt; masks[0].count_ones() >= 2 && masks[1].count_ones() >= 2);
-    entry.push(32, masks[0]);
-    entry.push(33, masks[1]);
+    push(rt, &mut entry, 32, masks[0]);
+    push(rt, &mut entry, 33, masks[1]);
     for member in 0..8 {
         fill_held(rt, &mut entry, 0, member, 0x10 + member);
         fill_held(rt, &mut entry, 1, member, 0x20 + member);

@@ -49,7 +49,6 @@ states_differ e = cc
 -- the set's slots stay slots of the bank
 pub its_slots_later : (table : Table) (old new : Panel) → IsLater old new → HasItsSlots table old → HasItsSlots table new
 its_slots_later table old new later has = record {
-  of_format_one = has.of_format_one;
   of_bank = subst (λ (n : ℕ). slots_of table ≤ n) (sym later.devices) has.of_bank;
   fit = λ slot of_set there up. subst (λ (n : ℕ). least_sectors table.geometry slot ≤ n) (sym (later.sectors slot))
       (has.fit slot of_set there (was_up slot (old.down slot) refl up));

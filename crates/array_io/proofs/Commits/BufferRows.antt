@@ -7,12 +7,12 @@ use Rattle.std.proofs.lemmas.List.{ext_get_or, get_or-set_same, get_or-set_other
 use Rattle.std.proofs.lemmas.List.FromFn.{fill_by_all, get_or-map-range_with_len, length-map-range_with_len}
 use Rattle.sector_model.specs.History.{Bytes}
 use Rattle.layout_map.specs.declared.geometry.Geometry.{Geometry}
-use Rattle.layout_map.specs.declared.sizes.TheConstants.{ENTRY_ROWS, MOST_MEMBERS}
+use Rattle.layout_map.specs.declared.sizes.TheConstants.{MOST_MEMBERS}
 use Rattle.parity.specs.Xor.{IsSoundRow, xor_of, xor_of_all, zero_sector}
 use Rattle.parity.proofs.Laws.{length-xor_of, length-xor_of_all, xor_of-assoc, xor_of-comm, xor_of-self, xor_of-zero_right, xor_of-zero-xor_of_all}
 use Rattle.parity.proofs.Laws.{xor_of_all-set}
 use Rattle.stripe_journal.specs.declared.entry.Entry.{Entry}
-use Rattle.stripe_journal.specs.Entries.{form_of, row_mask, sector_at, with_sector}
+use Rattle.stripe_journal.specs.Entries.{form_of, masks_of, numbers_of, row_mask, sector_at, with_sector}
 use Rattle.stripe_journal.specs.Forms.{has_bit, mask_at}
 use Rattle.stripe_journal.proofs.Entries.{sector_elsewhere, sector_there}
 use Rattle.degraded.proofs.Others.{map-range}
@@ -40,7 +40,7 @@ member_with members entry i values member within = get_or-map-range_with_len (se
 pub same_mask : (first second : Entry) (i : ℕ) → form_of first ≡ form_of second → row_mask first i ≡ row_mask second i
 same_mask first second i same = ap (λ (masks : List ℕ). mask_at masks i) (same_masks first second same)
   where
-    same_masks : (first second : Entry) → form_of first ≡ form_of second → first.masks ≡ second.masks
+    same_masks : (first second : Entry) → form_of first ≡ form_of second → masks_of first ≡ masks_of second
     same_masks first second same = cc
 
 -- rows of two entries that agree
@@ -52,7 +52,7 @@ row_same members first second i values mask each = map-range (sector_with first 
     ∙ ap (λ (s : Bytes). cond (has_bit (row_mask second i) k) s (slice_index_or values k [])) (each k (omega (arith, below))))
 
 -- a row with another sector of those that the entry holds
-row_put : (members : ℕ) (entry : Entry) (i member : ℕ) (value : Bytes) (values : List Bytes) → members ≤ MOST_MEMBERS → i < ENTRY_ROWS → member < members
+row_put : (members : ℕ) (entry : Entry) (i member : ℕ) (value : Bytes) (values : List Bytes) → members ≤ MOST_MEMBERS → i < length (numbers_of entry) → member < members
     → has_bit (row_mask entry i) member ≡ true
     → row_with members (with_sector entry i member value) i values ≡ slice_set (row_with members entry i values) member value
 row_put members entry i member value values few below within held =
@@ -72,7 +72,7 @@ row_put members entry i member value values few below within held =
     ])
 
 -- a row that had zeros in a place is sound with the XOR of all in it
-pub sound_with_sum : (members : ℕ) (entry : Entry) (i parity : ℕ) (sum : Bytes) (values : List Bytes) → members ≤ MOST_MEMBERS → i < ENTRY_ROWS
+pub sound_with_sum : (members : ℕ) (entry : Entry) (i parity : ℕ) (sum : Bytes) (values : List Bytes) → members ≤ MOST_MEMBERS → i < length (numbers_of entry)
     → parity < members
     → has_bit (row_mask entry i) parity ≡ true → sector_at entry i parity ≡ zero_sector → sum ≡ xor_of_all (row_with members entry i values)
     → IsSoundRow (row_with members (with_sector entry i parity sum) i values)

@@ -1,7 +1,7 @@
 -- A commit, from its rows to its end, by what its parts promise.
 use Rattle.std.proofs.Common.{◌≡◌, ◌⊎◌, inl, inr, ℕ, ◌+◌, ◌<◌, ◌≤◌, true, false, cond, List, [], ◌∷◌, Contains, length, Option, refl, sym, ◌∙◌, ap, subst}
-use Rattle.std.proofs.Common.{subst₂, arith}
-use Rattle.std.specs.Prelude.{Ok, Err, replicate, slice_index_or}
+use Rattle.std.proofs.Common.{Bool, arith}
+use Rattle.std.specs.Prelude.{Ok, Err, count_ones, replicate, slice_index_or}
 use Rattle.std.proofs.lemmas.Option.{none-some}
 use Rattle.std.proofs.lemmas.List.Elements.{Contains-append_left}
 use Rattle.sector_model.specs.declared.calls.TheConstants.{GREATEST_COUNT}
@@ -14,7 +14,6 @@ use Rattle.sector_model.specs.Readable.{readable}
 use Rattle.sector_model.proofs.Readable.{readable_left}
 use Rattle.sector_model.proofs.Panels.{later_same}
 use Rattle.sector_model.proofs.Steps.{throughout_more, throughout_on}
-use Rattle.layout_map.specs.declared.format.Format.TheVariants.{One}
 use Rattle.layout_map.specs.declared.geometry.Geometry.{Geometry}
 use Rattle.layout_map.specs.declared.sizes.TheConstants.{FIRST_ROW, MOST_MEMBERS}
 use Rattle.layout_map.proofs.Places.{place_member_below}
@@ -24,12 +23,11 @@ use Rattle.superblock.specs.Tables.{state_at}
 use Rattle.superblock.specs.Cases.{Lost}
 use Rattle.stripe_journal.specs.declared.entry.Entry.{Entry}
 use Rattle.stripe_journal.specs.declared.seal.Seal.{Seal}
-use Rattle.stripe_journal.specs.declared.form.Form.{Form}
-use Rattle.stripe_journal.specs.Entries.{body_of, form_of, numbers_of}
-use Rattle.stripe_journal.specs.Forms.{format_of, has_zeros, holds, in_body, rank, rows_in}
+use Rattle.stripe_journal.specs.Entries.{IsEntryOf, IsFormOf, body_of, form_of, numbers_of, row_mask}
+use Rattle.stripe_journal.specs.Forms.{has_bit, has_zeros, holds, rank, rows_in}
 use Rattle.stripe_journal.specs.LastSealed.{RowsHold}
 use Rattle.stripe_journal.specs.Seals.{row_at}
-use Rattle.stripe_journal.proofs.HeldEntries.{length_of_seal}
+use Rattle.stripe_journal.proofs.HeldEntries.{entry_of_form, holds_bits, length_of_seal, none_of_zeros, rank_of_seal}
 use Rattle.degraded.specs.RowValue.{Rows, logical_list, value}
 use Rattle.degraded.proofs.Values.{length-value}
 use Rattle.array_io.specs.Believed.ArrayCalls.{Answer, Commits, MayCommit, written}
@@ -46,7 +44,7 @@ use Rattle.array_io.specs.Steps.Writable.{IsWritable}
 use Rattle.array_io.proofs.Rest.AtRestImages.{LeavesSectors, whole_left}
 use Rattle.array_io.proofs.Rest.AtRestRows.{trusts_tells}
 use Rattle.array_io.proofs.Calls.DeviceSteps.{goes_on_later}
-use Rattle.array_io.proofs.Commits.FormedEntry.{body_is, forms_list, kept}
+use Rattle.array_io.proofs.Commits.FormedEntry.{body_is, forms_list, kept, two_held}
 use Rattle.array_io.proofs.Reading.ReadCall.{sectors_of}
 use Rattle.array_io.proofs.Images.Spellings.{Spellings}
 use Rattle.array_io.proofs.Writes.Writable.{writable_at_rest, writable_rests}
@@ -189,11 +187,10 @@ module _ (spellings : Spellings) (honest : Type 0) (number : ℕ) (sectors : Giv
 
   -- its rows were formed
 
-  module _ (still : Type 0) (more : honest → still) (may : MayCommit table sectors) (of_format_one : table1.geometry.format ≡ One) (seal : Seal)
+  module _ (still : Type 0) (more : honest → still) (may : MayCommit table sectors) (seal : Seal)
       (entry : Entry) (steps : KeepsOn honest table table1 panel panel1 h h1 (Ok tt))
       (formed : (number : ℕ) (from : KeepsFrom) → honest → Between panel.devices number from table h → FormsListed table.geometry sectors from.logical entry)
-      (its_id : seal.id ≡ table1.id) (its_number : seal.number ≡ number + 1) (its_rows : rows_in seal.form ≡ numbers_of entry)
-      (its_form : seal.form ≡ form_of entry) where
+      (its_id : seal.id ≡ table1.id) (its_number : seal.number ≡ number + 1) (its_form : IsFormOf entry table1.geometry.format seal.form) where
     abbrev members : ℕ
     members = table1.geometry.members
 
@@ -209,6 +206,12 @@ module _ (spellings : Spellings) (honest : Type 0) (number : ℕ) (sectors : Giv
 
     few : members ≤ MOST_MEMBERS
     few = table1.geometry.limits.members_most
+
+    its_rows : rows_in seal.form ≡ numbers_of entry
+    its_rows = its_form.rows
+
+    of_entry : IsEntryOf members seal.form entry
+    of_entry = entry_of_form members entry table1.geometry.format seal.form its_form
 
     forming : StepsOf honest (KeepsList panel.devices) (Between panel.devices number) (Between panel.devices number) Was Mid (Ok tt)
     forming = steps panel.devices number
@@ -257,30 +260,40 @@ module _ (spellings : Spellings) (honest : Type 0) (number : ℕ) (sectors : Giv
       next : IsFormedNext number table1 h1 sectors seal values body
       next = record {
         formed = subst (λ (rows : List ℕ). IsFormed table1.geometry base sectors rows values) (sym its_rows) is_formed;
-        long = length_of_seal members seal entry few record {
-          rows = sym its_rows;
-          held =
-              λ i member within below. ap (λ (f : Form). in_body members f i member) (sym its_form);
-        };
+        long = length_of_seal members seal entry few of_entry;
         held = λ i member within below held.
-            ap (λ (f : Form). cond (has_zeros f i) (replicate 512 0) (slice_index_or body (rank members f i member) [])) its_form
-            ∙ body_is members base entry i member few (in_entry i within) below (ap (λ (f : Form). holds members f i member) (sym its_form) ∙ held);
+            ap (λ (b : Bool). cond b (replicate 512 0) (slice_index_or body (rank members seal.form i member) [])) (other i (in_entry i within))
+            ∙ ap (λ (k : ℕ). slice_index_or body k []) (sym (rank_of_seal members seal entry few of_entry i member within below))
+            ∙ body_is members base entry i member few (in_entry i within) below (sym (bits i member (in_entry i within)) ∙ held);
         kept = λ i member within below lacking. kept members base entry i member refl (in_entry i within) below
-            (ap (λ (f : Form). holds members f i member) (sym its_form) ∙ lacking)
+            (sym (bits i member (in_entry i within)) ∙ lacking)
             ∙ ap (λ (rows : List ℕ). value base (row_at rows i) member) (sym its_rows);
         next = its_number;
         belongs = record {
           of_set = its_id;
-          of_format = ap format_of its_form ∙ sym of_format_one;
+          of_format = its_form.of_format;
           own_place = refl;
           below = subst (λ (rows : List ℕ). (i : ℕ) → i < length rows → row_at rows i < row_count table1) (sym its_rows) forms.rows.of_set;
-          held = subst₂ (λ (f : Form) (rows : List ℕ). RowsHold table1.geometry f rows) (sym its_form) (sym its_rows)
-              (rows_hold table1.geometry sectors entry forms.held);
+          held = subst (λ (rows : List ℕ). RowsHold table1.geometry seal.form rows) (sym its_rows) (λ i within.
+              let is = rows_hold table1.geometry sectors entry forms.held i within in
+              record {
+                of_set = λ member held. is.of_set member (sym (bits i member within) ∙ held);
+                has_parity = λ member parity. bits i member within ∙ is.has_parity member parity;
+              });
         };
       }
         where
           in_entry : (i : ℕ) → i < length (rows_in seal.form) → i < length (numbers_of entry)
           in_entry i = subst (λ (rows : List ℕ). i < length rows) its_rows
+
+          two : (i : ℕ) → i < length (numbers_of entry) → 2 ≤ count_ones (row_mask entry i)
+          two = two_held table1.geometry sectors entry forms.rows forms.held
+
+          other : (i : ℕ) → i < length (numbers_of entry) → has_zeros seal.form i ≡ false
+          other i within = none_of_zeros entry table1.geometry.format seal.form i its_form within (two i within)
+
+          bits : (i member : ℕ) → i < length (numbers_of entry) → holds members seal.form i member ≡ has_bit (row_mask entry i) member
+          bits i member within = holds_bits members entry table1.geometry.format seal.form i member its_form within (two i within)
 
       coming : IsComing (Formed (written V sectors)) seal body (λ k. Awaited) (Putting lost V) table1 h1
       coming = commit_begins spellings panel1 panel.devices number table table1 lost V h1 same_mid mid leaves_mid sectors seal values body next

@@ -1,5 +1,5 @@
 -- The rows that a commit formed in an entry mean the logical list with the sectors written.
-use Rattle.std.proofs.Common.{◌≡◌, ◌≢◌, ◌⊎◌, inl, inr, ℕ, zero, suc, ◌<◌, ◌≤◌, Bool, true, false, List, [], ◌∷◌, length, refl, sym, ◌∙◌, ap, subst, arith}
+use Rattle.std.proofs.Common.{◌≡◌, ◌≢◌, ◌⊎◌, ◌↔◌, inl, inr, ℕ, zero, suc, ◌<◌, ◌≤◌, Bool, true, false, List, [], ◌∷◌, length, refl, sym, ◌∙◌, ap, subst, arith}
 use Rattle.std.specs.Prelude.{count_ones, slice_index_or}
 use Rattle.std.proofs.lemmas.Bool.{cases_eq}
 use Rattle.std.proofs.lemmas.List.{get_or-set_other, get_or-set_same}
@@ -19,7 +19,7 @@ use Rattle.degraded.specs.RowValue.{AreSound, Rows, logical_list, row_values, va
 use Rattle.array_io.specs.Believed.ArrayCalls.{written}
 use Rattle.array_io.specs.Steps.Forming.{IsAmong, IsFormed, row_of_logical}
 use Rattle.array_io.specs.Steps.FormingRows.{Given, logical_at, bytes_at, row_with, sector_with, HasLogical, IsChanged, AreApart, AreOfSet, AreRowsOf}
-use Rattle.array_io.specs.Steps.FormingRows.{HoldsChanged, HoldsGiven, FormsListed}
+use Rattle.array_io.specs.Steps.FormingRows.{HoldsChanged, HoldsGiven, IsTouchedBy, FormsListed}
 use Rattle.array_io.proofs.Commits.BufferRows.{held_with, lacking_with, length-row_with, member_with}
 use Rattle.array_io.proofs.Commits.ChangedRows.{two_bits}
 use Rattle.array_io.proofs.Commits.EntryValues.{values_of}
@@ -175,12 +175,15 @@ forms_list geometry base sectors entry forms apart of_set width sound whole = re
 }
 
 -- Each row holds two sectors at least: a given one, and the parity.
+pub two_changed : (geometry : Geometry) (sectors : Given) (row mask : ℕ) → IsTouchedBy geometry sectors (length sectors) row
+    → ((member : ℕ) → (has_bit mask member ≡ true) ↔ IsChanged geometry sectors row member) → 2 ≤ count_ones mask
+two_changed geometry sectors row mask touched changed =
+    let parity = parity_is_there row geometry.limits in
+    two_bits mask touched.member (parity_member_of geometry.members geometry.chunk row)
+    (place_beside_parity geometry.limits touched.given.lies parity)
+    ((changed touched.member).1 (inl touched.given)) ((changed (parity_member_of geometry.members geometry.chunk row)).1 (inr parity))
+
 pub two_held : (geometry : Geometry) (sectors : Given) (entry : Entry) → AreRowsOf geometry sectors (numbers_of entry) → HoldsChanged geometry sectors entry
     → (i : ℕ) → i < length (numbers_of entry) → 2 ≤ count_ones (row_mask entry i)
 two_held geometry sectors entry rows held i within =
-    let row = row_at (numbers_of entry) i in
-    let touched = rows.only i within in
-    let parity = parity_is_there row geometry.limits in
-    two_bits (row_mask entry i) touched.member (parity_member_of geometry.members geometry.chunk row)
-    (place_beside_parity geometry.limits touched.given.lies parity)
-    ((held i touched.member within).1 (inl touched.given)) ((held i (parity_member_of geometry.members geometry.chunk row) within).1 (inr parity))
+    two_changed geometry sectors (row_at (numbers_of entry) i) (row_mask entry i) (rows.only i within) (λ member. held i member within)

@@ -11,7 +11,7 @@ use Rattle.sector_model.specs.Bank.{after_read, after_try, fault_at}
 use Rattle.sector_model.specs.History.{After, History, Bytes, is_down, seen, sector_of}
 use Rattle.sector_model.specs.Reads.{HasRead}
 use Rattle.sector_model.proofs.Reading.{seen_read}
-use Rattle.layout_map.specs.declared.sizes.TheConstants.{ENTRY_ROWS, MOST_MEMBERS}
+use Rattle.layout_map.specs.declared.sizes.TheConstants.{MOST_MEMBERS}
 use Rattle.stripe_journal.specs.declared.entry.Entry.{Entry}
 use Rattle.stripe_journal.specs.declared.form.Form.{Form}
 use Rattle.stripe_journal.specs.Entries.{form_of, numbers_of, row_mask, sector_at, with_sector}
@@ -25,7 +25,7 @@ read_before {old = old} device at place value read same is = is ∙ ap (λ (disk
     ∙ ap (sector_of (seen old device)) same
 
 -- one more sector of a row
-pub loaded_more : (entry : Entry) (i at member : ℕ) (held : ℕ → Bool) (value : Bytes) (disk : List Bytes) → i < ENTRY_ROWS → member < MOST_MEMBERS
+pub loaded_more : (entry : Entry) (i at member : ℕ) (held : ℕ → Bool) (value : Bytes) (disk : List Bytes) → i < length (numbers_of entry) → member < MOST_MEMBERS
     → has_bit (row_mask entry i) member ≡ true → value ≡ sector_of disk (at + count_held held member)
     → ((k : ℕ) → k < member → held k ≡ true → sector_at entry i k ≡ sector_of disk (at + count_held held k))
     → (k : ℕ) → k < member + 1 → held k ≡ true → sector_at (with_sector entry i member value) i k ≡ sector_of disk (at + count_held held k)
@@ -44,36 +44,6 @@ loaded_over entry i at member held disk lacking before k most on = elim (cases_e
   | inl same ↦ absurd (false≢true (sym lacking ∙ ap held (sym same) ∙ on))
   | inr other ↦ before k (omega arith) on
 ]
-
--- the rows up to one more hold what a seal says, where that one does, and the others stay
-pub held_more : (members i : ℕ) (form : Form) (old mid end : Entry) (mask : ℕ) → members ≤ MOST_MEMBERS → length (numbers_of old) ≡ i
-    → form_of end ≡ form_of mid
-    → ((member : ℕ) → member < MOST_MEMBERS → has_bit mask member ≡ in_body members form i member) → row_mask mid (length (numbers_of old)) ≡ mask
-    → ((k : ℕ) → k < length (numbers_of old) → row_mask mid k ≡ row_mask old k)
-    → ((k member : ℕ) → k < i → member < members → in_body members (form_of old) k member ≡ in_body members form k member)
-    → (k member : ℕ) → k < i + 1 → member < members → in_body members (form_of end) k member ≡ in_body members form k member
-held_more members i form old mid end mask few count kept bits here others before k member most within =
-    ap (λ (f : Form). in_body members f k member) kept
-    ∙ elim (cases_eq k i) [
-      | inl same ↦
-          ap (λ (n : ℕ). has_bit (row_mask mid n) member) (same ∙ sym count) ∙ ap (λ (m : ℕ). has_bit m member) here
-          ∙ bits member (omega (arith, few, within)) ∙ ap (λ (n : ℕ). in_body members form n member) (sym same)
-      | inr other ↦
-          ap (λ (m : ℕ). has_bit m member) (others k (omega (arith, count, other, most))) ∙ before k member (omega (arith, other, most)) within
-    ]
-
--- a sector that two steps keep
-pub sector_kept : (start mid end : Entry) (i member : ℕ) (value : Bytes) → sector_at end i member ≡ sector_at mid i member
-    → sector_at mid i member ≡ sector_at start i member
-    → sector_at start i member ≡ value → sector_at end i member ≡ value
-sector_kept start mid end i member value later earlier is = later ∙ earlier ∙ is
-
--- one more row number
-pub numbers_more : (rows numbers mid end : List ℕ) (i row : ℕ) → i < length rows → row ≡ get_or rows i 0 → numbers ≡ take i rows → mid ≡ numbers ++ row ∷ []
-    → end ≡ mid → end ≡ take (i + 1) rows
-numbers_more rows numbers mid end i row within is before pushed same =
-    let more : take (i + 1) rows ≡ take i rows ++ get_or rows i 0 ∷ [] = grind (arith, common_steps) in
-    same ∙ pushed ∙ ap (λ (list : List ℕ). list ++ row ∷ []) before ∙ ap (λ (r : ℕ). take i rows ++ r ∷ []) is ∙ sym more
 
 -- an answered read leaves each device up or down as it was
 pub none_of_read : {old new : History} (dev other : ℕ) (done : Unit {0}) → new ≡ after_try (after_read dev) (Ok done) old

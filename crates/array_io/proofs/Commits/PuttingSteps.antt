@@ -19,11 +19,11 @@ use Rattle.superblock.specs.Losses.{IsSingleFailure}
 use Rattle.superblock.specs.NextTables.{slots_of}
 use Rattle.stripe_journal.specs.declared.entry.Entry.{Entry}
 use Rattle.stripe_journal.specs.declared.seal.Seal.{Seal}
-use Rattle.stripe_journal.specs.Entries.{body_of, row_mask, sector_at}
-use Rattle.stripe_journal.specs.Forms.{has_bit, holds, rank, rows_in}
+use Rattle.stripe_journal.specs.Entries.{body_of, form_of, holds_sector, sector_at, sector_in_row}
+use Rattle.stripe_journal.specs.Forms.{has_zeros, holds, in_body, rank, rows_in}
 use Rattle.stripe_journal.proofs.Entries.{body_at}
-use Rattle.stripe_journal.proofs.EntrySectors.{held_is_in_body, no_zeros}
-use Rattle.stripe_journal.proofs.HeldEntries.{IsEntryOf, rank_of_seal}
+use Rattle.stripe_journal.proofs.EntrySectors.{held_in_body}
+use Rattle.stripe_journal.proofs.HeldEntries.{holds_as_form, rank_of_seal}
 use Rattle.stripe_journal.proofs.OneEntry.{a_crash_leaves_either}
 use Rattle.stripe_journal.proofs.OneEntryCalls.{AllOf, flushed_is_up, stays_off_calls}
 use Rattle.array_io.specs.Believed.ArrayCalls.{Answer}
@@ -234,25 +234,33 @@ module _ (spellings : Spellings) (honest : Type 0) (slot number : ℕ) (table : 
   -- what the entry holds of a row on a member is what its seal says
 
   its_held : (i member : ℕ) → HasItsRows table seal entry → i < length (rows_in seal.form) → member < table.geometry.members
-      → has_bit (row_mask entry i) member ≡ holds table.geometry.members seal.form i member
-  its_held i member its inside within =
-      its.held i member inside within ∙ sym (held_is_in_body table.geometry.members seal.form i member (sym its.same_format))
+      → holds_sector entry i member ≡ holds table.geometry.members seal.form i member
+  its_held i member its inside within = holds_as_form table.geometry.members seal.form entry i member its.of_seal inside within
 
   its_sector : (i member : ℕ) → HasItsRows table seal entry → i < length (rows_in seal.form) → member < table.geometry.members
       → holds table.geometry.members seal.form i member ≡ true
-      → sector_at entry i member ≡ held_sector table.geometry.members seal body i member
-  its_sector i member its inside within held =
-      let of_entry : IsEntryOf table.geometry.members seal entry = record { rows = its.same; held = its.held } in
-      sym (body_at table.geometry.members entry i member table.geometry.limits.members_most (subst (λ (r : List ℕ). i < length r) (sym its.same) inside) within
-      (its_held i member its inside within ∙ held))
-      ∙ ap (λ (k : ℕ). slice_index_or body k []) (rank_of_seal table.geometry.members seal entry table.geometry.limits.members_most of_entry i member inside
-      within)
-      ∙ sym (ap (λ (b : Bool). cond b (replicate 512 0) (slice_index_or body (rank table.geometry.members seal.form i member) []))
-      (no_zeros seal.form i (sym its.same_format)))
+      → sector_in_row entry i member ≡ held_sector table.geometry.members seal body i member
+  its_sector i member its inside within held = by_zeros (has_zeros seal.form i) refl
+    where
+      members : ℕ
+      members = table.geometry.members
+
+      by_zeros : (b : Bool) → has_zeros seal.form i ≡ b → sector_in_row entry i member ≡ held_sector members seal body i member
+      by_zeros true zeros =
+          ap (λ (b : Bool). cond b (replicate 512 0) (sector_at entry i member)) (sym (its.of_seal.zeros i inside) ∙ zeros)
+          ∙ sym (ap (λ (b : Bool). cond b (replicate 512 0) (slice_index_or body (rank members seal.form i member) [])) zeros)
+      by_zeros false other =
+          let here : in_body members (form_of entry) i member ≡ true =
+          its.of_seal.held i member inside within ∙ held_in_body members seal.form i member other held in
+          ap (λ (b : Bool). cond b (replicate 512 0) (sector_at entry i member)) (sym (its.of_seal.zeros i inside) ∙ other)
+          ∙ sym (body_at members entry i member table.geometry.limits.members_most (subst (λ (r : List ℕ). i < length r) (sym its.of_seal.rows) inside) within
+          here)
+          ∙ ap (λ (k : ℕ). slice_index_or body k []) (rank_of_seal members seal entry table.geometry.limits.members_most its.of_seal i member inside within)
+          ∙ sym (ap (λ (b : Bool). cond b (replicate 512 0) (slice_index_or body (rank members seal.form i member) [])) other)
 
   -- a slot on which the table doesn't count is passed over
   pub part_passed : (kind : Part) → FitsPart kind table seal entry slot → ¬ CountsOn table slot → StepsPart honest kind seal body slot Was Was (Ok tt)
-  part_passed part.Body beyond out = λ origin journals awaited. brings_same honest (IsComing origin seal body journals)
+  part_passed part.Body (beyond, fits) out = λ origin journals awaited. brings_same honest (IsComing origin seal body journals)
       (IsComing origin seal body (reached journals slot HasBody)) number table old_panel old
       (λ from loss is. (
         is.writes,
@@ -281,7 +289,7 @@ module _ (spellings : Spellings) (honest : Type 0) (slot number : ℕ) (table : 
       (ends : EndsOrFailsSlot still slot mid_panel new_panel table new_table mid new done answer) where
     pub part_put : (kind : Part) → FitsPart kind table seal entry slot → PutsPart honest kind table seal entry slot old_panel mid_panel old mid done
         → StepsPart honest kind seal body slot Was (view_of new_panel new new_table number) answer
-    part_put part.Body beyond puts = λ origin journals awaited. part_steps spellings honest (IsComing origin seal body journals)
+    part_put part.Body (beyond, fits) puts = λ origin journals awaited. part_steps spellings honest (IsComing origin seal body journals)
         (IsComing origin seal body (reached journals slot HasBody)) slot number table
         old_panel mid_panel old mid true_old true_mid new_panel new_table new done answer still more true_new its_slots counted puts.calls_one
         (λ fair from loss is. body_part spellings seal body from table old mid (is_ok done) slot counted (puts.calls_one.off fair) a_crash_leaves_either origin
@@ -295,7 +303,7 @@ module _ (spellings : Spellings) (honest : Type 0) (slot number : ℕ) (table : 
         part_steps spellings honest (IsPutBefore slot seal body) (IsPutBefore (slot + 1) seal body) slot number table
         old_panel mid_panel old mid true_old true_mid new_panel new_table new done answer still more true_new its_slots counted
         (member_calls honest table (rows_held entry) slot old_panel mid_panel old mid done puts)
-        (λ fair from loss is. rows_part spellings seal body from table old mid (is_ok done) slot counted (puts.off fair) within (rows_held entry) its.same
+        (λ fair from loss is. rows_part spellings seal body from table old mid (is_ok done) slot counted (puts.off fair) within (rows_held entry) its.of_seal.rows
         (λ i inside. its_held i slot its inside within) (λ i inside held. its_sector i slot its inside within held) is honest fair old_panel mid_panel done puts
         (λ all. by_ok done all)) ends
       where

@@ -151,12 +151,11 @@ others_fit old_panel new_panel old_table new_table slot other of_set marked late
     (subst (λ (n : ℕ). least_sectors old_table.geometry other ≤ n) (sym (later.sectors other)) fits)
 
 -- so the set has its slots as before
-pub others_stay : (old_panel new_panel : Panel) (old_table new_table : Table) (slot : ℕ) → old_table.geometry.format ≡ One → slot < slots_of old_table
+pub others_stay : (old_panel new_panel : Panel) (old_table new_table : Table) (slot : ℕ) → slot < slots_of old_table
     → IsMarked old_table slot new_table
     → IsLater old_panel new_panel
     → HasOtherSlots slot old_table old_panel → HasItsSlots new_table new_panel
-others_stay old_panel new_panel old_table new_table slot of_format_one of_set marked later its = record {
-  of_format_one = ap (λ (g : Geometry). g.format) marked.same_geometry ∙ of_format_one;
+others_stay old_panel new_panel old_table new_table slot of_set marked later its = record {
   of_bank = others_of_bank old_panel new_panel old_table new_table slot marked later its;
   fit = λ other of_set' there up. others_fit old_panel new_panel old_table new_table slot other of_set marked later its of_set' there up;
 }
@@ -166,7 +165,7 @@ slots_stay : (old_panel new_panel : Panel) (old_table new_table : Table) (slot :
     → IsLater old_panel new_panel
     → HasItsSlots old_table old_panel → HasItsSlots new_table new_panel
 slots_stay old_panel new_panel old_table new_table slot of_set marked later its =
-    others_stay old_panel new_panel old_table new_table slot its.of_format_one of_set marked later
+    others_stay old_panel new_panel old_table new_table slot of_set marked later
     (record { of_bank = its.of_bank; fit = λ other of_set' apart there up. its.fit other of_set' there up })
 
 module _ (spellings : Spellings) (honest : Type 0) (slot number : ℕ) (old_panel new_panel : Panel) (old_table new_table : Table) (old new : History)
@@ -304,7 +303,7 @@ pub its_slots_stay : (honest : Type 0) (slot : ℕ) (old_panel new_panel : Panel
 its_slots_stay honest slot old_panel new_panel old_table new_table old new answer of_set its (inl left) =
     subst₂ (λ (t : Table) (p : Panel). HasItsSlots t p) (sym left.same_table) (sym left.same_panel) its
 its_slots_stay honest slot old_panel new_panel old_table new_table old new answer of_set its (inr is) =
-    others_stay old_panel new_panel old_table new_table slot its.of_format_one of_set is.marked is.publishes.later (but_one slot old_table old_panel its)
+    others_stay old_panel new_panel old_table new_table slot of_set is.marked is.publishes.later (but_one slot old_table old_panel its)
 
 -- what `mark_slot` did of an array's bank and table is what `mark_missing` promises
 pub marks_missing : Spellings → (honest : Type 0) (slot number : ℕ) (old_panel new_panel : Panel) (old_table new_table : Table) (old new : History)

@@ -61,6 +61,7 @@ fn write_entry_body(rt: &(impl Abort + AllocGlobal), bank: &mut MemBank, journal
     let geometry = Geometry::new(3, 8, 32).expect(rt, "it is a geometry");
     let entry = entry_of(rt, ROWS);
     assert!(rt; journal < bank.devices() && 520 <= bank.sectors(journal));
+    assert!(rt; entry.body_len(geometry.members) <= geometry.format.body_sectors());
     let answer = write_body(bank, journal, u64::from(NUMBER), &entry, &geometry);
     same(rt, answer, Ok(()));
 }

@@ -1,6 +1,6 @@
 //! Entries in memory: their rows and sectors.
 use super::Entry;
-use crate::testing::{fill, same, two_rows};
+use crate::testing::{fill, push, same, two_rows};
 use sector_model::Sector;
 use std::process::Abort;
 
@@ -28,8 +28,8 @@ pub(crate) fn is_full(sector: Option<&Sector>, byte: Option<u8>) -> bool {
 #[test]
 fn rows_stand_apart(rt: HostRuntime) {
     let mut entry = Entry::new(rt.alloc()).expect(&rt, "memory");
-    entry.push(7, 0xff);
-    entry.push(9, 0x05);
+    push(&rt, &mut entry, 7, 0xff);
+    push(&rt, &mut entry, 9, 0x05);
     assert!(rt; entry.len() == 2);
     fill(&rt, &mut entry, 0, 7, 0x17);
     fill(&rt, &mut entry, 1, 0, 0x20);
@@ -57,7 +57,7 @@ fn a_pushed_row_is_zero(rt: HostRuntime) {
     let was_empty = entry.is_empty();
     entry.clear();
     same(&rt, (was_empty, entry.is_empty()), (false, true));
-    entry.push(8, 0xff);
+    push(&rt, &mut entry, 8, 0xff);
     assert!(rt; entry.len() == 1);
     check_row(&rt, &entry, 0, &[Some(0); 8]);
 }
@@ -65,8 +65,8 @@ fn a_pushed_row_is_zero(rt: HostRuntime) {
 // Pushes 32 rows that hold members 0 and 7, and fills the last sector of each with its number.
 fn fill_rows(rt: &impl Abort, entry: &mut Entry) {
     for row in 0..32u8 {
-        assert!(rt; entry.len() == row as usize && entry.end() == u64::from(row));
-        entry.push(u32::from(row), 0x81);
+        assert!(rt; entry.len() == row as usize);
+        push(rt, entry, u32::from(row), 0x81);
         fill(rt, entry, row as usize, 7, row);
     }
 }

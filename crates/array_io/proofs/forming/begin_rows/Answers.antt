@@ -1,12 +1,33 @@
-use Rattle.std.proofs.Common.{◌≡◌, ◌↔◌, inl, inr, ℕ, ◌<◌, true, List, [], ◌∷◌, ◌++◌, length, get_or, refl, sym, ◌∙◌, ap, subst, arith}
+use Rattle.std.proofs.Common.{◌≡◌, ◌↔◌, inl, inr, ℕ, ◌+◌, ◌<◌, true, List, [], ◌∷◌, ◌++◌, length, get_or, refl, sym, ◌∙◌, ap, subst, arith}
 use Rattle.std.proofs.lemmas.Bool.{cases_eq}
 use Rattle.std.proofs.lemmas.List.{length-take-le, take_all, take_more}
 use Rattle.parity.proofs.Laws.{zero_sector-replicate}
 use Rattle.stripe_journal.specs.Entries.{numbers_of, row_mask, sector_at}
 use Rattle.stripe_journal.specs.Forms.{has_bit}
 use Rattle.stripe_journal.specs.Seals.{row_at}
+use Rattle.stripe_journal.proofs.Places.{rising_order}
 use Rattle.array_io.specs.Steps.FormingRows.{IsChanged}
+use Rattle.array_io.proofs.Commits.FormedEntry.{two_changed}
 use Rattle.array_io.proofs.forming.begin_rows.Goals as goal
+
+pub push-requires-clause-few : goal.push-requires-clause-few
+push-requires-clause-few c =
+    let now = c.loop-row in
+    omega (
+      arith,
+      ap length now.invariant.numbers,
+      length-take-le now.row-index c.args.rows.now (omega (arith, c.loop-row-test.true)),
+      c.loop-row-test.true,
+      c.requires.rows.most,
+    )
+
+pub push-requires-clause-after : goal.push-requires-clause-after
+push-requires-clause-after c = omega (arith, c.loop-row.invariant.after c.loop-row-test.true)
+
+pub push-requires-clause-two : goal.push-requires-clause-two
+push-requires-clause-two c =
+    two_changed c.args.geometry.now c.args.sectors.now (row_at c.args.rows.now c.loop-row.row-index) c.changed_mask.result
+    (c.requires.rows.only c.loop-row.row-index c.loop-row-test.true) c.changed_mask.ensures
 
 pub loop-row-preserved : goal.loop-row-preserved
 loop-row-preserved c =
@@ -18,6 +39,7 @@ loop-row-preserved c =
     record {
       numbers = c.push.ensures.numbers ∙ ap (λ (list : List ℕ). list ++ get_or rows now.row-index 0 ∷ []) now.invariant.numbers
           ∙ sym (take_more rows now.row-index 0 c.loop-row-test.true);
+      after = λ below. omega (arith, c.push.ensures.end, rising_order rows now.row-index (now.row-index + 1) c.requires.rows.rising (omega arith) below);
       held = λ i member below. elim (cases_eq i now.row-index) [
         | inl same ↦
             let mask : row_mask new i ≡ c.changed_mask.result = ap (row_mask new) (same ∙ sym count) ∙ c.push.ensures.mask in

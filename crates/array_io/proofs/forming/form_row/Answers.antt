@@ -1,6 +1,6 @@
 use Rattle.std.proofs.Common.{ℕ, ◌<◌, ◌≤◌, refl, sym, subst, arith}
 use Rattle.std.proofs.lemmas.Result.{err_from_is_err_and}
-use Rattle.layout_map.specs.declared.sizes.TheConstants.{ENTRY_ROWS, MOST_MEMBERS}
+use Rattle.layout_map.specs.declared.sizes.TheConstants.{MOST_MEMBERS}
 use Rattle.stripe_journal.proofs.Entries.{sector_elsewhere}
 use Rattle.array_io.specs.Steps.FormingRows.{HasParityOn}
 use Rattle.array_io.proofs.Commits.BufferRows.{sound_with_sum}
@@ -24,8 +24,7 @@ returns-clause-forms g c =
     let parity = c.parity_member-parity.result in
     let sum = c.sum_row.new.sum in
     let few : geometry.members ≤ MOST_MEMBERS = omega (arith, geometry.limits.members_most) in
-    let entry_few = entry.few in
-    let below : c.args.i < ENTRY_ROWS = omega (arith, entry_few, c.requires.place) in
+    let below = c.requires.place in
     let here : HasParityOn geometry c.args.row parity = subst (λ (r : ℕ). HasParityOn geometry r parity) c.from.ensures c.parity_member-parity.ensures.parity in
     record {
       steps = c.in_ok-sum_row.ensures.sums.steps;

@@ -1,7 +1,7 @@
 use Rattle.std.proofs.Common.{◌≡◌, inl, inr, ℕ, ◌<◌, ◌≤◌, true, List, length, refl, sym, ◌∙◌, ap, subst, arith}
 use Rattle.std.proofs.lemmas.Bool.{cases_eq}
 use Rattle.layout_map.proofs.Places.{logical_is_one, place_is_one, place_member_below, rows_most}
-use Rattle.layout_map.specs.declared.sizes.TheConstants.{ENTRY_ROWS, MOST_MEMBERS}
+use Rattle.layout_map.specs.declared.sizes.TheConstants.{MOST_MEMBERS}
 use Rattle.layout_map.specs.declared.geometry.Geometry.{Geometry}
 use Rattle.stripe_journal.specs.declared.entry.Entry.{Entry}
 use Rattle.stripe_journal.specs.declared.form.Form.{Form}
@@ -79,7 +79,7 @@ loop-sector-preserved c =
     given_held geometry sectors rows c.args.entry.now now.entry now.sector-index place.result.row at target now.invariant.form c.requires.numbers
     c.requires.held own.0 own.1 c.loop-sector-test.true place.ensures.placed in
     let below_most_members : target < MOST_MEMBERS = omega (arith, place.ensures.member, few) in
-    let below_entry_rows : at < ENTRY_ROWS = omega (arith, own.0, c.requires.rows.most) in
+    let below_entry_rows : at < length (numbers_of now.entry) = omega (arith, own.0, ap length now.invariant.numbers, ap length c.requires.numbers) in
     let moved : (i member : ℕ) → i ≡ at → member ≡ target → LiesAt geometry (logical_at sectors now.sector-index) (row_at rows i) member =
     λ i member same_row same_member.
     subst (λ (m : ℕ). LiesAt geometry (logical_at sectors now.sector-index) (row_at rows i) m) (sym same_member)

@@ -1,33 +1,31 @@
-use Rattle.std.proofs.Common.{◌≡◌, ◌<◌, ◌≤◌, ◌∙◌, refl, sym, inl, inr, ℕ, ◌+◌, length, length-append, ap, arith, List, get_or}
+use Rattle.std.proofs.Common.{◌≡◌, ◌<◌, ◌≤◌, ◌∙◌, refl, sym, inl, inr, ℕ, ◌+◌, length, ap, arith}
 use Rattle.std.proofs.lemmas.Bool.{cases_eq}
-use Rattle.std.proofs.lemmas.List.{take_all}
 use Rattle.std.proofs.lemmas.Result.{err_from_is_err_and}
 use Rattle.sector_model.proofs.Panels.{later_same, later_both}
 use Rattle.sector_model.proofs.Reading.{read_none, read_both}
 use Rattle.layout_map.specs.declared.format.Format.{Format}
 use Rattle.layout_map.specs.declared.sizes.TheConstants.{MOST_MEMBERS}
 use Rattle.layout_map.specs.Formats.{journal_sectors}
-use Rattle.layout_map.proofs.Places.{journal_least}
 use Rattle.stripe_journal.specs.Entries.{body_start, half_start, row_mask}
 use Rattle.stripe_journal.specs.Forms.{count_held, has_bit, in_body, rank, rows_in}
+use Rattle.stripe_journal.proofs.HeldEntries.{entry_stays}
 use Rattle.stripe_journal.proofs.HeldRuns.{body_few}
 use Rattle.stripe_journal.proofs.Halves.{start_end}
 use Rattle.stripe_journal.proofs.Masks.{before_grows, before_on, count_agrees}
 use Rattle.degraded.proofs.Members.{up_before}
-use Rattle.array_io.proofs.Commits.LoadingEntries.{held_more, numbers_more, read_before, sector_kept}
+use Rattle.array_io.proofs.Commits.LoadingEntries.{read_before}
 use Rattle.array_io.proofs.loading.load_entry.Goals as goal
 
 pub loop-i-init : goal.loop-i-init
 loop-i-init g c = record {
+  most = omega arith;
   place = omega (arith, c.half_start-at.ensures.start, ap (λ (f : Format). half_start f c.args.seal.now.number) c.format.ensures);
-  numbers = c.clear.ensures;
-  count = ap length c.clear.ensures;
+  is = c.set.ensures;
   panel = later_same _;
   honest = λ honest. honest;
   still = λ honest. honest;
   read = λ honest. read_none _;
   stays = λ device honest. refl;
-  held = λ k member below within. absurd (omega arith);
   loaded = λ k member honest below within on. absurd (omega arith);
 }
 
@@ -37,56 +35,38 @@ returns-in_err-at-clause-read g c = λ honest. read_both (c.loop-i.invariant.rea
 pub loop-i-preserved : goal.loop-i-preserved
 loop-i-preserved g c =
     let now = c.loop-i in
-    let rows = rows_in c.args.seal.now.form in
-    let deref = c.rows-row-items.ensures.listed c.requires.listed in
     let members = c.args.geometry.now.members in
     let form = c.args.seal.now.form in
     let few : members ≤ MOST_MEMBERS = omega (arith, c.args.geometry.now.limits.members_most) in
-    let masked : (member : ℕ) → member < MOST_MEMBERS → has_bit (row_mask c.push.new.self now.i) member ≡ in_body members form now.i member =
-    λ member within. ap (λ (n : ℕ). has_bit (row_mask c.push.new.self n) member) (sym now.invariant.count)
-    ∙ ap (λ (m : ℕ). has_bit m member) c.push.ensures.mask ∙ c.mask.ensures member within in
-    let counts : (n : ℕ) → n ≤ members → count_held (has_bit (row_mask c.push.new.self now.i)) n ≡ count_held (in_body members form now.i) n =
-    λ n most. count_agrees (has_bit (row_mask c.push.new.self now.i)) (in_body members form now.i) n (λ m below. masked m (omega (arith, below, most, few))) in
+    let below : now.i < length (rows_in form) = omega (arith, c.loop-i-test.true, c.len-i-end.ensures, ap length c.set.ensures.rows) in
+    let masked : (member : ℕ) → member < members → has_bit (row_mask now.entry now.i) member ≡ in_body members form now.i member =
+    λ member within. now.invariant.is.held now.i member below within in
+    let counts : (n : ℕ) → n ≤ members → count_held (has_bit (row_mask now.entry now.i)) n ≡ count_held (in_body members form now.i) n =
+    λ n most. count_agrees (has_bit (row_mask now.entry now.i)) (in_body members form now.i) n (λ m below. masked m (omega (arith, below, most))) in
     record {
+      most = omega (arith, below);
       place = omega (arith, now.invariant.place, c.in_ok-at.ensures.beyond, counts members (omega arith), before_on members form now.i);
-      numbers = numbers_more rows _ _ _ now.i _ (omega (arith, ap length deref, c.loop-i-test.true)) (ap (λ (list : List ℕ). get_or list now.i 0) deref)
-          now.invariant.numbers c.push.ensures.numbers c.load_row.ensures.numbers;
-      count = omega (arith, ap length c.load_row.ensures.numbers, ap length c.push.ensures.numbers, length-append {A = ℕ}, now.invariant.count);
+      is = entry_stays members form now.entry c.load_row.new.entry c.load_row.ensures.form now.invariant.is;
       panel = later_both _ _ _ now.invariant.panel c.load_row.ensures.panel;
       honest = λ honest. c.load_row.ensures.honest.0 (now.invariant.honest honest);
       still = λ honest. now.invariant.still (c.load_row.ensures.honest.1 honest);
       read = λ honest. read_both (now.invariant.read honest) (c.load_row.ensures.read (now.invariant.honest honest));
       stays = λ device honest. c.in_ok-at.ensures.none_failed device (now.invariant.honest honest) ∙ now.invariant.stays device honest;
-      held = held_more members now.i form now.entry c.push.new.self c.load_row.new.entry c.mask.result few now.invariant.count
-          c.load_row.ensures.form c.mask.ensures c.push.ensures.mask c.push.ensures.masks now.invariant.held;
-      loaded = λ k member honest below within on. elim (cases_eq k now.i) [
+      loaded = λ k member honest upto within on. elim (cases_eq k now.i) [
         | inl same ↦
             let there = ap (λ (n : ℕ). in_body members form n member) (sym same) ∙ on in
-            let place : now.at + count_held (has_bit (row_mask c.push.new.self now.i)) member ≡ body_start c.args.seal.now + rank members form now.i member =
+            let place : now.at + count_held (has_bit (row_mask now.entry now.i)) member ≡ body_start c.args.seal.now + rank members form now.i member =
             omega (arith, now.invariant.place, counts member (omega (arith, within))) in
             rw same (read_before c.args.journal _ _ _ (now.invariant.read honest) place
-            (c.in_ok-at.ensures.loaded member (now.invariant.honest honest) within (masked member (omega (arith, within, few)) ∙ there)))
+            (c.in_ok-at.ensures.loaded member (now.invariant.honest honest) within (masked member within ∙ there)))
         | inr other ↦
-            sector_kept now.entry c.push.new.self c.load_row.new.entry k member _ (c.load_row.ensures.others k member other (omega arith))
-            (c.push.ensures.others k member (omega (arith, now.invariant.count)) (omega arith)) (now.invariant.loaded k member honest (omega arith) within on)
+            c.load_row.ensures.others k member other (omega (arith, within, few))
+            ∙ now.invariant.loaded k member honest (omega (arith, upto, other)) within on
       ];
     }
 
-pub push-requires : goal.push-requires
-push-requires g c = omega (arith, c.loop-i.invariant.count, ap length (c.rows-row-items.ensures.listed c.requires.listed), c.loop-i-test.true)
-
 pub load_row-requires-clause-slot : goal.load_row-requires-clause-slot
 load_row-requires-clause-slot g c = omega (arith, c.loop-i.invariant.panel.devices, c.requires.slot)
-
-pub load_row-requires-clause-row : goal.load_row-requires-clause-row
-load_row-requires-clause-row g c = omega (arith, ap length c.push.ensures.numbers, length-append {A = ℕ}, c.loop-i.invariant.count)
-
-pub returns-in_err-at-clause-held : goal.returns-in_err-at-clause-held
-returns-in_err-at-clause-held g c = λ i member below within. rw (err_from_is_err_and c.from_residual.result c.from_residual.ensures.1).1 tt
-
-pub returns-clause-held : goal.returns-clause-held
-returns-clause-held g c = λ k member below within.
-    c.loop-i.invariant.held k member (omega (arith, below, ap length (c.rows-row-items.ensures.listed c.requires.listed), c.loop-i-test.false)) within
 
 pub load_row-requires-clause-within : goal.load_row-requires-clause-within
 load_row-requires-clause-within g c = λ up.
@@ -101,9 +81,6 @@ returns-in_err-at-clause-honest g c = (
   λ honest. c.load_row.ensures.honest.0 (c.loop-i.invariant.honest honest),
   λ honest. c.loop-i.invariant.still (c.load_row.ensures.honest.1 honest),
 )
-
-pub returns-in_err-at-clause-numbers : goal.returns-in_err-at-clause-numbers
-returns-in_err-at-clause-numbers g c = rw (err_from_is_err_and c.from_residual.result c.from_residual.ensures.1).1 tt
 
 pub returns-in_err-at-clause-loaded : goal.returns-in_err-at-clause-loaded
 returns-in_err-at-clause-loaded g c = λ i member honest below within on. rw (err_from_is_err_and c.from_residual.result c.from_residual.ensures.1).1 tt
@@ -129,20 +106,6 @@ returns-clause-honest g c = (c.loop-i.invariant.honest, c.loop-i.invariant.still
 pub returns-clause-read : goal.returns-clause-read
 returns-clause-read g c = c.loop-i.invariant.read
 
-pub returns-clause-numbers : goal.returns-clause-numbers
-returns-clause-numbers g c = c.loop-i.invariant.numbers
-    ∙ take_all c.loop-i.i (rows_in c.args.seal.now.form) (omega (arith, ap length (c.rows-row-items.ensures.listed c.requires.listed), c.loop-i-test.false))
-
-pub returns-clause-loaded : goal.returns-clause-loaded
-returns-clause-loaded g c = λ k member honest below within on.
-    c.loop-i.invariant.loaded k member honest (omega (
-      arith,
-      below,
-      ap length
-          (c.rows-row-items.ensures.listed c.requires.listed),
-      c.loop-i-test.false,
-    )) within on
-
 pub returns-clause-others_stay : goal.returns-clause-others_stay
 returns-clause-others_stay g c = λ other honest apart. c.loop-i.invariant.stays other honest
 
@@ -152,30 +115,34 @@ returns-clause-none_failed g c = c.loop-i.invariant.stays
 pub returns-clause-err : goal.returns-clause-err
 returns-clause-err g c = tt
 
-pub bounds-row-items-i : goal.bounds-row-items-i
-bounds-row-items-i g c = c.loop-i-test.true
+pub load_row-requires-clause-row : goal.load_row-requires-clause-row
+load_row-requires-clause-row g c =
+    omega (arith, c.loop-i-test.true, c.len-i-end.ensures, ap length c.set.ensures.rows, ap length c.loop-i.invariant.is.rows)
+
+pub returns-in_err-at-clause-entry : goal.returns-in_err-at-clause-entry
+returns-in_err-at-clause-entry g c = rw (err_from_is_err_and c.from_residual.result c.from_residual.ensures.1).1 tt
+
+pub returns-clause-entry : goal.returns-clause-entry
+returns-clause-entry g c = c.loop-i.invariant.is
+
+pub returns-clause-loaded : goal.returns-clause-loaded
+returns-clause-loaded g c = λ k member honest below within on.
+    c.loop-i.invariant.loaded k member honest (omega (arith, below, c.loop-i-test.false, c.len-i-end.ensures, ap length c.set.ensures.rows)) within on
 
 pub load_row-requires-clause-end : goal.load_row-requires-clause-end
 load_row-requires-clause-end g c =
+    let now = c.loop-i in
     let members = c.args.geometry.now.members in
     let form = c.args.seal.now.form in
     let few : members ≤ MOST_MEMBERS = omega (arith, c.args.geometry.now.limits.members_most) in
-    let masked : (member : ℕ) → member < MOST_MEMBERS → has_bit (row_mask c.push.new.self c.loop-i.i) member ≡ in_body members form c.loop-i.i member =
-    λ member within. ap (λ (n : ℕ). has_bit (row_mask c.push.new.self n) member) (sym c.loop-i.invariant.count)
-    ∙ ap (λ (m : ℕ). has_bit m member) c.push.ensures.mask ∙ c.mask.ensures member within in
+    let below : now.i < length (rows_in form) = omega (arith, c.loop-i-test.true, c.len-i-end.ensures, ap length c.set.ensures.rows) in
     omega (
       arith,
-      c.loop-i.invariant.place,
-      count_agrees (has_bit (row_mask c.push.new.self c.loop-i.i)) (in_body members form c.loop-i.i) members (λ m below. masked m (omega (arith, below, few))),
-      before_on members form c.loop-i.i,
-      before_grows members form (c.loop-i.i + 1) (length (rows_in form)) (omega (
-        arith,
-        ap length
-            (c.rows-row-items.ensures.listed c.requires.listed),
-        c.loop-i-test.true,
-      )),
+      now.invariant.place,
+      count_agrees (has_bit (row_mask now.entry now.i)) (in_body members form now.i) members (λ m within. now.invariant.is.held now.i m below within),
+      before_on members form now.i,
+      before_grows members form (now.i + 1) (length (rows_in form)) (omega (arith, below)),
       body_few members form few c.args.seal.now.formed,
       start_end c.args.seal.now,
-      ap journal_sectors c.requires.listed,
-      journal_least c.args.geometry.now.format,
+      ap journal_sectors c.requires.of_format,
     )

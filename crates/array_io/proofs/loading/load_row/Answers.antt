@@ -2,10 +2,10 @@ use Rattle.std.proofs.Common.{◌≡◌, ◌<◌, ◌∙◌, ℕ, ◌+◌, true,
 use Rattle.std.proofs.lemmas.Result.{err_from_is_err_and}
 use Rattle.sector_model.proofs.Panels.{later_same, later_both}
 use Rattle.sector_model.proofs.Reading.{read_none, read_one, read_both}
-use Rattle.layout_map.specs.declared.sizes.TheConstants.{ENTRY_ROWS, MOST_MEMBERS}
+use Rattle.layout_map.specs.declared.sizes.TheConstants.{MOST_MEMBERS}
 use Rattle.layout_map.proofs.Places.{journal_most}
 use Rattle.stripe_journal.specs.declared.form.Form.{Form}
-use Rattle.stripe_journal.specs.Entries.{row_mask}
+use Rattle.stripe_journal.specs.Entries.{numbers_of, row_mask}
 use Rattle.stripe_journal.specs.Forms.{count_held, has_bit, in_body}
 use Rattle.stripe_journal.proofs.Entries.{sector_elsewhere}
 use Rattle.stripe_journal.proofs.Masks.{count_beyond, count_on, count_over}
@@ -34,8 +34,7 @@ loop-member-preserved g c =
     let now = c.loop-member in
     let journal = c.args.journal in
     let entry = c.loop-member.entry in
-    let few = c.args.entry.now.few in
-    let below : c.args.i < ENTRY_ROWS = omega arith in
+    let below : c.args.i < length (numbers_of c.loop-member.entry) = omega (arith, ap length now.invariant.numbers, c.requires.row) in
     let within : c.loop-member.member < MOST_MEMBERS = omega arith in
     let in_row = has_bit (row_mask c.args.entry.now c.args.i) in
     let bit : c.is_some.result ≡ in_row c.loop-member.member =

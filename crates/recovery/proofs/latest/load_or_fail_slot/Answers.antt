@@ -32,8 +32,8 @@ returns-in-Ok-clause-loads g c = λ number.
     (g.B.Bank.panel c.args.bank.now) (g.B.Bank.panel c.load_entry.new.bank) (g.B.Bank.history c.args.bank.now) (g.B.Bank.history c.load_entry.new.bank)
     c.load_entry.ensures.panel c.load_entry.ensures.read
     c.load_entry.ensures.others_stay (λ fair. g.met.B.Bank.true_to _ fair) (λ fair. g.met.B.Bank.true_to _ (c.load_entry.ensures.honest.0 fair))
-    c.load_entry.new.entry refl c.load_entry.result c.in-Ok.field-0 c.in-Ok.is c.load_entry.ensures.numbers
-    c.load_entry.ensures.held c.load_entry.ensures.loaded c.load_entry.ensures.none_failed
+    c.load_entry.new.entry refl c.load_entry.result c.in-Ok.field-0 c.in-Ok.is c.load_entry.ensures.entry
+    c.load_entry.ensures.loaded c.load_entry.ensures.none_failed
 
 pub returns-in_ok-done_or_fail_slot-in-Err-clause-marked : goal.returns-in_ok-done_or_fail_slot-in-Err-clause-marked
 returns-in_ok-done_or_fail_slot-in-Err-clause-marked g c = λ is.

@@ -8,16 +8,13 @@ pub returns-in-Ok-clause-made : goal.returns-in-Ok-clause-made
 returns-in-Ok-clause-made g c =
     made_opened (g.B.Bank.honest c.args.bank) c.args.id c.args.geometry (bank_view (g.B.Bank.panel c.args.bank) (g.B.Bank.history c.args.bank))
     (g.B.Bank.panel c.put_set.new.bank) (g.B.Bank.history c.put_set.new.bank) c.first_table-table.result c.first_table-table.ensures
+    (is_format_one c.args.geometry.format (sym c.ne.ensures ∙ c.if-ne.false))
     c.in-Ok.ensures.panel c.in-Ok.ensures.its_slots c.in-Ok.ensures.rests
 
 pub put_set-requires-clause-first : goal.put_set-requires-clause-first
 put_set-requires-clause-first g c =
     let first = c.first_table-table.ensures in
     record { of_id = refl; of_geometry = refl; generation = first.generation; in_sync = first.in_sync; incarnations = first.incarnations }
-
-pub put_set-requires-clause-of_format_one : goal.put_set-requires-clause-of_format_one
-put_set-requires-clause-of_format_one g c = ap (λ (g : Geometry). g.format) c.first_table-table.ensures.of_geometry
-    ∙ is_format_one c.args.geometry.format (sym c.ne.ensures ∙ c.if-ne.false)
 
 pub invariant_of-result : goal.invariant_of-result
 invariant_of-result g c = record { its_slots = c.in-Ok.ensures.its_slots }

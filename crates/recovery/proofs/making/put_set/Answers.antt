@@ -43,7 +43,7 @@ pub returns-in-Ok-clause-its_slots : goal.returns-in-Ok-clause-its_slots
 returns-in-Ok-clause-its_slots g c =
     let room = c.in_ok-check_devices.ensures.usable.room in
     its_slots_later c.args.table.now (g.B.Bank.panel c.args.bank.now) (g.B.Bank.panel c.write_set.new.bank) c.write_set.ensures.panel
-    record { of_format_one = c.requires.of_format_one; of_bank = room.of_bank; fit = λ slot of_set _ _. room.fit slot of_set }
+    record { of_bank = room.of_bank; fit = λ slot of_set _ _. room.fit slot of_set }
 
 pub returns-in-Ok-clause-cause : goal.returns-in-Ok-clause-cause
 returns-in-Ok-clause-cause g c = tt

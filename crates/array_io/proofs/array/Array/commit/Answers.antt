@@ -2,10 +2,9 @@ use Rattle.std.proofs.lemmas.Result.{err_from_is_err_and}
 use Rattle.std.proofs.Common.{Err, Ok, ◌<◌, ℕ, List, length, refl, sym, ◌∙◌, ap, subst, arith}
 use Rattle.layout_map.specs.declared.geometry.Geometry.{Geometry}
 use Rattle.layout_map.specs.Placement.{rows_of}
-use Rattle.stripe_journal.specs.declared.form.Form.{Form}
 use Rattle.stripe_journal.specs.Entries.{numbers_of}
-use Rattle.stripe_journal.specs.Forms.{format_of, in_body}
 use Rattle.stripe_journal.specs.Seals.{row_at}
+use Rattle.stripe_journal.proofs.HeldEntries.{body_fits, entry_of_form}
 use Rattle.array_io.specs.Believed.Holds.{row_count}
 use Rattle.array_io.proofs.Images.Codecs.{spellings}
 use Rattle.array_io.proofs.Commits.FormedEntry.{two_held}
@@ -30,15 +29,25 @@ returns-in_err-form_rows-clause-commits g c =
 pub put_on_members-requires-clause-its_rows : goal.put_on_members-requires-clause-its_rows
 put_on_members-requires-clause-its_rows g c =
     let same = (c.in_ok-form_rows.ensures.steps (g.B.Bank.panel c.args.self.now.bank).devices c.args.self.now.entry).goes_on.not_older.same_geometry in
+    let seal = c.next_seal-seal.ensures.form in
     record {
-      same = sym c.next_seal-seal.ensures.rows;
-      same_format = ap format_of (sym c.next_seal-seal.ensures.form);
-      held = λ i member below within. ap (λ (f : Form). in_body c.put_on_journals.new.table.geometry.members f i member) (sym c.next_seal-seal.ensures.form);
-      below = subst (λ (rows : List ℕ). (i : ℕ) → i < length rows → row_at rows i < row_count c.put_on_journals.new.table) (sym c.next_seal-seal.ensures.rows)
+      of_seal = entry_of_form c.put_on_journals.new.table.geometry.members c.form_rows.new.entry c.form_rows.new.table.geometry.format
+          c.next_seal-seal.result.form seal;
+      below = subst (λ (rows : List ℕ). (i : ℕ) → i < length rows → row_at rows i < row_count c.put_on_journals.new.table) (sym seal.rows)
           (subst (λ (s : Geometry). (i : ℕ) → i < length (numbers_of c.form_rows.new.entry)
           → row_at (numbers_of c.form_rows.new.entry) i < rows_of s.chunk s.stripes)
           (sym (c.put_on_journals.ensures.geometry ∙ same)) c.in_ok-form_rows.ensures.rows.of_set);
     }
+
+pub put_on_journals-requires-clause-fits : goal.put_on_journals-requires-clause-fits
+put_on_journals-requires-clause-fits g c =
+    let geometry = c.form_rows.new.table.geometry in
+    let seal = c.next_seal-seal.ensures.form in
+    body_fits geometry.members geometry.format c.next_seal-seal.result c.form_rows.new.entry geometry.limits.members_most seal.of_format
+    (entry_of_form geometry.members c.form_rows.new.entry geometry.format c.next_seal-seal.result.form seal)
+
+pub next_seal-seal-requires-clause-few : goal.next_seal-seal-requires-clause-few
+next_seal-seal-requires-clause-few g c = c.in_ok-form_rows.ensures.rows.most
 
 pub returns-in_err-put_on_journals-clause-commits : goal.returns-in_err-put_on_journals-clause-commits
 returns-in_err-put_on_journals-clause-commits g c =
@@ -47,9 +56,9 @@ returns-in_err-put_on_journals-clause-commits g c =
     c.form_rows.new.table
     (g.B.Bank.panel c.args.self.now.bank) (g.B.Bank.panel c.form_rows.new.bank) (g.B.Bank.history c.args.self.now.bank) (g.B.Bank.history c.form_rows.new.bank)
     (λ fair. g.met.B.Bank.true_to _ fair) (λ fair. g.met.B.Bank.true_to _ (c.form_rows.ensures.honest.0 fair))
-    (g.B.Bank.honest c.form_rows.new.bank) (λ fair. c.form_rows.ensures.honest.0 fair) c.requires c.form_rows.ensures.its_slots.of_format_one
+    (g.B.Bank.honest c.form_rows.new.bank) (λ fair. c.form_rows.ensures.honest.0 fair) c.requires
     c.next_seal-seal.result c.form_rows.new.entry
-    c.in_ok-form_rows.ensures.steps c.in_ok-form_rows.ensures.formed c.next_seal-seal.ensures.id c.next_seal-seal.ensures.number c.next_seal-seal.ensures.rows
+    c.in_ok-form_rows.ensures.steps c.in_ok-form_rows.ensures.formed c.next_seal-seal.ensures.id c.next_seal-seal.ensures.number
     c.next_seal-seal.ensures.form
     c.put_on_journals.new.table (g.B.Bank.panel c.put_on_journals.new.bank) (g.B.Bank.history c.put_on_journals.new.bank)
     (Err c.in_err-put_on_journals.field-0.0) (c.in_err-put_on_journals.ensures.steps c.args.self.now.entry) c.in_err-put_on_journals.field-0.0 refl)
@@ -61,9 +70,9 @@ returns-in_err-put_on_members-clause-commits g c =
     c.form_rows.new.table
     (g.B.Bank.panel c.args.self.now.bank) (g.B.Bank.panel c.form_rows.new.bank) (g.B.Bank.history c.args.self.now.bank) (g.B.Bank.history c.form_rows.new.bank)
     (λ fair. g.met.B.Bank.true_to _ fair) (λ fair. g.met.B.Bank.true_to _ (c.form_rows.ensures.honest.0 fair))
-    (g.B.Bank.honest c.form_rows.new.bank) (λ fair. c.form_rows.ensures.honest.0 fair) c.requires c.form_rows.ensures.its_slots.of_format_one
+    (g.B.Bank.honest c.form_rows.new.bank) (λ fair. c.form_rows.ensures.honest.0 fair) c.requires
     c.next_seal-seal.result c.form_rows.new.entry
-    c.in_ok-form_rows.ensures.steps c.in_ok-form_rows.ensures.formed c.next_seal-seal.ensures.id c.next_seal-seal.ensures.number c.next_seal-seal.ensures.rows
+    c.in_ok-form_rows.ensures.steps c.in_ok-form_rows.ensures.formed c.next_seal-seal.ensures.id c.next_seal-seal.ensures.number
     c.next_seal-seal.ensures.form
     c.put_on_journals.new.table (g.B.Bank.panel c.put_on_journals.new.bank) (g.B.Bank.history c.put_on_journals.new.bank)
     (Ok tt) (c.in_ok-put_on_journals.ensures.steps c.args.self.now.entry) refl (g.B.Bank.honest c.put_on_journals.new.bank)
@@ -77,9 +86,9 @@ returns-clause-commits g c =
     commit_done spellings (g.B.Bank.honest c.args.self.now.bank) c.args.self.now.entry c.args.sectors.now c.args.self.now.table c.form_rows.new.table
     (g.B.Bank.panel c.args.self.now.bank) (g.B.Bank.panel c.form_rows.new.bank) (g.B.Bank.history c.args.self.now.bank) (g.B.Bank.history c.form_rows.new.bank)
     (λ fair. g.met.B.Bank.true_to _ fair) (λ fair. g.met.B.Bank.true_to _ (c.form_rows.ensures.honest.0 fair))
-    (g.B.Bank.honest c.form_rows.new.bank) (λ fair. c.form_rows.ensures.honest.0 fair) c.requires c.form_rows.ensures.its_slots.of_format_one
+    (g.B.Bank.honest c.form_rows.new.bank) (λ fair. c.form_rows.ensures.honest.0 fair) c.requires
     c.next_seal-seal.result c.form_rows.new.entry
-    c.in_ok-form_rows.ensures.steps c.in_ok-form_rows.ensures.formed c.next_seal-seal.ensures.id c.next_seal-seal.ensures.number c.next_seal-seal.ensures.rows
+    c.in_ok-form_rows.ensures.steps c.in_ok-form_rows.ensures.formed c.next_seal-seal.ensures.id c.next_seal-seal.ensures.number
     c.next_seal-seal.ensures.form
     c.put_on_journals.new.table (g.B.Bank.panel c.put_on_journals.new.bank) (g.B.Bank.history c.put_on_journals.new.bank)
     (Ok tt) (c.in_ok-put_on_journals.ensures.steps c.args.self.now.entry) refl (g.B.Bank.honest c.put_on_journals.new.bank)
@@ -108,9 +117,6 @@ next_seal-seal-requires-clause-room g c = c.if-self-ge-GREATEST_COUNT.false
 
 pub next_seal-seal-requires-clause-least : goal.next_seal-seal-requires-clause-least
 next_seal-seal-requires-clause-least g c = c.in_ok-form_rows.ensures.rows.least
-
-pub next_seal-seal-requires-clause-rising : goal.next_seal-seal-requires-clause-rising
-next_seal-seal-requires-clause-rising g c = c.in_ok-form_rows.ensures.rows.rising
 
 pub overflow_add-self : goal.overflow_add-self
 overflow_add-self g c = omega (arith, c.if-self-ge-GREATEST_COUNT.false)

@@ -1,18 +1,17 @@
-use Rattle.std.proofs.Common.{◌+◌, sym, ap, subst, arith}
-use Rattle.stripe_journal.specs.declared.form.Form.{Form}
-use Rattle.stripe_journal.specs.Forms.{rows_in}
+use Rattle.std.proofs.Common.{ℕ, ◌+◌, List, sym, subst, arith}
 use Rattle.stripe_journal.specs.Seals.{IsSeal}
+use Rattle.stripe_journal.proofs.EntryRows.{entry_rows}
 use Rattle.array_io.proofs.array.commit.next_seal.Goals as goal
+
+pub form-requires-clause-listed : goal.form-requires-clause-listed
+form-requires-clause-listed c = λ one. record { few = c.requires.few; two = c.requires.held }
 
 pub invariant_of-result : goal.invariant_of-result
 invariant_of-result c = record {
-  allowed = subst (λ (form : Form). IsSeal (c.args.number + 1) (rows_in form)) (sym c.form.ensures.form) (record {
+  allowed = subst (λ (rows : List ℕ). IsSeal (c.args.number + 1) rows) (sym c.form.ensures.rows) (record {
     number_least = omega arith;
     number_most = omega (arith, c.requires.room);
-    rows = record { least = c.requires.least; each = c.form.ensures.fits; rising = c.requires.rising };
+    rows = entry_rows c.args.entry.now c.requires.least;
   });
-  formed = c.form.ensures.sealed c.requires.held;
+  formed = c.form.ensures.formed;
 }
-
-pub returns-clause-rows : goal.returns-clause-rows
-returns-clause-rows c = ap rows_in c.form.ensures.form

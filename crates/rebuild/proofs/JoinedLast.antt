@@ -58,7 +58,6 @@ differ e = cc
 -- the set's slots are slots of the bank by the next table too
 pub its_slots_next : (panel : Panel) (table next : Table) (slot : ℕ) → CanJoin panel table next slot → HasItsSlots next panel
 its_slots_next panel table next slot can = record {
-  of_format_one = ap (λ (g : Geometry). g.format) can.step.same_geometry ∙ can.its_slots.of_format_one;
   of_bank = omega (arith, can.its_slots.of_bank, step_slots table next slot can.step);
   fit = λ other of_set there up.
       let of_table : other < slots_of table = omega (arith, of_set, step_slots table next slot can.step) in

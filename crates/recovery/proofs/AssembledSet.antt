@@ -12,6 +12,7 @@ use Rattle.sector_model.proofs.Panels.{later_both}
 use Rattle.sector_model.proofs.Steps.{throughout_last, throughout_on}
 use Rattle.superblock.specs.declared.state.State.{State}
 use Rattle.superblock.specs.declared.state.State.TheVariants.{InSync, Missing, Rebuilding}
+use Rattle.layout_map.specs.declared.format.Format.TheVariants.{One}
 use Rattle.superblock.specs.declared.table.Table.{Table}
 use Rattle.superblock.specs.Tables.{state_at}
 use Rattle.superblock.specs.Cases.{HasNone, Lost}

@@ -352,4 +352,4 @@ headline id geometry bank array left makes quiet session runs = ∥∥₁_map (f
     session_keeps array.table array.panel.devices nothing_before array nothing_lost no_volumes left (made_safe id geometry bank array makes quiet shows)
     record { n = 0; has_acknowledged = omega arith; is_prefix = omega arith; is = refl } session
     (λ before. RunsKeep array.table.id (extents_in array.table.geometry) array.panel.devices (slots_of array.table) before runs)
-    (λ next maps each safe. runs_keep array.table array.panel.devices next maps left each (makes.its_slots array refl).of_format_one safe runs))
+    (λ next maps each safe. runs_keep array.table array.panel.devices next maps left each (makes.of_format_one array refl) safe runs))

@@ -1,4 +1,5 @@
 //! The table on the devices: what stands in it, in which order its volumes are listed, and one that is damaged.
+use layout_map::Format;
 use super::Answer::Done;
 use super::Call::{Create, Extend, Remove};
 use super::Step::{Do, Holds, Table};
@@ -71,6 +72,7 @@ fn check_damaged(rt: &(impl Abort + AllocGlobal), logical: usize, by: u8, sector
     damage(rt, &mut image, logical, by);
     let array = assembled(rt, image);
     let (now, room) = (array.bank.now(), array.bank.room);
+    assert!(rt; array.table.geometry.format == Format::One);
     let returned = Store::open(array).err().expect(rt, "no store is opened");
     let calls = returned.bank.now().saturating_sub(now);
     let got = (logical, returned.refusal, calls, returned.bank.room);

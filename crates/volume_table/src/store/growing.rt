@@ -1,5 +1,6 @@
 //! A volume gets new blocks.
 ghost use Rattle.std.specs.Prelude.{◌≡◌, ◌≤◌, ◌↔◌, ◌+◌, ◌-◌, Some, slice_set};
+ghost use Rattle.layout_map.specs.declared.format.Format.TheVariants.{One};
 ghost use Rattle.array_io.specs.Believed.OpenArray.{IsHonest, array_view};
 ghost use Rattle.extents.specs.ExtentMaps.{IsTaken};
 ghost use Rattle.extents.specs.VolumeTables.{extents_for};
@@ -35,6 +36,7 @@ pub fn grow<B: Bank>(
     map: &mut ExtentMap,
     growth: Growth,
 ) -> Result<(), Refusal>
+    requires of_format_one { array.old.table.geometry.format ≡ One }
     requires kept { AreKept (extents_in array.old.table.geometry) table.old map.old }
     requires may { MayGrowTo table.old.version table.old.records map.old growth.volume growth.first growth.entry }
     ensures honest { IsHonest array.old ↔ IsHonest array.new }

@@ -1,6 +1,7 @@
 //! A store is opened over a set.
 ghost use Rattle.std.specs.Prelude.{◌≡◌, ◌↔◌, ◌+◌, ◌<◌, ◌≤◌, ℕ, IfOk, IfErr, List, [], Option, Err, OnOk, take, drop};
 ghost use Rattle.std.specs.Prelude.{length, slice_index_or};
+ghost use Rattle.layout_map.specs.declared.format.Format.TheVariants.{One};
 ghost use Rattle.sector_model.specs.declared.refusal.Refusal.{Refusal};
 ghost use Rattle.sector_model.specs.History.{Bytes};
 ghost use Rattle.superblock.specs.Cases.{Lost};
@@ -23,9 +24,10 @@ impl<B: Bank> Store<B> {
     /// Opens a store over a set: reads its first logical sectors, which are the table of volumes, as many as a table of
     /// its version has.
     ///
-    /// Refused with `BadTable` where they are no table of volumes of a set with so many extents, and as a read of the
-    /// array is; the bank is then given back as it stands.
+    /// The set is of format 1 (condition). Refused with `BadTable` where they are no table of volumes of a set with so
+    /// many extents, and as a read of the array is; the bank is then given back as it stands.
     pub fn open(mut array: Array<B>) -> Result<Store<B>, Returned<B>>
+        requires { array.table.geometry.format ≡ One }
         ensures honest_store { IfOk result (λ store. IsHonest array ↔ IsHonest store.array) }
         ensures honest_bank { IfErr result (λ returned. IsHonest array ↔ B.honest returned.bank) }
         ensures opened { IfOk result (λ store. Opens (IsHonest array) (array_view array) (opened (store_view store))) }

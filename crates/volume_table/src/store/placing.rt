@@ -1,5 +1,6 @@
 //! The blocks of a volume are written where they lie.
 ghost use Rattle.std.specs.Prelude.{◌≡◌, ◌≤◌, ◌<◌, ◌+◌, ◌-◌, ◌↔◌, length};
+ghost use Rattle.layout_map.specs.declared.format.Format.TheVariants.{One};
 ghost use Rattle.array_io.specs.Believed.OpenArray.{IsHonest, array_view};
 ghost use Rattle.extents.specs.declared.record.TheConstants.{MOST_BLOCKS};
 ghost use Rattle.volume_table.specs.ListChanges.{ChangesList, IsSameOr};
@@ -24,6 +25,7 @@ pub fn write_blocks<B: Bank>(
     at: u32,
     blocks: &[Sector],
 ) -> Result<(), Refusal>
+    requires of_format_one { array.old.table.geometry.format ≡ One }
     requires sized { length map.now ≤ extents_in array.old.table.geometry }
     requires least { 1 ≤ length blocks.now }
     requires most { length blocks.now ≤ MOST_BLOCKS_AT_ONCE }
@@ -67,6 +69,7 @@ pub fn zero_blocks<B: Bank>(
     first: u32,
     last: u32,
 ) -> Result<(), Refusal>
+    requires of_format_one { array.old.table.geometry.format ≡ One }
     requires sized { length map.now ≤ extents_in array.old.table.geometry }
     requires order { first ≤ last }
     requires within { last ≤ MOST_BLOCKS }

@@ -1,5 +1,6 @@
 //! Blocks of a volume are read.
 ghost use Rattle.std.specs.Prelude.{◌≡◌, ◌≤◌, ◌+◌, ◌↔◌, List, Option, OnOk, length};
+ghost use Rattle.layout_map.specs.declared.format.Format.TheVariants.{One};
 ghost use Rattle.sector_model.specs.History.{Bytes};
 ghost use Rattle.superblock.specs.Cases.{Lost};
 ghost use Rattle.extents.specs.declared.record.TheConstants.{MOST_BLOCKS};
@@ -50,6 +51,7 @@ fn read_blocks<B: Bank>(
     at: u32,
     to: &mut [Sector],
 ) -> Result<(), Refusal>
+    requires of_format_one { array.old.table.geometry.format ≡ One }
     requires sized { length map.now ≤ extents_in array.old.table.geometry }
     requires within { at + length to.old ≤ MOST_BLOCKS }
     requires placed { AllPlaced EXTENT_SECTORS map.now volume at (at + length to.old) }

@@ -220,7 +220,6 @@ mark_slot-requires-clause-others g c =
     but_one c.in-Err-Down.slot c.in-Some.survey.table (g.B.Bank.panel c.bring_up.new.bank)
     (its_slots_later c.in-Some.survey.table (g.B.Bank.panel c.survey_bank.new.bank) (g.B.Bank.panel c.bring_up.new.bank) c.bring_up.ensures.brings.brings.later
     record {
-      of_format_one = c.in_ok-survey.ensures.surveyed.of_format_one c.in-Some.survey (ap Ok c.in-Some.is);
       of_bank = c.in_ok-survey.ensures.surveyed.has_slots c.in-Some.survey (ap Ok c.in-Some.is);
       fit = λ slot of_set there _. (c.in-Nobody.ensures slot of_set there).long_enough;
     })

@@ -11,10 +11,12 @@ returns-in-Ok-clause-made g c =
     (is_format_one c.args.geometry.format (sym c.ne.ensures ∙ c.if-ne.false))
     c.in-Ok.ensures.panel c.in-Ok.ensures.its_slots c.in-Ok.ensures.rests
 
-pub put_set-requires-clause-first : goal.put_set-requires-clause-first
-put_set-requires-clause-first g c =
+pub put_set-requires : goal.put_set-requires
+put_set-requires g c =
     let first = c.first_table-table.ensures in
-    record { of_id = refl; of_geometry = refl; generation = first.generation; in_sync = first.in_sync; incarnations = first.incarnations }
+    record {
+      first = record { of_id = refl; of_geometry = refl; generation = first.generation; in_sync = first.in_sync; incarnations = first.incarnations };
+    }
 
 pub invariant_of-result : goal.invariant_of-result
 invariant_of-result g c = record { its_slots = c.in-Ok.ensures.its_slots }

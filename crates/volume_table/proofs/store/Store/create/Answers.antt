@@ -80,4 +80,4 @@ pub grow-answer-requires-clause-may : goal.grow-answer-requires-clause-may
 grow-answer-requires-clause-may g c = c.in_ok-growth.ensures.may
 
 pub invariant_of-self : goal.invariant_of-self
-invariant_of-self g c = record { kept = c.args.self.now.kept }
+invariant_of-self g c = record { kept = c.args.self.now.kept; of_format_one = c.args.self.now.of_format_one }

@@ -1,3 +1,4 @@
+use Rattle.layout_map.specs.declared.geometry.Geometry.{Geometry}
 use Rattle.std.proofs.Common.{◌≡◌, ◌≤◌, take, ap, refl, sym, ◌∙◌, subst, arith}
 use Rattle.std.proofs.lemmas.Option.{none-some}
 use Rattle.array_io.specs.Believed.Views.{ArrayView}
@@ -58,6 +59,7 @@ invariant_of-result g c = record {
     same = c.new-map.ensures ∙ ap (λ n. take n c.in-Some.table.extents) c.extents-extents.ensures;
     free_beyond = subst (AreFreeFrom c.in-Some.table.extents) c.extents-extents.ensures c.in-Some.ensures.within;
   };
+  of_format_one = ap (λ (g : Geometry). g.format) c.in_default.ensures.changes.goes_on.not_older.same_geometry ∙ c.requires;
 }
 
 pub returns-clause-honest_store : goal.returns-clause-honest_store

@@ -1,5 +1,5 @@
 -- A read is refused as its admission says, or reads its blocks one after another.
-use Rattle.std.proofs.Common.{length, ◌∙◌, sym, subst}
+use Rattle.std.proofs.Common.{length, ◌∙◌, sym, subst, ap}
 use Rattle.std.proofs.lemmas.Result.{err_from_is_err_and}
 use Rattle.volume_table.specs.Stands.{extents_in, store_of}
 use Rattle.volume_table.proofs.KeptMaps.{within_fits, within_is_placed, kept_sized}
@@ -74,6 +74,7 @@ pub invariant_of-self : goal.invariant_of-self
 invariant_of-self g c = record {
   kept = subst (λ (s : Geometry). AreKept (extents_in s) c.args.self.now.table c.args.self.now.map)
       (sym c.read_blocks-answer.ensures.changes.goes_on.not_older.same_geometry) c.args.self.now.kept;
+  of_format_one = ap (λ (g : Geometry). g.format) c.read_blocks-answer.ensures.changes.goes_on.not_older.same_geometry ∙ c.args.self.now.of_format_one;
 }
 
 pub returns-clause-honest : goal.returns-clause-honest

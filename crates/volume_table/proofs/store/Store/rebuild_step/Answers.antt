@@ -1,5 +1,5 @@
 -- A step of a rebuild is the array's, whose refusal ends the store where it is 15 or 16.
-use Rattle.std.proofs.Common.{sym, subst}
+use Rattle.std.proofs.Common.{sym, subst, ◌∙◌, ap}
 use Rattle.layout_map.specs.declared.geometry.Geometry.{Geometry}
 use Rattle.rebuild.specs.Stepping.{answer_by}
 use Rattle.volume_table.specs.Admission.{AreKept}
@@ -24,6 +24,7 @@ pub invariant_of-self : goal.invariant_of-self
 invariant_of-self g c = record {
   kept = subst (λ (s : Geometry). AreKept (extents_in s) c.args.self.now.table c.args.self.now.map)
       (sym c.rebuild_step-answer.ensures.steps.goes_on.not_older.same_geometry) c.args.self.now.kept;
+  of_format_one = ap (λ (g : Geometry). g.format) c.rebuild_step-answer.ensures.steps.goes_on.not_older.same_geometry ∙ c.args.self.now.of_format_one;
 }
 
 pub returns-clause-honest : goal.returns-clause-honest
@@ -40,5 +41,5 @@ returns-clause-rebuilds g c =
       kept = kept_by_code old new c.rebuild_step-answer.result
           record { going = c.in_default.is; same = c.end_by.ensures.table; going_on = c.end_by.ensures.going_on; ended = c.end_by.ensures.ended };
       steps = c.rebuild_step-answer.ensures.steps;
-      of_format_one = its.array.its_slots.of_format_one;
+      of_format_one = its.of_format_one;
     })

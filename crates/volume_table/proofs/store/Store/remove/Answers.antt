@@ -1,5 +1,6 @@
 -- A removal is refused as its admission says, or puts the table without the record by one call.
-use Rattle.std.proofs.Common.{◌∙◌}
+use Rattle.layout_map.specs.declared.geometry.Geometry.{Geometry}
+use Rattle.std.proofs.Common.{◌∙◌, ap}
 use Rattle.std.proofs.Props.{props}
 use Rattle.std.proofs.Math.Logic.{∥∥₁_elim}
 use Rattle.std.proofs.lemmas.Result.{err_from_is_err_and}
@@ -54,4 +55,7 @@ pub shrink-answer-requires-clause-kept : goal.shrink-answer-requires-clause-kept
 shrink-answer-requires-clause-kept g c = c.args.self.now.kept
 
 pub invariant_of-self : goal.invariant_of-self
-invariant_of-self g c = record { kept = c.shrink-answer.ensures.kept }
+invariant_of-self g c = record {
+  kept = c.shrink-answer.ensures.kept;
+  of_format_one = ap (λ (g : Geometry). g.format) c.shrink-answer.ensures.changes.goes_on.not_older.same_geometry ∙ c.args.self.now.of_format_one;
+}

@@ -1,5 +1,6 @@
 -- A rename is refused as its admission says, or puts the table with the new name by one call.
-use Rattle.std.proofs.Common.{◌∙◌}
+use Rattle.layout_map.specs.declared.geometry.Geometry.{Geometry}
+use Rattle.std.proofs.Common.{◌∙◌, ap}
 use Rattle.std.proofs.lemmas.Result.{err_from_is_err_and}
 use Rattle.volume_table.specs.Stands.{store_of}
 use Rattle.volume_table.proofs.RenamedVolumes.{rename_applies, rename_is_refused, rename_kept}
@@ -53,7 +54,10 @@ pub put_name-answer-requires-clause-may : goal.put_name-answer-requires-clause-m
 put_name-answer-requires-clause-may g c = c.in_ok-renaming.ensures.may
 
 pub invariant_of-self : goal.invariant_of-self
-invariant_of-self g c = record { kept = c.put_name-answer.ensures.kept }
+invariant_of-self g c = record {
+  kept = c.put_name-answer.ensures.kept;
+  of_format_one = ap (λ (g : Geometry). g.format) c.put_name-answer.ensures.changes.goes_on.not_older.same_geometry ∙ c.args.self.now.of_format_one;
+}
 
 pub returns-clause-kept : goal.returns-clause-kept
 returns-clause-kept g c =

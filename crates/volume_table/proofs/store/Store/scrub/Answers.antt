@@ -1,5 +1,5 @@
 -- A scrub is the array's, whose refusal ends the store where it is 15 or 16.
-use Rattle.std.proofs.Common.{sym, subst}
+use Rattle.std.proofs.Common.{sym, subst, ◌∙◌, ap}
 use Rattle.layout_map.specs.declared.geometry.Geometry.{Geometry}
 use Rattle.scrub.specs.Reports.{told_by}
 use Rattle.volume_table.specs.Admission.{AreKept}
@@ -24,6 +24,7 @@ pub invariant_of-self : goal.invariant_of-self
 invariant_of-self g c = record {
   kept = subst (λ (s : Geometry). AreKept (extents_in s) c.args.self.now.table c.args.self.now.map)
       (sym c.scrub-answer.ensures.scrubs.goes_on.not_older.same_geometry) c.args.self.now.kept;
+  of_format_one = ap (λ (g : Geometry). g.format) c.scrub-answer.ensures.scrubs.goes_on.not_older.same_geometry ∙ c.args.self.now.of_format_one;
 }
 
 pub returns-clause-honest : goal.returns-clause-honest

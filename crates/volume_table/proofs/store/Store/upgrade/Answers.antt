@@ -1,5 +1,6 @@
 -- An upgrade puts the whole table by one call, or has nothing to do.
-use Rattle.std.proofs.Common.{◌∙◌, refl}
+use Rattle.layout_map.specs.declared.geometry.Geometry.{Geometry}
+use Rattle.std.proofs.Common.{◌∙◌, refl, ap}
 use Rattle.volume_table.specs.Stands.{store_of}
 use Rattle.volume_table.specs.VolumeStep.{OnVolumes, Upgrade}
 use Rattle.volume_table.proofs.UpgradedVolumes.{kept_upgraded, upgrade_applies, upgrade_kept, upgraded_already}
@@ -44,6 +45,8 @@ invariant_of-self g c =
       kept = kept_upgraded its.array.table.geometry c.put_whole_table-answer.new.array.table.geometry its.table c.upgrade.new.self its.map
           (c.put_whole_table-answer.ensures.changes its.table).goes_on.not_older.same_geometry
           record { version = c.upgrade.ensures.version; records = c.upgrade.ensures.records; extents = c.upgrade.ensures.extents } its.kept;
+      of_format_one = ap (λ (g : Geometry). g.format) (c.put_whole_table-answer.ensures.changes its.table).goes_on.not_older.same_geometry
+          ∙ its.of_format_one;
     }
 
 pub returns-then-self-eq-LAST_VERSION-clause-kept : goal.returns-then-self-eq-LAST_VERSION-clause-kept

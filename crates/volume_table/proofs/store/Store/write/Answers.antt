@@ -1,5 +1,5 @@
 -- A write is refused as its admission says, or writes its blocks by one call.
-use Rattle.std.proofs.Common.{◌∙◌, [], length, refl, sym, subst}
+use Rattle.std.proofs.Common.{◌∙◌, [], length, refl, sym, subst, ap}
 use Rattle.std.proofs.lemmas.List.Elements.{All-from_get_or}
 use Rattle.std.proofs.lemmas.Result.{err_from_is_err_and}
 use Rattle.volume_table.specs.Stands.{extents_in, store_of}
@@ -83,6 +83,7 @@ pub invariant_of-self : goal.invariant_of-self
 invariant_of-self g c = record {
   kept = subst (λ (s : Geometry). AreKept (extents_in s) c.args.self.now.table c.args.self.now.map)
       (sym c.write_blocks-answer.ensures.changes.goes_on.not_older.same_geometry) c.args.self.now.kept;
+  of_format_one = ap (λ (g : Geometry). g.format) c.write_blocks-answer.ensures.changes.goes_on.not_older.same_geometry ∙ c.args.self.now.of_format_one;
 }
 
 pub returns-clause-honest : goal.returns-clause-honest

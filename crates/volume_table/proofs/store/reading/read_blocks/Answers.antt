@@ -1,4 +1,5 @@
-use Rattle.std.proofs.Common.{◌<◌, ◌+◌, length, Ok, Err, refl, arith, ◌∙◌}
+use Rattle.std.proofs.Common.{◌<◌, ◌+◌, length, Ok, Err, refl, ap, arith, ◌∙◌}
+use Rattle.layout_map.specs.declared.geometry.Geometry.{Geometry}
 use Rattle.std.proofs.lemmas.Result.{err_from_is_err_and}
 use Rattle.volume_table.specs.ListChanges.{IsSame}
 use Rattle.volume_table.proofs.ListChanges.{changes_none}
@@ -23,7 +24,7 @@ pub read-requires : goal.read-requires
 read-requires g c =
     let block = c.args.at + c.loop-i.i in
     block_of_set c.args.array.now.table c.loop-i.array.table c.args.map.now c.args.volume block c.where_is.result
-    c.loop-i.array.its_slots.of_format_one c.requires.sized
+    (ap (λ (g : Geometry). g.format) c.loop-i.invariant.changes.goes_on.not_older.same_geometry ∙ c.requires.of_format_one) c.requires.sized
     c.loop-i.invariant.changes.goes_on.not_older.same_geometry (c.requires.placed block (omega arith) (omega arith)) c.where_is.ensures
 
 pub returns-in_err-read-clause-changes : goal.returns-in_err-read-clause-changes

@@ -1,4 +1,4 @@
-use Rattle.std.proofs.Common.{rules, ◌∙◌, ◌+◌, ◌<◌, false, ap, refl, sym, subst}
+use Rattle.std.proofs.Common.{◌≡◌, ℕ, ◌∙◌, ◌+◌, ◌<◌, false, ap, refl, sym, subst, arith}
 use Rattle.std.specs.Prelude.{Ok, Err}
 use Rattle.std.proofs.lemmas.Result.{err_from_is_err_and}
 use Rattle.sector_model.specs.History.{Slots, disk_of, sector_of}
@@ -10,6 +10,8 @@ use Rattle.superblock.specs.NextTables.{IsComplete}
 use Rattle.array_io.specs.Steps.Scanning.{ScansOrFailsSlot}
 use Rattle.array_io.proofs.Reading.Scanning.{all_scanned, own_read, scanned_both, scanned_none, scanned_then, value_scans}
 use Rattle.array_io.proofs.Writes.Writable.{same_readable}
+use Rattle.parity.specs.Xor.{xor_of_all}
+use Rattle.scrub.specs.Reports.{first_in_row}
 use Rattle.scrub.proofs.Telling.{sum_next}
 use Rattle.scrub.proofs.rows.sum_row.Goals as goal
 
@@ -82,4 +84,7 @@ loop-member-preserved g c =
     }
 
 pub returns-clause-sum : goal.returns-clause-sum
-returns-clause-sum g c = search rules
+returns-clause-sum g c = λ read fair.
+    let end : c.loop-member.member ≡ c.args.table.now.geometry.members = omega (arith, c.loop-member-test.false, c.loop-member.auto.member-end) in
+    c.loop-member.invariant.sum fair
+    ∙ ap (λ (n : ℕ). xor_of_all (first_in_row (readable (g.B.Bank.history c.args.bank.now)) c.args.row n)) end

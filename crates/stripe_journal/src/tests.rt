@@ -7,6 +7,7 @@ use layout_map::Geometry;
 use sector_model::Sector;
 use std::process::Abort;
 
+mod following;
 pub(crate) mod runs;
 
 // The sector of entry 1 with row 32 alone.

@@ -23,6 +23,10 @@ use Rattle.set_commands.specs.Invocations.{events_in, none_asked, then_answered,
 use Rattle.set_commands.specs.Invocations.{then_no_event}
 use Rattle.set_commands.specs.ScriptLaw.{AreCommandsOf}
 use Rattle.set_commands.specs.Steps.{Rebuilds, Steps, none_made, then_made}
+use Rattle.set_commands.proofs.MadeSteps.{one_on}
+use Rattle.layout_map.specs.Formats.{rebuild_rows}
+use Rattle.layout_map.specs.declared.geometry.Geometry.{Geometry}
+use Rattle.volume_table.specs.RebuildLaw.{step_rows}
 use Rattle.set_commands.proofs.Served.{answers_for, opens_for, serves_for}
 
 -- ---- a bank that is honest
@@ -99,8 +103,11 @@ lines_asked lines replies old new serves =
 
 -- ---- steps of a rebuild
 
-abbrev step : Event
-step = OnSet (RebuildStep 64)
+abbrev step : StoreView → Event
+step store = OnSet (RebuildStep (step_rows store.array.table))
+
+same_step : (old new : StoreView) → new.array.table.geometry ≡ old.array.table.geometry → step new ≡ step old
+same_step old new same = ap (λ (g : Geometry). OnSet (RebuildStep (rebuild_rows g.format))) same
 
 -- so many steps before others
 steps_then : (honest : Type 0) → honest → (made more : ℕ) (old mid new : StoreView) → Steps honest made old mid → StepsAsked more mid new
@@ -113,15 +120,16 @@ steps_then honest fair made more old mid new (then_made before position first is
     subst (λ (count : ℕ). StepsAsked count old new) count_is
     (steps_then honest fair before (suc more) old first new steps (record {
       replies = Progressed (Position position) ∷ rest.replies;
-      does = then_answered mid step (Progressed (Position position)) (applies_for honest (Unit {0}) step first mid _ (λ _. fair) rebuilds) (λ ends. ends)
-          rest.does;
-      asked = ap (λ (events : List Event). step ∷ events) rest.asked;
+      does = then_answered mid (step first) (Progressed (Position position)) (applies_for honest (Unit {0}) (step first) first mid _ (λ _. fair) rebuilds)
+          (λ ends. ends) rest.does;
+      asked = ap (λ (events : List Event). step first ∷ events)
+          (rest.asked ∙ ap (replicate more) (same_step first mid (one_on honest position first mid rebuilds).geometry));
     }))
 
 rebuild_asked : (honest : Type 0) → honest → (steps : Option ℕ) (old new : StoreView) (answer : Result Progress Refusal)
     (rebuilds : Rebuilds honest steps old new answer) → StepsAsked (rebuilds.before + 1) old new
 rebuild_asked honest fair steps old new answer rebuilds =
-    let last = one step rebuilds.mid new (progress_reply answer) (applies_for honest (Unit {0}) step rebuilds.mid new _ (λ _. fair) rebuilds.last) in
+    let last = one (step rebuilds.mid) rebuilds.mid new (progress_reply answer) (applies_for honest (Unit {0}) (step rebuilds.mid) rebuilds.mid new _ (λ _. fair) rebuilds.last) in
     steps_then honest fair rebuilds.before 1 old rebuilds.mid new rebuilds.steps_before
     (record { replies = progress_reply answer ∷ []; does = last.does; asked = last.asked })
 

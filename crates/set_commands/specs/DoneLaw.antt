@@ -9,6 +9,7 @@ use Rattle.recovery.specs.Making.{BankView, FindsTable}
 use Rattle.recovery.specs.Assembling.{Assembles}
 use Rattle.rebuild.specs.Rebuilding.{Progress}
 use Rattle.volume_table.specs.VolumeStep.{Event, OnSet, RebuildStep, Refused, Reply}
+use Rattle.volume_table.specs.RebuildLaw.{step_rows}
 use Rattle.volume_table.specs.Stands.{StoreView}
 use Rattle.volume_table.specs.StoreCalls.{Applies}
 use Rattle.volume_table.specs.Opening.{Opened, Opens, Returned}
@@ -29,11 +30,11 @@ pub record EventAsked (event : Event) (reply : Reply) (first last : StoreView) :
   pub does : Served (reply ∷ []) first last
   pub asked : events_in does ≡ event ∷ []
 
--- it was asked so many steps of a rebuild
+-- it was asked so many steps of a rebuild, each of as many rows as the set's format allows
 pub record StepsAsked (count : ℕ) (first last : StoreView) : Type 0 where
   pub replies : List Reply
   pub does : Served replies first last
-  pub asked : events_in does ≡ replicate count (OnSet (RebuildStep 64))
+  pub asked : events_in does ≡ replicate count (OnSet (RebuildStep (step_rows first.array.table)))
 
 -- What the contracts say on a bank that is honest: how a set was assembled and its volumes opened there, or why not; what the store was asked then, by each
 -- command and each of its ends; and that the others only read. Of such is a `DoneOn` made.

@@ -42,6 +42,7 @@ pub mod SetLemmas
 pub mod ShowsLemmas
 pub mod StatusTold
 pub mod StepLemmas
+pub mod StepRows
 pub mod StoreSteps
 pub mod TableLemmas
 pub mod TableSizes

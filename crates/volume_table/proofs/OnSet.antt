@@ -102,6 +102,7 @@ abbrev pub devices_with : ArrayView → ArrayView → List ℕ → Devices
 devices_with old new unsound = record {
   faults = (devices_in old new).faults;
   unusable = (devices_in old new).unusable;
+  format = (devices_in old new).format;
   rows = (devices_in old new).rows;
   unsound = unsound;
 }
@@ -115,6 +116,7 @@ are_devices_with honest old new unsound are failure = record {
   failed = λ fair slot of_set failed. is_fault new slot (failure fair slot of_set failed) failed.is_down;
   is_down = λ slot of_set fault. fault_is_down new slot fault;
   unusable = λ slot of_set. refl;
+  format = refl;
   rows = refl;
   unsound = are;
 }
@@ -130,14 +132,14 @@ pub set_left_by : (honest : Type 0) (command : SetCommand) (old new : StoreView)
     → AreDevicesOf honest old.array.table old.array.panel new.array.panel new.array.history devices
     → set_refusal devices command (set_of old.array.table) ≡ refusal
     → reply ≡ or_refused refusal (set_answer devices command (set_of old.array.table))
-    → settled devices (set_or_same refusal (changed_set devices.rows command (set_of old.array.table)) (set_of old.array.table)) ≡ set_of new.array.table
+    → settled devices (set_or_same refusal (changed_set devices command (set_of old.array.table)) (set_of old.array.table)) ≡ set_of new.array.table
     → SetIsLeft honest (OnSet command) old new reply
 set_left_by honest command old new reply devices refusal are refuses replied leaves = record {
   devices = devices;
   are = are;
   left = record {
     replied = replied ∙ sym (ap (λ o. or_refused o (set_answer devices command (set_of old.array.table))) refuses);
-    leaves = sym (ap (λ o. settled devices (set_or_same o (changed_set devices.rows command (set_of old.array.table)) (set_of old.array.table))) refuses
+    leaves = sym (ap (λ o. settled devices (set_or_same o (changed_set devices command (set_of old.array.table)) (set_of old.array.table))) refuses
         ∙ leaves);
   };
 }

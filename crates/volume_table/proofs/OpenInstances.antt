@@ -187,6 +187,7 @@ abbrev idle_devices : StoreView → List ℕ → Devices
 idle_devices store unsound = record {
   faults = λ slot. false;
   unusable = λ slot. store.array.panel.down slot || nat_lt (store.array.panel.sectors slot) (least_sectors store.array.table.geometry slot);
+  format = store.array.table.geometry.format;
   rows = row_count store.array.table;
   unsound = unsound;
 }
@@ -213,6 +214,7 @@ set_is_left honest store command reply unsound are = record {
     failed = λ is_honest slot of_set failed. absurd (none_failed store.array slot failed);
     is_down = λ slot of_set fault. absurd (differ fault);
     unusable = λ slot of_set. refl;
+    format = refl;
     rows = refl;
     unsound = λ fair. are;
   };

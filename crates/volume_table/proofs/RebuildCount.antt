@@ -16,18 +16,21 @@ use Rattle.superblock.specs.States.{has_rebuilding, is_missing, is_rebuilding}
 use Rattle.superblock.specs.NextTables.{IsComplete, IsOut, slots_of}
 use Rattle.array_io.specs.Believed.Holds.{row_count}
 use Rattle.array_io.specs.Believed.Views.{EndsIt, IsSlotOut, IsTwoLost}
-use Rattle.rebuild.specs.Rebuilding.{Complete, IsRebuilding, Position, stepped, steps_left}
+use Rattle.layout_map.specs.declared.format.Format.{Format}
+use Rattle.layout_map.specs.Formats.{rebuild_rows}
+use Rattle.rebuild.specs.Rebuilding.{Complete, IsRebuilding, Position, stepped, steps_left_of}
 use Rattle.volume_table.specs.VolumeStep.{Done, Event, Fail, OnSet, OnVolumes, Progressed, RebuildStep, Refused, Reply, first_refusal, or_refused}
 use Rattle.volume_table.specs.SetReplies.{Devices, SetState, rebuilt, set_after, set_refusal, set_reply, with_faults}
 use Rattle.volume_table.specs.SetLaw.{LetsRebuildGoOn, NoFaults, steps_of}
 use Rattle.volume_table.specs.Stands.{StoreView}
 use Rattle.volume_table.specs.StoreCalls.{Applies, AreDevicesOf, EndsStore, GoesThrough, LeavesSet, SetIsLeft, no_devices, set_of}
 use Rattle.volume_table.specs.StoreFunctions.{Chain, none_done, then_done}
-use Rattle.volume_table.specs.RebuildLaw.{AllLeaveRebuilding, AllUp, IsRebuildingOn, LeavesRebuilding, RebuildsBy, steps_in, steps_to_do}
+use Rattle.volume_table.specs.RebuildLaw.{AllLeaveRebuilding, AllUp, IsRebuildingOn, LeavesRebuilding, RebuildsBy, step_rows, steps_from, steps_in}
+use Rattle.volume_table.specs.RebuildLaw.{steps_to_do}
 use Rattle.volume_table.proofs.SingleFailure.{refused_beside}
 use Rattle.volume_table.proofs.SetLemmas.{call_leaves, made, none_missing, step_is_last, tables_have_one_out}
 use Rattle.volume_table.proofs.StoreSteps.{length-set_of}
-use Rattle.layout_map.specs.declared.sizes.TheConstants.{REBUILD_ROWS}
+use Rattle.volume_table.proofs.StepRows.{fewer_below, last_left, none_stepped, one_fewer, some_left, stepped_both, stepped_last, stepped_on}
 
 rebuilding_not_in_sync : (state : State) → state ≡ Rebuilding → state ≢ InSync
 rebuilding_not_in_sync state is in_sync = let never : Rebuilding ≡ InSync = sym is ∙ in_sync in cc
@@ -84,15 +87,15 @@ fail_not_done devices table member slot is apart = by_refusal (set_refusal no_de
 
 -- how far a rebuild is after some events of a store, none of which ended it
 record IsAhead (member steps : ℕ) (old new : StoreView) : Type 0 where
-  on : IsRebuildingOn member (REBUILD_ROWS * steps) old.array.table new.array.table
-  rows : row_count new.array.table ≡ row_count old.array.table
+  on : IsRebuildingOn member (step_rows old.array.table * steps) old.array.table new.array.table
+  geometry : new.array.table.geometry ≡ old.array.table.geometry
   going : new.ended ≡ None
 
 -- one event that leaves a row to be done
 one_ahead : (honest : Type 0) (member : ℕ) (event : Event) (old new : StoreView) (reply : Reply)
     → GoesThrough honest event old new reply → ¬ EndsStore reply
     → IsRebuilding old.array.table member → LeavesRebuilding member event new
-    → old.array.table.position + REBUILD_ROWS * steps_of event < row_count old.array.table
+    → old.array.table.position + step_rows old.array.table * steps_of event < row_count old.array.table
     → IsAhead member (steps_of event) old new
 one_ahead honest member event old new reply through goes is leaves more = record {
   on = record {
@@ -104,7 +107,7 @@ one_ahead honest member event old new reply through goes is leaves more = record
     };
     position = ap (λ (s : SetState). s.position) after;
   };
-  rows = ap (λ (g : Geometry). rows_of g.chunk g.stripes) geometry;
+  geometry = geometry;
   going = through.goes goes;
 }
   where
@@ -117,52 +120,72 @@ one_ahead honest member event old new reply through goes is leaves more = record
     same : slots_of new.array.table ≡ slots_of old.array.table
     same = ap (λ (g : Geometry). g.members + 2) geometry
 
-    lets : LetsRebuildGoOn left.devices.rows (set_of old.array.table) (record { devices = left.devices; event = event })
+    -- the rows of a step are those of the set before and after it
+    rows_now : step_rows new.array.table ≡ rebuild_rows left.devices.format
+    rows_now = ap (λ (g : Geometry). rebuild_rows g.format) geometry ∙ ap rebuild_rows (sym left.are.format)
+
+    lets : LetsRebuildGoOn left.devices (set_of old.array.table) (record { devices = left.devices; event = event })
     lets = record {
       of_rows = refl;
+      of_format = refl;
       no_faults = none_faults honest old new left.devices left.are same leaves.all_up;
       none_given_up = λ slot is_fail. fail_not_done left.devices old.array.table member slot is
           (λ one. leaves.not_given_up (is_fail ∙ ap (λ (n : ℕ). OnSet (Fail n)) (sym one)));
-      whole = leaves.whole;
+      whole = λ rows is_step. leaves.whole rows is_step ∙ rows_now;
     }
 
-    more_rows : old.array.table.position + REBUILD_ROWS * steps_of event < left.devices.rows
-    more_rows = omega (arith, more, left.are.rows)
+    there : Format → ℕ
+    there format = old.array.table.position + rebuild_rows format * steps_of event
 
-    after : set_of new.array.table
-        ≡ made (set_of old.array.table).states (old.array.table.position + REBUILD_ROWS * steps_of event)
+    more_rows : there left.devices.format < left.devices.rows
+    more_rows = omega (arith, more, ap there left.are.format, left.are.rows)
+
+    after : set_of new.array.table ≡ made (set_of old.array.table).states (there old.array.table.geometry.format)
     after = left_is event left.devices (set_of old.array.table) (set_of new.array.table) reply left.left
         ∙ call_leaves left.devices event (set_of old.array.table) (tables_have_one_out old.array.table)
         (set_rebuilds old.array.table member is) lets more_rows
+        ∙ ap (λ (format : Format). made (set_of old.array.table).states (there format)) left.are.format
+
+rows_are : (old new : Geometry) → new ≡ old → rows_of new.chunk new.stripes ≡ rows_of old.chunk old.stripes
+rows_are old new same = ap (λ (g : Geometry). rows_of g.chunk g.stripes) same
 
 -- and some, one after another
 ahead : (member : ℕ) (events : List Event) (acks : List ℕ) (old new : StoreView) → old.ended ≡ None
     → IsRebuilding old.array.table member
     → (chain : Chain (Unit {0}) events acks old new) → AllLeaveRebuilding member chain
-    → old.array.table.position + REBUILD_ROWS * steps_in events < row_count old.array.table
+    → old.array.table.position + step_rows old.array.table * steps_in events < row_count old.array.table
     → IsAhead member (steps_in events) old new
-ahead member [] [] old new goes is none_done leave more =
-    record { on = record { still = is; position = omega arith }; rows = refl; going = goes }
+ahead member [] [] old new goes is none_done leave more = record {
+  on = record { still = is; position = none_stepped old.array.table.geometry.format old.array.table.position };
+  geometry = refl;
+  going = goes;
+}
 ahead member [] (_ ∷ acks) old new goes is chain leave more = elim chain [ ]
 ahead member (_ ∷ events) [] old new goes is chain leave more = elim chain [ ]
 ahead member (_ ∷ events) (_ ∷ acks) old new goes is (then_done mid event reply ack applies on same chain) leave more =
-    let less : old.array.table.position + REBUILD_ROWS * steps_of event < row_count old.array.table = omega (arith, more) in
+    let format = old.array.table.geometry.format in
+    let position = old.array.table.position in
+    let less = fewer_below format (row_count old.array.table) position (steps_of event) (steps_in events) more in
     let first = one_ahead (Unit {0}) member event old mid reply (applies.going goes) on is leave.0 less in
-    let beyond : mid.array.table.position + REBUILD_ROWS * steps_in events < row_count mid.array.table =
-    omega (arith, more, first.rows, first.on.position) in
+    let both = stepped_both format position (steps_of event) (steps_in events) in
+    let step : step_rows mid.array.table * steps_in events ≡ step_rows old.array.table * steps_in events =
+    ap (λ (g : Geometry). rebuild_rows g.format * steps_in events) first.geometry in
+    let beyond : mid.array.table.position + step_rows mid.array.table * steps_in events < row_count mid.array.table =
+    omega (arith, more, both, step, rows_are old.array.table.geometry mid.array.table.geometry first.geometry, first.on.position) in
     let rest = ahead member events acks mid new first.going first.on.still chain leave.1 beyond in
     record {
-      on = record { still = rest.on.still; position = omega (arith, rest.on.position, first.on.position) };
-      rows = rest.rows ∙ first.rows;
+      on = record { still = rest.on.still; position = omega (arith, rest.on.position, first.on.position, both, step) };
+      geometry = rest.geometry ∙ first.geometry;
       going = rest.going;
     }
 
 pub rebuild_advances : (member : ℕ) (events : List Event) (acks : List ℕ) (old new : StoreView)
     → RebuildsBy member events acks old new
     → steps_in events < steps_to_do old.array.table
-    → IsRebuildingOn member (REBUILD_ROWS * steps_in events) old.array.table new.array.table
+    → IsRebuildingOn member (step_rows old.array.table * steps_in events) old.array.table new.array.table
 rebuild_advances member events acks old new by more =
-    (ahead member events acks old new by.going by.rebuilding by.chain by.all_leave (omega (arith, more))).on
+    (ahead member events acks old new by.going by.rebuilding by.chain by.all_leave
+    (some_left old.array.table.geometry.format (row_count old.array.table) old.array.table.position (steps_in events) more)).on
 
 -- no two devices are out where each is up
 not_two_out : (store : StoreView) → AllUp store → IsTwoLost store.array → ⊥
@@ -197,25 +220,28 @@ rebuilt_in_sync (state ∷ states) (suc slot) below there = rebuilt_in_sync stat
 
 -- the last step
 last_ends : (honest : Type 0) (member : ℕ) (old new : StoreView) (reply : Reply)
-    → GoesThrough honest (OnSet (RebuildStep REBUILD_ROWS)) old new reply → ¬ EndsStore reply
+    → GoesThrough honest (OnSet (RebuildStep (step_rows old.array.table))) old new reply → ¬ EndsStore reply
     → IsRebuilding old.array.table member → AllUp new → old.array.table.position ≤ row_count old.array.table
-    → row_count old.array.table ≤ old.array.table.position + REBUILD_ROWS
+    → row_count old.array.table ≤ old.array.table.position + step_rows old.array.table
     → (reply ≡ Progressed Complete) × IsComplete new.array.table
 last_ends honest member old new reply through goes is up within near =
-    (left.left.replied ∙ done.1, record { in_sync = in_sync })
+    (left.left.replied ∙ ap (λ (rows : ℕ). set_reply left.devices (RebuildStep rows) (set_of old.array.table)) (sym step) ∙ done.1, record { in_sync = in_sync })
   where
-    left : SetIsLeft honest (OnSet (RebuildStep REBUILD_ROWS)) old new reply
+    left : SetIsLeft honest (OnSet (RebuildStep (step_rows old.array.table))) old new reply
     left = through.set_left goes
 
     same : slots_of new.array.table ≡ slots_of old.array.table
     same = ap (λ (g : Geometry). g.members + 2) through.goes_on.not_older.same_geometry
 
-    done : (set_after left.devices (OnSet (RebuildStep REBUILD_ROWS)) (set_of old.array.table)
+    step : rebuild_rows left.devices.format ≡ step_rows old.array.table
+    step = ap rebuild_rows left.are.format
+
+    done : (set_after left.devices (OnSet (RebuildStep (rebuild_rows left.devices.format))) (set_of old.array.table)
         ≡ made (rebuilt (set_of old.array.table).states) 0)
-        × (set_reply left.devices (RebuildStep REBUILD_ROWS) (set_of old.array.table) ≡ Progressed Complete)
+        × (set_reply left.devices (RebuildStep (rebuild_rows left.devices.format)) (set_of old.array.table) ≡ Progressed Complete)
     done = step_is_last left.devices (set_of old.array.table)
         (none_faults honest old new left.devices left.are same up) (set_rebuilds old.array.table member is)
-        (omega (arith, within, left.are.rows)) (omega (arith, near, left.are.rows))
+        (omega (arith, within, left.are.rows)) (omega (arith, near, step, left.are.rows))
 
     there : (slot : ℕ) → is_missing (get_or (set_of old.array.table).states slot InSync) ≡ false
     there slot = none_missing (set_of old.array.table).states slot (tables_have_one_out old.array.table)
@@ -223,21 +249,24 @@ last_ends honest member old new reply through goes is up within near =
 
     in_sync : (slot : ℕ) → slot < slots_of new.array.table → state_at new.array.table.states slot ≡ InSync
     in_sync slot of_set = sym (set_has new.array.table slot of_set)
-        ∙ ap (λ (s : SetState). get_or s.states slot Missing) (left.left.leaves ∙ done.0)
+        ∙ ap (λ (s : SetState). get_or s.states slot Missing) (left.left.leaves
+        ∙ ap (λ (rows : ℕ). set_after left.devices (OnSet (RebuildStep rows)) (set_of old.array.table)) (sym step) ∙ done.0)
         ∙ rebuilt_in_sync (set_of old.array.table).states slot
         (omega (arith, of_set, same, length-set_of old.array.table)) (there slot)
 
 pub rebuild_ends : (member : ℕ) (events : List Event) (acks : List ℕ) (old mid new : StoreView) (reply : Reply)
     → RebuildsBy member events acks old mid → steps_in events + 1 ≡ steps_to_do old.array.table
-    → Applies (Unit {0}) (OnSet (RebuildStep REBUILD_ROWS)) mid new reply → AllUp new → reply ≢ Refused Worn
+    → Applies (Unit {0}) (OnSet (RebuildStep (step_rows mid.array.table))) mid new reply → AllUp new → reply ≢ Refused Worn
     → (reply ≡ Progressed Complete) × IsComplete new.array.table
 rebuild_ends member events acks old mid new reply by last applies up not_worn =
-    let less : old.array.table.position + REBUILD_ROWS * steps_in events < row_count old.array.table = omega (arith, last) in
-    let there = ahead member events acks old mid by.going by.rebuilding by.chain by.all_leave less in
+    let rows = last_left old.array.table.geometry.format (row_count old.array.table) old.array.table.position (steps_in events) last in
+    let there = ahead member events acks old mid by.going by.rebuilding by.chain by.all_leave rows.0 in
+    let all = rows_are old.array.table.geometry mid.array.table.geometry there.geometry in
+    let step : step_rows mid.array.table ≡ step_rows old.array.table = ap (λ (g : Geometry). rebuild_rows g.format) there.geometry in
     let through = applies.going there.going in
-    let on = not_ended (Unit {0}) (OnSet (RebuildStep REBUILD_ROWS)) mid new reply through up not_worn in
+    let on = not_ended (Unit {0}) (OnSet (RebuildStep (step_rows mid.array.table))) mid new reply through up not_worn in
     last_ends (Unit {0}) member mid new reply through on there.on.still up
-    (omega (arith, last, there.on.position, there.rows)) (omega (arith, last, there.on.position, there.rows))
+    (omega (arith, rows.0, there.on.position, all)) (omega (arith, rows.1, there.on.position, all, step))
 
 -- the position is within the rows
 pub position_within : (table : Table) → table.position ≤ row_count table
@@ -259,35 +288,40 @@ answered_by_case true true position there is = absurd (cc)
 answered_by_case true false position there is = (refl, cc)
 
 -- a step that does not reach the last row leaves one step fewer
-one_step_fewer : (rows position was : ℕ) → was ≤ rows → position ≡ stepped REBUILD_ROWS rows REBUILD_ROWS was → position ≢ rows
-    → steps_left was rows ≡ steps_left position rows + 1
-one_step_fewer rows position was within is apart = by_order (cases_lt (was + REBUILD_ROWS) rows)
+one_step_fewer : (format : Format) (rows position was : ℕ) → was ≤ rows → position ≡ stepped (rebuild_rows format) rows (rebuild_rows format) was
+    → position ≢ rows
+    → steps_left_of (rebuild_rows format) was rows ≡ steps_left_of (rebuild_rows format) position rows + 1
+one_step_fewer format rows position was within is apart = by_order (cases_lt (was + rebuild_rows format) rows)
   where
-    by_order : (was + REBUILD_ROWS < rows) ⊎ (rows ≤ was + REBUILD_ROWS) → steps_left was rows ≡ steps_left position rows + 1
-    by_order (inl more) = let there : position ≡ was + REBUILD_ROWS = omega (arith, is, more) in omega (arith, there, more)
-    by_order (inr near) = absurd (apart (omega (arith, within, is, near)))
+    by_order : (was + rebuild_rows format < rows) ⊎ (rows ≤ was + rebuild_rows format)
+        → steps_left_of (rebuild_rows format) was rows ≡ steps_left_of (rebuild_rows format) position rows + 1
+    by_order (inl more) = one_fewer format rows was more
+        ∙ ap (λ (at : ℕ). steps_left_of (rebuild_rows format) at rows + 1) (sym (is ∙ stepped_on format rows was more))
+    by_order (inr near) = absurd (apart (is ∙ stepped_last format rows was within near))
 
 step_counts : (honest : Type 0) (position : ℕ) (old new : StoreView)
-    → GoesThrough honest (OnSet (RebuildStep REBUILD_ROWS)) old new (Progressed (Position position))
-    → steps_to_do old.array.table ≡ steps_left position (row_count old.array.table) + 1
+    → GoesThrough honest (OnSet (RebuildStep (step_rows old.array.table))) old new (Progressed (Position position))
+    → steps_to_do old.array.table ≡ steps_from old.array.table position + 1
 step_counts honest position old new through =
     let left = through.set_left (λ ends. ends) in
     let was = set_of old.array.table in
-    let there = stepped REBUILD_ROWS left.devices.rows REBUILD_ROWS was.position in
+    let there = stepped (rebuild_rows left.devices.format) left.devices.rows (step_rows old.array.table) was.position in
     let case = answered_by_case (has_rebuilding (with_faults left.devices.faults was.states)) (there == left.devices.rows) position there left.left.replied in
     let apart : there ≢ left.devices.rows = eqb-false there left.devices.rows case.0 in
-    let within : old.array.table.position ≤ left.devices.rows = omega (arith, position_within old.array.table, left.are.rows) in
-    subst (λ (rows : ℕ). steps_left old.array.table.position rows ≡ steps_left position rows + 1) left.are.rows
-    (one_step_fewer left.devices.rows position old.array.table.position within case.1 (λ same. apart (sym case.1 ∙ same)))
+    let is : there ≡ stepped (step_rows old.array.table) (row_count old.array.table) (step_rows old.array.table) was.position =
+    ap (λ (most : ℕ). stepped most left.devices.rows (step_rows old.array.table) was.position) (ap rebuild_rows left.are.format)
+    ∙ ap (λ (all : ℕ). stepped (step_rows old.array.table) all (step_rows old.array.table) was.position) left.are.rows in
+    one_step_fewer old.array.table.geometry.format (row_count old.array.table) position old.array.table.position (position_within old.array.table)
+    (case.1 ∙ is) (λ same. apart (sym case.1 ∙ same ∙ sym left.are.rows))
 
 -- a store that answered a step with a position was open
 pub rebuild_counts : (position : ℕ) (old new : StoreView)
-    → Applies (Unit {0}) (OnSet (RebuildStep REBUILD_ROWS)) old new (Progressed (Position position))
-    → steps_to_do old.array.table ≡ steps_left position (row_count old.array.table) + 1
+    → Applies (Unit {0}) (OnSet (RebuildStep (step_rows old.array.table))) old new (Progressed (Position position))
+    → steps_to_do old.array.table ≡ steps_from old.array.table position + 1
 rebuild_counts position old new applies = by_end old.ended refl
   where
     by_end : (ended : Option Refusal) → old.ended ≡ ended
-        → steps_to_do old.array.table ≡ steps_left position (row_count old.array.table) + 1
+        → steps_to_do old.array.table ≡ steps_from old.array.table position + 1
     by_end None going = step_counts (Unit {0}) position old new (applies.going going)
     by_end (Some refusal) ended = let never : Progressed (Position position) ≡ Refused refusal =
         (applies.ended refusal ended).refused refusal ended in absurd (cc)

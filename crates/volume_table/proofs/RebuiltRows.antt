@@ -9,9 +9,6 @@ use Rattle.sector_model.specs.declared.refusal.Refusal.{Refusal}
 use Rattle.sector_model.specs.declared.refusal.Refusal.TheVariants.{NothingToRebuild, TwoLost, Worn}
 use Rattle.superblock.specs.declared.state.State.{State}
 use Rattle.superblock.specs.declared.state.State.TheVariants.{InSync, Missing, Rebuilding}
-use Rattle.layout_map.specs.declared.format.Format.{Format}
-use Rattle.layout_map.specs.declared.format.Format.TheVariants.{One}
-use Rattle.layout_map.specs.declared.sizes.TheConstants.{REBUILD_ROWS}
 use Rattle.layout_map.specs.Formats.{rebuild_rows}
 use Rattle.superblock.specs.declared.table.Table.{Table}
 use Rattle.superblock.specs.NextTables.{IsNext, slots_of}
@@ -107,8 +104,8 @@ rebuilt_is (Missing ∷ states) (suc member) is one =
     ap (λ (ss : List State). Missing ∷ ss) (rebuilt_is states member is (λ k below rebuilding. omega (arith, one (suc k) (omega (arith, below)) rebuilding)))
 
 -- a step of no rows stays
-no_step : (all rows position : ℕ) → rows ≡ 0 → stepped REBUILD_ROWS all rows position ≡ position
-no_step all rows position none = omega (arith, none)
+no_step : (most all rows position : ℕ) → rows ≡ 0 → stepped most all rows position ≡ position
+no_step most all rows position none = omega (arith, none)
 
 -- ---- the table after a step
 
@@ -181,7 +178,6 @@ step_table old new member rows Complete is (all, is_rebuilt) = record {
 pub record TakesStep (honest : Type 0) (rows : ℕ) (old new : StoreView) (answer : Result Progress Refusal) : Type 0 where
   pub kept : KeepsRefusal Progress old new answer
   pub steps : StepsRebuild honest rows old.array new.array answer
-  pub of_format_one : old.array.table.geometry.format ≡ One
 
 -- an end of the array's call is one of the store's
 end_of : (old new : ArrayView) (rows : ℕ) (refusal : Refusal) → IsNoStep old new refusal → EndsIt refusal
@@ -195,13 +191,6 @@ step_is_no_scrub is = cc
 
 progressed_differs : (progress : Progress) (refusal : Refusal) → Progressed progress ≡ Refused refusal → ⊥
 progressed_differs progress refusal same = cc
-
--- the position that a step comes to
-abbrev end_at : Table → ℕ → ℕ
-end_at table rows = stepped REBUILD_ROWS (row_count table) rows table.position
-
-end_is : (table : Table) (rows : ℕ) → table.geometry.format ≡ One → end_of_step table rows ≡ end_at table rows
-end_is table rows one = ap (λ (format : Format). stepped (rebuild_rows format) (row_count table) rows table.position) one
 
 module _ (honest : Type 0) (rows : ℕ) (old new : StoreView) (answer : Result Progress Refusal) (is : TakesStep honest rows old new answer) where
   slots_same : slots_of new.array.table ≡ slots_of old.array.table
@@ -236,22 +225,22 @@ module _ (honest : Type 0) (rows : ℕ) (old new : StoreView) (answer : Result P
       ∙ ap (λ (b : Bool). cond (not b) (Some NothingToRebuild) None) (set_rebuilds old.array.table member rebuilding)
 
   -- what the step answers and leaves, by whether it is the last one
-  answer_is : (last : Bool) → (end_at old.array.table rows == row_count old.array.table) ≡ last
+  answer_is : (last : Bool) → (end_of_step old.array.table rows == row_count old.array.table) ≡ last
       → set_answer (devices_in old.array new.array) (RebuildStep rows) (set_of old.array.table) ≡ cond last (Progressed Complete)
-      (Progressed (Position (end_at old.array.table rows)))
-  answer_is last is_last = ap (λ (b : Bool). cond b (Progressed Complete) (Progressed (Position (end_at old.array.table rows)))) is_last
+      (Progressed (Position (end_of_step old.array.table rows)))
+  answer_is last is_last = ap (λ (b : Bool). cond b (Progressed Complete) (Progressed (Position (end_of_step old.array.table rows)))) is_last
 
-  changed_is : (last : Bool) → (end_at old.array.table rows == row_count old.array.table) ≡ last
-      → changed_set (row_count old.array.table) (RebuildStep rows) (set_of old.array.table)
-      ≡ cond last (made (rebuilt (states_in old.array.table)) 0) (made (states_in old.array.table) (end_at old.array.table rows))
+  changed_is : (last : Bool) → (end_of_step old.array.table rows == row_count old.array.table) ≡ last
+      → changed_set (devices_in old.array new.array) (RebuildStep rows) (set_of old.array.table)
+      ≡ cond last (made (rebuilt (states_in old.array.table)) 0) (made (states_in old.array.table) (end_of_step old.array.table rows))
   changed_is last is_last = ap (λ (b : Bool). cond b (made (rebuilt (states_in old.array.table)) 0)
-      (made (states_in old.array.table) (end_at old.array.table rows))) is_last
+      (made (states_in old.array.table) (end_of_step old.array.table rows))) is_last
 
   -- the rows go on
   not_last : (q member : ℕ) → IsAfterStep old.array.table member rows (Position q) new.array.table
-      → (end_at old.array.table rows == row_count old.array.table) ≡ false
-  not_last q member after = ne_eqb (end_at old.array.table rows) (row_count old.array.table) (λ same.
-      absurd (omega (arith, after.0, after.1, same, end_is old.array.table rows is.of_format_one)))
+      → (end_of_step old.array.table rows == row_count old.array.table) ≡ false
+  not_last q member after = ne_eqb (end_of_step old.array.table rows) (row_count old.array.table) (λ same.
+      absurd (omega (arith, after.0, after.1, same)))
 
   same_states : (q member : ℕ) → IsAfterStep old.array.table member rows (Position q) new.array.table
       → states_in old.array.table ≡ states_in new.array.table
@@ -261,17 +250,17 @@ module _ (honest : Type 0) (rows : ℕ) (old new : StoreView) (answer : Result P
   ]
 
   position_now : (q member : ℕ) → IsAfterStep old.array.table member rows (Position q) new.array.table
-      → end_at old.array.table rows ≡ new.array.table.position
+      → end_of_step old.array.table rows ≡ new.array.table.position
   position_now q member after = elim after.2 [
-    | inl (none, same) ↦ no_step (row_count old.array.table) rows old.array.table.position none ∙ ap (λ (t : Table). t.position) (sym same)
-    | inr (some, moved) ↦ sym (end_is old.array.table rows is.of_format_one) ∙ sym after.0 ∙ sym moved.has_position
+    | inl (none, same) ↦ no_step (rebuild_rows old.array.table.geometry.format) (row_count old.array.table) rows old.array.table.position none ∙ ap (λ (t : Table). t.position) (sym same)
+    | inr (some, moved) ↦ sym after.0 ∙ sym moved.has_position
   ]
 
   position_counts : (q member : ℕ) → IsRebuilding old.array.table member
       → IsAfterStep old.array.table member rows (Position q) new.array.table
-      → position_in (states_in new.array.table) (end_at old.array.table rows) ≡ new.array.table.position
+      → position_in (states_in new.array.table) (end_of_step old.array.table rows) ≡ new.array.table.position
   position_counts q member rebuilding after =
-      ap (λ (b : Bool). cond b (end_at old.array.table rows) 0)
+      ap (λ (b : Bool). cond b (end_of_step old.array.table rows) 0)
       (ap has_rebuilding (sym (same_states q member after)) ∙ set_rebuilds old.array.table member rebuilding)
       ∙ position_now q member after
 
@@ -282,10 +271,10 @@ module _ (honest : Type 0) (rows : ℕ) (old new : StoreView) (answer : Result P
       set_left_by honest (RebuildStep rows) old new (Progressed (Position q)) (devices_in old.array new.array) None
       (are_devices honest old.array new.array (λ fair. is.steps.failure fair unended))
       (admits member rebuilding (step_table old.array.table new.array.table member rows (Position q) rebuilding after))
-      (ap (λ (p : ℕ). Progressed (Position p)) (after.0 ∙ end_is old.array.table rows is.of_format_one) ∙ sym (answer_is false (not_last q member after)))
+      (ap (λ (p : ℕ). Progressed (Position p)) after.0 ∙ sym (answer_is false (not_last q member after)))
       (ap (settled (devices_in old.array new.array)) (changed_is false (not_last q member after))
-      ∙ ap (λ states. settled (devices_in old.array new.array) (made states (end_at old.array.table rows))) (same_states q member after)
-      ∙ devices_leave old.array new.array (end_at old.array.table rows) (position_counts q member rebuilding after))
+      ∙ ap (λ states. settled (devices_in old.array new.array) (made states (end_of_step old.array.table rows))) (same_states q member after)
+      ∙ devices_leave old.array new.array (end_of_step old.array.table rows) (position_counts q member rebuilding after))
 
   -- the last rows
   rebuilt_now : (member : ℕ) → IsRebuilding old.array.table member
@@ -310,7 +299,7 @@ module _ (honest : Type 0) (rows : ℕ) (old new : StoreView) (answer : Result P
       → IsAfterStep old.array.table member rows Complete new.array.table → ¬ HasEnded answer
       → SetIsLeft honest (OnSet (RebuildStep rows)) old new (Progressed Complete)
   left_complete member rebuilding after unended =
-      let last = eq-eqb (end_at old.array.table rows) (row_count old.array.table) (sym (end_is old.array.table rows is.of_format_one) ∙ after.0) in
+      let last = eq-eqb (end_of_step old.array.table rows) (row_count old.array.table) after.0 in
       set_left_by honest (RebuildStep rows) old new (Progressed Complete) (devices_in old.array new.array) None
       (are_devices honest old.array new.array (λ fair. is.steps.failure fair unended))
       (admits member rebuilding (step_table old.array.table new.array.table member rows Complete rebuilding after))

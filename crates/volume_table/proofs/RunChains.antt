@@ -29,6 +29,7 @@ applies_for honest other event old new reply so applies = record { ended = appli
               failed = λ fair. left.are.failed (so fair);
               is_down = left.are.is_down;
               unusable = left.are.unusable;
+              format = left.are.format;
               rows = left.are.rows;
               unsound = λ fair. left.are.unsound (so fair);
             };

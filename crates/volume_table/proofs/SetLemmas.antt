@@ -12,13 +12,16 @@ use Rattle.superblock.specs.NextTables.{slots_of}
 use Rattle.volume_table.specs.StoreCalls.{set_of}
 use Rattle.volume_table.specs.VolumeStep.{Command, SetCommand, Fail, Replace, RebuildStep, Scrub, Event, OnVolumes, OnSet, Done, Refused, Progressed}
 use Rattle.volume_table.specs.VolumeStep.{first_refusal, or_refused}
-use Rattle.rebuild.specs.Rebuilding.{Complete, Position, stepped}
+use Rattle.layout_map.specs.declared.format.Format.{Format}
+use Rattle.layout_map.specs.Formats.{rebuild_rows}
+use Rattle.rebuild.specs.Rebuilding.{Complete, Position}
 use Rattle.superblock.specs.States.{has_rebuilding, is_missing, is_rebuilding}
 use Rattle.volume_table.specs.SetReplies.{SetState, Devices, is_member, with_faults, settled, rebuilt, joined, changed_set, set_answer, set_refusal, set_reply}
-use Rattle.volume_table.specs.SetReplies.{set_or_same, set_after}
+use Rattle.volume_table.specs.SetReplies.{position_after, set_or_same, set_after}
 use Rattle.volume_table.specs.SetLaw.{NoFaults, IsZeroUnlessRebuilding, IsOneOut, Call, LetsRebuildGoOn, AllLetRebuildGoOn, after_calls, after_steps}
-use Rattle.volume_table.specs.SetLaw.{steps_among, steps_left, steps_of}
-use Rattle.layout_map.specs.declared.sizes.TheConstants.{REBUILD_ROWS}
+use Rattle.volume_table.specs.SetLaw.{step_rows, steps_among, steps_left, steps_of}
+use Rattle.volume_table.proofs.StepRows.{fewer_below, last_left, more_left, none_stepped, one_stepped, some_left, stepped_both, stepped_last, stepped_more}
+use Rattle.volume_table.proofs.StepRows.{stepped_on}
 
 -- as many slots with faults
 pub length-with_faults : (faults : ℕ → Bool) (states : List State) → length (with_faults faults states) ≡ length states
@@ -53,21 +56,21 @@ slots_of_joined slot was = by_case (is_member slot was.states)
     by_case true = length-set was.states slot Rebuilding
     by_case false = length-set was.states slot InSync
 
-slots_of_changed : (all_rows : ℕ) (command : SetCommand) (was : SetState) → length (changed_set all_rows command was).states ≡ length was.states
-slots_of_changed all_rows (Fail slot) was = length-set was.states slot Missing
-slots_of_changed all_rows (Replace slot) was = slots_of_joined slot was
-slots_of_changed all_rows (RebuildStep rows) was = by_case (stepped REBUILD_ROWS all_rows rows was.position == all_rows)
+slots_of_changed : (devices : Devices) (command : SetCommand) (was : SetState) → length (changed_set devices command was).states ≡ length was.states
+slots_of_changed devices (Fail slot) was = length-set was.states slot Missing
+slots_of_changed devices (Replace slot) was = slots_of_joined slot was
+slots_of_changed devices (RebuildStep rows) was = by_case (position_after devices rows was.position == devices.rows)
   where
     by_case : (b : Bool) → length (cond {A = SetState} b (record { states = rebuilt was.states; position = 0 })
-        (record { states = was.states; position = stepped REBUILD_ROWS all_rows rows was.position })).states ≡ length was.states
+        (record { states = was.states; position = position_after devices rows was.position })).states ≡ length was.states
     by_case true = length-rebuilt was.states
     by_case false = refl
-slots_of_changed all_rows Scrub was = refl
+slots_of_changed devices Scrub was = refl
 
 -- the set before faults are counted
 unsettled : Devices → Event → SetState → SetState
 unsettled devices (OnVolumes command) was = was
-unsettled devices (OnSet command) was = set_or_same (set_refusal devices command was) (changed_set devices.rows command was) was
+unsettled devices (OnSet command) was = set_or_same (set_refusal devices command was) (changed_set devices command was) was
 
 is_settled : (devices : Devices) (event : Event) (was : SetState) → set_after devices event was ≡ settled devices (unsettled devices event was)
 unfolding unsettled
@@ -79,8 +82,8 @@ unfolding unsettled
 slots_unsettled devices (OnVolumes command) was = refl
 slots_unsettled devices (OnSet command) was = by_case (set_refusal devices command was)
   where
-    by_case : (o : Option Refusal) → length (set_or_same o (changed_set devices.rows command was) was).states ≡ length was.states
-    by_case None = slots_of_changed devices.rows command was
+    by_case : (o : Option Refusal) → length (set_or_same o (changed_set devices command was) was).states ≡ length was.states
+    by_case None = slots_of_changed devices command was
     by_case (Some refusal) = refl
 
 pub slots_stay : (devices : Devices) (event : Event) (was : SetState) → length (set_after devices event was).states ≡ length was.states
@@ -127,7 +130,7 @@ no_refusal_answered : (devices : Devices) (command : SetCommand) (was : SetState
 no_refusal_answered devices (Fail slot) was refusal e = absurd (grind arith)
 no_refusal_answered devices (Replace slot) was refusal e = absurd (grind arith)
 no_refusal_answered devices (RebuildStep rows) was refusal e =
-    step_answer_is_none (stepped REBUILD_ROWS devices.rows rows was.position == devices.rows) (stepped REBUILD_ROWS devices.rows rows was.position) refusal e
+    step_answer_is_none (position_after devices rows was.position == devices.rows) (position_after devices rows was.position) refusal e
 no_refusal_answered devices Scrub was refusal e = absurd (grind arith)
 
 pub refused_leaves_set : (devices : Devices) (command : SetCommand) (was : SetState) (refusal : Refusal) → NoFaults devices was → IsZeroUnlessRebuilding was
@@ -137,45 +140,46 @@ refused_leaves_set devices command was refusal none zero_else refused = ap (sett
     ∙ settled_stays devices was none zero_else
   where
     by_case : (o : Option Refusal) → or_refused o (set_answer devices command was) ≡ Refused refusal
-        → set_or_same o (changed_set devices.rows command was) was ≡ was
+        → set_or_same o (changed_set devices command was) was ≡ was
     by_case None e = absurd (no_refusal_answered devices command was refusal e)
     by_case (Some other) e = refl
 
 -- a rebuild step is not refused while a member is rebuilding
 step_not_refused : (devices : Devices) (was : SetState) → NoFaults devices was → has_rebuilding was.states ≡ true
-    → set_refusal devices (RebuildStep REBUILD_ROWS) was ≡ None
+    → set_refusal devices (RebuildStep (step_rows devices)) was ≡ None
 step_not_refused devices was none rebuilding =
     ap (λ states. cond (not (has_rebuilding states)) (Some NothingToRebuild) None) (without_faults devices.faults was.states none)
     ∙ ap (λ (b : Bool). cond (not b) (Some NothingToRebuild) None) rebuilding
 
 -- what a step leaves and answers, by whether it is the last
 step_leaves : (devices : Devices) (was : SetState) (last : Bool) → NoFaults devices was → has_rebuilding was.states ≡ true
-    → (stepped REBUILD_ROWS devices.rows REBUILD_ROWS was.position == devices.rows) ≡ last
-    → set_after devices (OnSet (RebuildStep REBUILD_ROWS)) was ≡ settled devices
+    → (position_after devices (step_rows devices) was.position == devices.rows) ≡ last
+    → set_after devices (OnSet (RebuildStep (step_rows devices))) was ≡ settled devices
     (cond last (record { states = rebuilt was.states; position = 0 })
-    (record { states = was.states; position = stepped REBUILD_ROWS devices.rows REBUILD_ROWS was.position }))
+    (record { states = was.states; position = position_after devices (step_rows devices) was.position }))
 step_leaves devices was last none rebuilding is_last =
-    ap (λ o. settled devices (set_or_same o (changed_set devices.rows (RebuildStep REBUILD_ROWS) was) was)) (step_not_refused devices was none rebuilding)
+    ap (λ o. settled devices (set_or_same o (changed_set devices (RebuildStep (step_rows devices)) was) was)) (step_not_refused devices was none rebuilding)
     ∙ ap (λ (b : Bool). settled devices (cond b (record { states = rebuilt was.states; position = 0 })
-    (record { states = was.states; position = stepped REBUILD_ROWS devices.rows REBUILD_ROWS was.position }))) is_last
+    (record { states = was.states; position = position_after devices (step_rows devices) was.position }))) is_last
 
 step_answers : (devices : Devices) (was : SetState) (last : Bool) → NoFaults devices was → has_rebuilding was.states ≡ true
-    → (stepped REBUILD_ROWS devices.rows REBUILD_ROWS was.position == devices.rows) ≡ last
-    → set_reply devices (RebuildStep REBUILD_ROWS) was
-    ≡ cond last (Progressed Complete) (Progressed (Position (stepped REBUILD_ROWS devices.rows REBUILD_ROWS was.position)))
+    → (position_after devices (step_rows devices) was.position == devices.rows) ≡ last
+    → set_reply devices (RebuildStep (step_rows devices)) was
+    ≡ cond last (Progressed Complete) (Progressed (Position (position_after devices (step_rows devices) was.position)))
 step_answers devices was last none rebuilding is_last =
-    ap (λ o. or_refused o (set_answer devices (RebuildStep REBUILD_ROWS) was)) (step_not_refused devices was none rebuilding)
-    ∙ ap (λ (b : Bool). cond b (Progressed Complete) (Progressed (Position (stepped REBUILD_ROWS devices.rows REBUILD_ROWS was.position)))) is_last
+    ap (λ o. or_refused o (set_answer devices (RebuildStep (step_rows devices)) was)) (step_not_refused devices was none rebuilding)
+    ∙ ap (λ (b : Bool). cond b (Progressed Complete) (Progressed (Position (position_after devices (step_rows devices) was.position)))) is_last
 
 -- a step that is not the last
-step_goes_on : (devices : Devices) (was : SetState) → NoFaults devices was → has_rebuilding was.states ≡ true → was.position + REBUILD_ROWS < devices.rows
-    → (set_after devices (OnSet (RebuildStep REBUILD_ROWS)) was ≡ record { states = was.states; position = was.position + REBUILD_ROWS })
-    × (set_reply devices (RebuildStep REBUILD_ROWS) was ≡ Progressed (Position (was.position + REBUILD_ROWS)))
+step_goes_on : (devices : Devices) (was : SetState) → NoFaults devices was → has_rebuilding was.states ≡ true → was.position + step_rows devices < devices.rows
+    → (set_after devices (OnSet (RebuildStep (step_rows devices))) was ≡ record { states = was.states; position = was.position + step_rows devices })
+    × (set_reply devices (RebuildStep (step_rows devices)) was ≡ Progressed (Position (was.position + step_rows devices)))
 step_goes_on devices was none rebuilding more =
-    let there : stepped REBUILD_ROWS devices.rows REBUILD_ROWS was.position ≡ was.position + REBUILD_ROWS = omega arith in
-    let not_last : (stepped REBUILD_ROWS devices.rows REBUILD_ROWS was.position == devices.rows) ≡ false =
-    ne_eqb (stepped REBUILD_ROWS devices.rows REBUILD_ROWS was.position) devices.rows (λ same. absurd (omega (arith, there, same))) in
-    let next : SetState = record { states = was.states; position = stepped REBUILD_ROWS devices.rows REBUILD_ROWS was.position } in (
+    let there : position_after devices (step_rows devices) was.position ≡ was.position + step_rows devices =
+    stepped_on devices.format devices.rows was.position more in
+    let not_last : (position_after devices (step_rows devices) was.position == devices.rows) ≡ false =
+    ne_eqb (position_after devices (step_rows devices) was.position) devices.rows (λ same. absurd (omega (arith, there, same))) in
+    let next : SetState = record { states = was.states; position = position_after devices (step_rows devices) was.position } in (
       step_leaves devices was false none rebuilding not_last ∙ settled_stays devices next none (λ e. absurd (true≢false (sym rebuilding ∙ e)))
           ∙ ap (made was.states) there,
       step_answers devices was false none rebuilding not_last ∙ ap (λ q. Progressed (Position q)) there,
@@ -183,13 +187,14 @@ step_goes_on devices was none rebuilding more =
 
 -- the last step
 pub step_is_last : (devices : Devices) (was : SetState) → NoFaults devices was → has_rebuilding was.states ≡ true → was.position ≤ devices.rows
-    → devices.rows ≤ was.position + REBUILD_ROWS
-    → (set_after devices (OnSet (RebuildStep REBUILD_ROWS)) was ≡ record { states = rebuilt was.states; position = 0 })
-    × (set_reply devices (RebuildStep REBUILD_ROWS) was ≡ Progressed Complete)
+    → devices.rows ≤ was.position + step_rows devices
+    → (set_after devices (OnSet (RebuildStep (step_rows devices))) was ≡ record { states = rebuilt was.states; position = 0 })
+    × (set_reply devices (RebuildStep (step_rows devices)) was ≡ Progressed Complete)
 step_is_last devices was none rebuilding within near =
-    let there : stepped REBUILD_ROWS devices.rows REBUILD_ROWS was.position ≡ devices.rows = omega arith in
-    let last : (stepped REBUILD_ROWS devices.rows REBUILD_ROWS was.position == devices.rows) ≡ true =
-    eq-eqb (stepped REBUILD_ROWS devices.rows REBUILD_ROWS was.position) devices.rows there in
+    let there : position_after devices (step_rows devices) was.position ≡ devices.rows =
+    stepped_last devices.format devices.rows was.position within near in
+    let last : (position_after devices (step_rows devices) was.position == devices.rows) ≡ true =
+    eq-eqb (position_after devices (step_rows devices) was.position) devices.rows there in
     let next : SetState = record { states = rebuilt was.states; position = 0 } in (
       step_leaves devices was true none rebuilding last
           ∙ settled_stays devices next (λ slot within. none slot (omega (arith, within, length-rebuilt was.states))) (λ e. refl),
@@ -198,37 +203,39 @@ step_is_last devices was none rebuilding within near =
 
 -- the set n steps on
 ahead : (devices : Devices) (was : SetState) (n : ℕ) → NoFaults devices was → has_rebuilding was.states ≡ true → n < steps_left devices was
-    → after_steps devices was n ≡ made was.states (was.position + REBUILD_ROWS * n)
-ahead devices was zero none rebuilding more = ap (made was.states) (omega arith)
+    → after_steps devices was n ≡ made was.states (was.position + step_rows devices * n)
+ahead devices was zero none rebuilding more = ap (made was.states) (none_stepped devices.format was.position)
 ahead devices was (suc n) none rebuilding more =
-    let here = made was.states (was.position + REBUILD_ROWS * n) in
-    ap (set_after devices (OnSet (RebuildStep REBUILD_ROWS))) (ahead devices was n none rebuilding (omega arith))
-    ∙ (step_goes_on devices here none rebuilding (omega arith)).0
-    ∙ ap (made was.states) (omega arith)
+    let here = made was.states (was.position + step_rows devices * n) in
+    ap (set_after devices (OnSet (RebuildStep (step_rows devices)))) (ahead devices was n none rebuilding (omega (arith, more)))
+    ∙ (step_goes_on devices here none rebuilding (more_left devices.format devices.rows was.position n (omega (arith, more)))).0
+    ∙ ap (made was.states) (stepped_more devices.format was.position n ∙ ap (λ (k : ℕ). was.position + step_rows devices * k) (omega arith))
 
 pub rebuild_goes_on : (devices : Devices) (was : SetState) (n : ℕ) → NoFaults devices was → has_rebuilding was.states ≡ true → n + 1 < steps_left devices was
-    → (after_steps devices was (n + 1) ≡ record { states = was.states; position = was.position + REBUILD_ROWS * (n + 1) })
-    × (set_reply devices (RebuildStep REBUILD_ROWS) (after_steps devices was n) ≡ Progressed (Position (was.position + REBUILD_ROWS * (n + 1))))
+    → (after_steps devices was (n + 1) ≡ record { states = was.states; position = was.position + step_rows devices * (n + 1) })
+    × (set_reply devices (RebuildStep (step_rows devices)) (after_steps devices was n)
+    ≡ Progressed (Position (was.position + step_rows devices * (n + 1))))
 rebuild_goes_on devices was n none rebuilding more =
-    let here = made was.states (was.position + REBUILD_ROWS * n) in
-    let far : was.position + REBUILD_ROWS * n + REBUILD_ROWS ≡ was.position + REBUILD_ROWS * (n + 1) = omega arith in (
+    let here = made was.states (was.position + step_rows devices * n) in
+    let far = stepped_more devices.format was.position n in (
       ahead devices was (n + 1) none rebuilding more,
-      ap (set_reply devices (RebuildStep REBUILD_ROWS)) (ahead devices was n none rebuilding (omega arith))
-          ∙ (step_goes_on devices here none rebuilding (omega arith)).1
+      ap (set_reply devices (RebuildStep (step_rows devices))) (ahead devices was n none rebuilding (omega (arith, more)))
+          ∙ (step_goes_on devices here none rebuilding (more_left devices.format devices.rows was.position n more)).1
           ∙ ap (λ q. Progressed (Position q)) far,
     )
 
 pub rebuild_is_counted : (devices : Devices) (was : SetState) (n : ℕ) → NoFaults devices was → has_rebuilding was.states ≡ true → n + 1 ≡ steps_left devices was
     → (after_steps devices was (n + 1) ≡ record { states = rebuilt was.states; position = 0 })
-    × (set_reply devices (RebuildStep REBUILD_ROWS) (after_steps devices was n) ≡ Progressed Complete)
+    × (set_reply devices (RebuildStep (step_rows devices)) (after_steps devices was n) ≡ Progressed Complete)
 rebuild_is_counted devices was n none rebuilding last =
-    let here = made was.states (was.position + REBUILD_ROWS * n) in
-    let at_n = ahead devices was n none rebuilding (omega arith) in
+    let here = made was.states (was.position + step_rows devices * n) in
+    let at_n = ahead devices was n none rebuilding (omega (arith, last)) in
     let one_more : n + 1 ≡ suc n = omega arith in
-    let done = step_is_last devices here none rebuilding (omega arith) (omega arith) in (
-      ap (after_steps devices was) one_more ∙ ap (set_after devices (OnSet (RebuildStep REBUILD_ROWS))) at_n
+    let rows = last_left devices.format devices.rows was.position n last in
+    let done = step_is_last devices here none rebuilding (omega (arith, rows.0)) rows.1 in (
+      ap (after_steps devices was) one_more ∙ ap (set_after devices (OnSet (RebuildStep (step_rows devices)))) at_n
           ∙ done.0,
-      ap (set_reply devices (RebuildStep REBUILD_ROWS)) at_n ∙ done.1,
+      ap (set_reply devices (RebuildStep (step_rows devices))) at_n ∙ done.1,
     )
 
 missing≢in_sync : Missing ≢ InSync
@@ -304,66 +311,89 @@ scrub_leaves devices was none zero_else = ap (settled devices) (by_case (set_ref
 
 -- what a call leaves that lets a rebuild go on and is not the last step
 pub call_leaves : (devices : Devices) (event : Event) (was : SetState) → IsOneOut was.states → has_rebuilding was.states ≡ true
-    → LetsRebuildGoOn devices.rows was (record { devices = devices; event = event }) → was.position + REBUILD_ROWS * steps_of event < devices.rows
-    → set_after devices event was ≡ made was.states (was.position + REBUILD_ROWS * steps_of event)
+    → LetsRebuildGoOn devices was (record { devices = devices; event = event }) → was.position + step_rows devices * steps_of event < devices.rows
+    → set_after devices event was ≡ made was.states (was.position + step_rows devices * steps_of event)
 call_leaves devices event was one_out rebuilding goes_on more = by_case event goes_on more
   where
     zero_else : IsZeroUnlessRebuilding was
     zero_else e = absurd (true≢false (sym rebuilding ∙ e))
 
-    same : was ≡ made was.states (was.position + REBUILD_ROWS * 0)
-    same = ap (made was.states) (omega arith)
+    same : was ≡ made was.states (was.position + step_rows devices * 0)
+    same = ap (made was.states) (none_stepped devices.format was.position)
 
-    by_case : (other : Event) → LetsRebuildGoOn devices.rows was (record { devices = devices; event = other })
-        → was.position + REBUILD_ROWS * steps_of other < devices.rows
-        → set_after devices other was ≡ made was.states (was.position + REBUILD_ROWS * steps_of other)
+    by_case : (other : Event) → LetsRebuildGoOn devices was (record { devices = devices; event = other })
+        → was.position + step_rows devices * steps_of other < devices.rows
+        → set_after devices other was ≡ made was.states (was.position + step_rows devices * steps_of other)
     by_case (OnVolumes command) lets few = settled_stays devices was lets.no_faults zero_else ∙ same
     by_case (OnSet (Fail slot)) lets few = fail_leaves devices was slot lets.no_faults zero_else (lets.none_given_up slot refl) ∙ same
     by_case (OnSet (Replace slot)) lets few =
         refused_leaves_set devices (Replace slot) was NotMissing lets.no_faults zero_else (replace_refused devices was slot one_out rebuilding) ∙ same
     by_case (OnSet (RebuildStep rows)) lets few =
+        let one = one_stepped devices.format was.position in
         ap (λ n. set_after devices (OnSet (RebuildStep n)) was) (lets.whole rows refl)
-        ∙ (step_goes_on devices was lets.no_faults rebuilding (omega (arith, few))).0 ∙ ap (made was.states) (omega arith)
+        ∙ (step_goes_on devices was lets.no_faults rebuilding (omega (arith, few, one))).0 ∙ ap (made was.states) one
     by_case (OnSet Scrub) lets few = scrub_leaves devices was lets.no_faults zero_else ∙ same
 
--- the set after calls that let a rebuild go on, while rows are left
-ahead_among : (calls : List Call) (all_rows : ℕ) (was : SetState) → IsOneOut was.states → has_rebuilding was.states ≡ true
-    → AllLetRebuildGoOn all_rows was calls → was.position + REBUILD_ROWS * steps_among calls < all_rows
-    → after_calls calls was ≡ made was.states (was.position + REBUILD_ROWS * steps_among calls)
-ahead_among [] all_rows was one_out rebuilding lets more = ap (made was.states) (omega arith)
-ahead_among (call ∷ calls) all_rows was one_out rebuilding lets more =
-    let here = made was.states (was.position + REBUILD_ROWS * steps_of call.event) in
-    let of_rows : call.devices.rows ≡ all_rows = lets.0.of_rows in
-    let left : set_after call.devices call.event was ≡ here =
+-- the same, where the set's format and rows are those of other devices
+call_leaves_by : (devices : Devices) (call : Call) (was : SetState) → IsOneOut was.states → has_rebuilding was.states ≡ true
+    → LetsRebuildGoOn devices was call → was.position + step_rows devices * steps_of call.event < devices.rows
+    → set_after call.devices call.event was ≡ made was.states (was.position + step_rows devices * steps_of call.event)
+call_leaves_by devices call was one_out rebuilding lets more =
+    let there : (format : Format) → ℕ = λ format. was.position + rebuild_rows format * steps_of call.event in
+    let same : there call.devices.format ≡ there devices.format = ap there lets.of_format in
     call_leaves call.devices call.event was one_out rebuilding
-    (record { of_rows = refl; no_faults = lets.0.no_faults; none_given_up = lets.0.none_given_up; whole = lets.0.whole })
-    (omega (arith, more, of_rows)) in
+    (record {
+      of_rows = refl;
+      of_format = refl;
+      no_faults = lets.no_faults;
+      none_given_up = lets.none_given_up;
+      whole = λ rows is. lets.whole rows is ∙ ap rebuild_rows (sym lets.of_format);
+    })
+    (omega (arith, more, same, lets.of_rows))
+    ∙ ap (made was.states) same
+
+-- the set after calls that let a rebuild go on, while rows are left
+ahead_among : (calls : List Call) (devices : Devices) (was : SetState) → IsOneOut was.states → has_rebuilding was.states ≡ true
+    → AllLetRebuildGoOn devices was calls → was.position + step_rows devices * steps_among calls < devices.rows
+    → after_calls calls was ≡ made was.states (was.position + step_rows devices * steps_among calls)
+ahead_among [] devices was one_out rebuilding lets more = ap (made was.states) (none_stepped devices.format was.position)
+ahead_among (call ∷ calls) devices was one_out rebuilding lets more =
+    let here = made was.states (was.position + step_rows devices * steps_of call.event) in
+    let both = stepped_both devices.format was.position (steps_of call.event) (steps_among calls) in
+    let left : set_after call.devices call.event was ≡ here =
+    call_leaves_by devices call was one_out rebuilding lets.0
+    (fewer_below devices.format devices.rows was.position (steps_of call.event) (steps_among calls) more) in
     ap (after_calls calls) left
-    ∙ ahead_among calls all_rows here one_out rebuilding (subst (λ (set : SetState). AllLetRebuildGoOn all_rows set calls) left lets.1) (omega (arith, more))
-    ∙ ap (made was.states) (omega arith)
+    ∙ ahead_among calls devices here one_out rebuilding (subst (λ (set : SetState). AllLetRebuildGoOn devices set calls) left lets.1) (omega (arith, more, both))
+    ∙ ap (made was.states) both
 
 pub rebuild_goes_on_among_others : (devices : Devices) (calls : List Call) (was : SetState) → NoFaults devices was → IsOneOut was.states
     → has_rebuilding was.states ≡ true
-    → AllLetRebuildGoOn devices.rows was calls → steps_among calls < steps_left devices was
-    → (after_calls calls was ≡ record { states = was.states; position = was.position + REBUILD_ROWS * steps_among calls })
+    → AllLetRebuildGoOn devices was calls → steps_among calls < steps_left devices was
+    → (after_calls calls was ≡ record { states = was.states; position = was.position + step_rows devices * steps_among calls })
     × (steps_among calls + 1 < steps_left devices was
-    → set_reply devices (RebuildStep REBUILD_ROWS) (after_calls calls was) ≡ Progressed (Position (was.position + REBUILD_ROWS * (steps_among calls + 1))))
+    → set_reply devices (RebuildStep (step_rows devices)) (after_calls calls was)
+    ≡ Progressed (Position (was.position + step_rows devices * (steps_among calls + 1))))
 rebuild_goes_on_among_others devices calls was none one_out rebuilding lets more =
-    let here = made was.states (was.position + REBUILD_ROWS * steps_among calls) in
-    let there : after_calls calls was ≡ here = ahead_among calls devices.rows was one_out rebuilding lets (omega (arith, more)) in
-    let far : was.position + REBUILD_ROWS * steps_among calls + REBUILD_ROWS ≡ was.position + REBUILD_ROWS * (steps_among calls + 1) = omega arith in (
+    let n = steps_among calls in
+    let here = made was.states (was.position + step_rows devices * n) in
+    let there : after_calls calls was ≡ here =
+    ahead_among calls devices was one_out rebuilding lets (some_left devices.format devices.rows was.position n more) in (
       there,
-      λ further. ap (set_reply devices (RebuildStep REBUILD_ROWS)) there ∙ (step_goes_on devices here none rebuilding (omega (arith, further))).1
-          ∙ ap (λ q. Progressed (Position q)) far,
+      λ further. ap (set_reply devices (RebuildStep (step_rows devices))) there
+          ∙ (step_goes_on devices here none rebuilding (more_left devices.format devices.rows was.position n further)).1
+          ∙ ap (λ q. Progressed (Position q)) (stepped_more devices.format was.position n),
     )
 
 pub rebuild_is_counted_among_others : (devices : Devices) (calls : List Call) (was : SetState) → NoFaults devices was → IsOneOut was.states
     → has_rebuilding was.states ≡ true
-    → AllLetRebuildGoOn devices.rows was calls → steps_among calls + 1 ≡ steps_left devices was
-    → (set_after devices (OnSet (RebuildStep REBUILD_ROWS)) (after_calls calls was) ≡ record { states = rebuilt was.states; position = 0 })
-    × (set_reply devices (RebuildStep REBUILD_ROWS) (after_calls calls was) ≡ Progressed Complete)
+    → AllLetRebuildGoOn devices was calls → steps_among calls + 1 ≡ steps_left devices was
+    → (set_after devices (OnSet (RebuildStep (step_rows devices))) (after_calls calls was) ≡ record { states = rebuilt was.states; position = 0 })
+    × (set_reply devices (RebuildStep (step_rows devices)) (after_calls calls was) ≡ Progressed Complete)
 rebuild_is_counted_among_others devices calls was none one_out rebuilding lets last =
-    let here = made was.states (was.position + REBUILD_ROWS * steps_among calls) in
-    let there : after_calls calls was ≡ here = ahead_among calls devices.rows was one_out rebuilding lets (omega (arith, last)) in
-    let done = step_is_last devices here none rebuilding (omega (arith, last)) (omega (arith, last)) in
-    (ap (set_after devices (OnSet (RebuildStep REBUILD_ROWS))) there ∙ done.0, ap (set_reply devices (RebuildStep REBUILD_ROWS)) there ∙ done.1)
+    let n = steps_among calls in
+    let here = made was.states (was.position + step_rows devices * n) in
+    let rows = last_left devices.format devices.rows was.position n last in
+    let there : after_calls calls was ≡ here = ahead_among calls devices was one_out rebuilding lets rows.0 in
+    let done = step_is_last devices here none rebuilding (omega (arith, rows.0)) rows.1 in
+    (ap (set_after devices (OnSet (RebuildStep (step_rows devices)))) there ∙ done.0, ap (set_reply devices (RebuildStep (step_rows devices))) there ∙ done.1)

@@ -123,6 +123,7 @@ abbrev pub devices_in : ArrayView → ArrayView → Devices
 devices_in old new = record {
   faults = has_fault new;
   unusable = λ slot. old.panel.down slot || nat_lt (old.panel.sectors slot) (least_sectors old.table.geometry slot);
+  format = old.table.geometry.format;
   rows = row_count old.table;
   unsound = unsound_rows old.table (readable new.history);
 }
@@ -227,6 +228,7 @@ set_is_left honest command old new reply ended goes stays unended = record {
         (ap is_missing (stays.failure fair unended slot of_set failed)) failed.is_down;
     is_down = λ slot of_set fault. (and_parts (is_missing (state_at new.array.table.states slot)) (new.array.panel.down slot) fault).1;
     unusable = λ slot of_set. refl;
+    format = refl;
     rows = refl;
     unsound = λ fair. are_unsound old.array.table (readable new.array.history);
   };

@@ -11,7 +11,7 @@ use Rattle.array_io.specs.Believed.Holds.{row_count}
 use Rattle.array_io.specs.Believed.Views.{ArrayView}
 use Rattle.recovery.specs.Making.{Opened}
 use Rattle.recovery.specs.Assembling.{Assembles}
-use Rattle.rebuild.specs.Rebuilding.{Complete, IsRebuilding, Position, steps_left}
+use Rattle.rebuild.specs.Rebuilding.{Complete, IsRebuilding, Position, steps_left_of}
 use Rattle.volume_table.specs.Volumes.{VolumeMap}
 use Rattle.volume_table.specs.VolumeStep.{Event, Fail, OnSet, Progressed, RebuildStep, Refused, Reply}
 use Rattle.volume_table.specs.SetLaw.{steps_of}
@@ -19,7 +19,7 @@ use Rattle.volume_table.specs.Stands.{IsSettledOn, StoreView}
 use Rattle.volume_table.specs.StoreCalls.{Applies}
 use Rattle.volume_table.specs.StoreFunctions.{Chain, none_done, then_done}
 use Rattle.volume_table.specs.Runs.{begun_with}
-use Rattle.layout_map.specs.declared.sizes.TheConstants.{REBUILD_ROWS}
+use Rattle.layout_map.specs.Formats.{rebuild_rows}
 
 -- A store crashed, and its set is assembled from an image that the crash may leave, with one slot lost at most.
 pub record IsAssembledAgain (store : StoreView) (lost : Option Lost) (array : ArrayView) : Type 0 where
@@ -47,11 +47,15 @@ RebuildResumes = (store : StoreView) (lost : Option Lost) (volumes : VolumeMap) 
 abbrev pub AllUp : StoreView → Type 0
 AllUp store = (slot : ℕ) → slot < slots_of store.array.table → store.array.panel.down slot ≡ false
 
--- An event that lets the rebuild of a member go on: it does not give the member up, a rebuild step is one of 64 rows,
--- and each device is up at the return.
+-- as many rows as a step of a set's rebuild may have, by its format
+abbrev pub step_rows : Table → ℕ
+step_rows table = rebuild_rows table.geometry.format
+
+-- An event that lets the rebuild of a member go on: it does not give the member up, a rebuild step has as many rows as it
+-- may, and each device is up at the return.
 pub record LeavesRebuilding (member : ℕ) (event : Event) (new : StoreView) : Type 0 where
   pub not_given_up : event ≢ OnSet (Fail member)
-  pub whole : (rows : ℕ) → event ≡ OnSet (RebuildStep rows) → rows ≡ REBUILD_ROWS
+  pub whole : (rows : ℕ) → event ≡ OnSet (RebuildStep rows) → rows ≡ step_rows new.array.table
   pub all_up : AllUp new
 
 -- and so do all events of a chain
@@ -66,9 +70,13 @@ abbrev pub steps_in : List Event → ℕ
 steps_in [] = 0
 steps_in (event ∷ events) = steps_of event + steps_in events
 
--- how many steps of 64 rows a set has left to do by its table
+-- how many such steps are left from a position of a set's rows on
+abbrev pub steps_from : Table → (position : ℕ) → ℕ
+steps_from table position = steps_left_of (step_rows table) position (row_count table)
+
+-- how many a set has left to do by its table
 abbrev pub steps_to_do : Table → ℕ
-steps_to_do table = steps_left table.position (row_count table)
+steps_to_do table = steps_from table table.position
 
 -- From a store that no refusal ended, in which this member is rebuilding, events were done one after another, rebuild
 -- steps and whatever else, all of which let the rebuild go on.
@@ -78,22 +86,22 @@ pub record RebuildsBy (member : ℕ) (events : List Event) (acks : List ℕ) (ol
   pub chain : Chain (Unit {0}) events acks old new
   pub all_leave : AllLeaveRebuilding member chain
 
--- A rebuild goes on: while steps are left to do, the member is rebuilding, 64 rows further for each that was done.
+-- A rebuild goes on: while steps are left to do, the member is rebuilding, as many rows further as a step may have for each that was done.
 abbrev pub RebuildAdvances : Type 0
 RebuildAdvances = (member : ℕ) (events : List Event) (acks : List ℕ) (old new : StoreView)
     → RebuildsBy member events acks old new → steps_in events < steps_to_do old.array.table
-    → IsRebuildingOn member (REBUILD_ROWS * steps_in events) old.array.table new.array.table
+    → IsRebuildingOn member (step_rows old.array.table * steps_in events) old.array.table new.array.table
 
 -- A rebuild ends: the last of the steps that were left at the start is answered with `Complete`, and the set is
 -- complete, unless the step is refused because a counter stands at 2^62.
 abbrev pub RebuildEnds : Type 0
 RebuildEnds = (member : ℕ) (events : List Event) (acks : List ℕ) (old mid new : StoreView) (reply : Reply)
     → RebuildsBy member events acks old mid → steps_in events + 1 ≡ steps_to_do old.array.table
-    → Applies (Unit {0}) (OnSet (RebuildStep REBUILD_ROWS)) mid new reply → AllUp new → reply ≢ Refused Worn
+    → Applies (Unit {0}) (OnSet (RebuildStep (step_rows mid.array.table))) mid new reply → AllUp new → reply ≢ Refused Worn
     → (reply ≡ Progressed Complete) × IsComplete new.array.table
 
 -- Each step counts: one that is answered with a position leaves, from there on, one step fewer than there were.
 abbrev pub RebuildCounts : Type 0
 RebuildCounts = (position : ℕ) (old new : StoreView)
-    → Applies (Unit {0}) (OnSet (RebuildStep REBUILD_ROWS)) old new (Progressed (Position position))
-    → steps_to_do old.array.table ≡ steps_left position (row_count old.array.table) + 1
+    → Applies (Unit {0}) (OnSet (RebuildStep (step_rows old.array.table))) old new (Progressed (Position position))
+    → steps_to_do old.array.table ≡ steps_from old.array.table position + 1

@@ -3,6 +3,7 @@ use Rattle.std.specs.Prelude.{◌≡◌, ℕ, ◌+◌, ◌/◌, ◌%◌, false, 
 use Rattle.std.specs.List.{range_with_len}
 use Rattle.sector_model.specs.declared.refusal.Refusal.TheVariants.{BadName, BadSize, Exists, TooManyVolumes, NoSpace, NoVolume, BadCount, OutOfRange}
 use Rattle.sector_model.specs.declared.refusal.Refusal.TheVariants.{WouldLose, NotMissing, Incomplete}
+use Rattle.layout_map.specs.declared.format.Format.TheVariants.{One}
 use Rattle.superblock.specs.declared.state.State.TheVariants.{InSync}
 use Rattle.volume_table.specs.Volumes.{Block, zero_block, VolumeMap, no_volumes}
 use Rattle.volume_table.specs.VolumeStep.{Command, Create, Extend, Remove, Read, Write, Rename, Names, Upgrade, SetCommand, Fail, Replace, RebuildStep, Scrub}
@@ -107,9 +108,9 @@ RenameScript = (block : Block) → replies 7
     ∷ Rename (codes "b") (codes "b") ∷ Rename (codes "a") (codes "B") ∷ Rename (codes "b") (codes "B") ∷ Names ∷ []) no_volumes
     ≡ Done ∷ Done ∷ Done ∷ Blocks (block ∷ []) ∷ Refused NoVolume ∷ Refused Exists ∷ Refused NoVolume ∷ Refused BadName ∷ Volumes ((codes "b", 10) ∷ []) ∷ []
 
--- three members of 256 rows and two journals, where no device fails and each row is sound
+-- three members of 256 rows and two journals of a set of format 1, where no device fails and each row is sound
 abbrev pub sound_devices : Devices
-sound_devices = record { faults = λ slot. false; unusable = λ slot. false; rows = 256; unsound = [] }
+sound_devices = record { faults = λ slot. false; unusable = λ slot. false; format = One; rows = 256; unsound = [] }
 
 abbrev pub complete_set : SetState
 complete_set = record { states = replicate 5 InSync; position = 0 }

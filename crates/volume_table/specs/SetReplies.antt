@@ -3,7 +3,8 @@ use Rattle.std.specs.Prelude.{◌≡◌, Option, Some, None, ℕ, ◌+◌, Bool,
 use Rattle.std.specs.Prelude.{slice_index_or, slice_set}
 use Rattle.sector_model.specs.declared.refusal.Refusal.{Refusal}
 use Rattle.sector_model.specs.declared.refusal.Refusal.TheVariants.{WouldLose, NotMissing, NotUsable, NothingToRebuild, Incomplete}
-use Rattle.layout_map.specs.declared.sizes.TheConstants.{REBUILD_ROWS}
+use Rattle.layout_map.specs.declared.format.Format.{Format}
+use Rattle.layout_map.specs.Formats.{rebuild_rows}
 use Rattle.superblock.specs.declared.state.State.{State}
 use Rattle.superblock.specs.declared.state.State.TheVariants.{Missing, InSync, Rebuilding}
 use Rattle.superblock.specs.States.{has_rebuilding, is_complete, is_missing, is_rebuilding, position_in}
@@ -24,6 +25,8 @@ pub record Devices : Type 0 where
   pub faults : ℕ → Bool
   -- whether the device of a slot is down when the call begins, or is too short
   pub unusable : ℕ → Bool
+  -- the format of the set, which says how many rows a step of a rebuild may have
+  pub format : Format
   -- how many rows a member has
   pub rows : ℕ
   -- the rows that are not sound, rising
@@ -56,24 +59,28 @@ joined slot set =
     then (record { states = slice_set set.states slot Rebuilding; position = 0 })
     else (record { states = slice_set set.states slot InSync; position = set.position })
 
+-- the position after a rebuild step of so many rows
+abbrev pub position_after : Devices → (rows position : ℕ) → ℕ
+position_after devices rows position = stepped (rebuild_rows devices.format) devices.rows rows position
+
 -- the set after a command on it that is not refused
-abbrev pub changed_set : ℕ → SetCommand → SetState → SetState
-changed_set all_rows (Fail slot) set = record { states = slice_set set.states slot Missing; position = set.position }
-changed_set all_rows (Replace slot) set = joined slot set
-changed_set all_rows (RebuildStep rows) set =
-    if stepped REBUILD_ROWS all_rows rows set.position == all_rows
+abbrev pub changed_set : Devices → SetCommand → SetState → SetState
+changed_set devices (Fail slot) set = record { states = slice_set set.states slot Missing; position = set.position }
+changed_set devices (Replace slot) set = joined slot set
+changed_set devices (RebuildStep rows) set =
+    if position_after devices rows set.position == devices.rows
     then (record { states = rebuilt set.states; position = 0 })
-    else (record { states = set.states; position = stepped REBUILD_ROWS all_rows rows set.position })
-changed_set all_rows Scrub set = set
+    else (record { states = set.states; position = position_after devices rows set.position })
+changed_set devices Scrub set = set
 
 -- the reply to a command on the set that is not refused
 abbrev pub set_answer : Devices → SetCommand → SetState → Reply
 set_answer devices (Fail slot) set = Done
 set_answer devices (Replace slot) set = Done
 set_answer devices (RebuildStep rows) set =
-    if stepped REBUILD_ROWS devices.rows rows set.position == devices.rows
+    if position_after devices rows set.position == devices.rows
     then Progressed Complete
-    else Progressed (Position (stepped REBUILD_ROWS devices.rows rows set.position))
+    else Progressed (Position (position_after devices rows set.position))
 set_answer devices Scrub set = Scrubbed devices.rows (length devices.unsound) (slice_get devices.unsound 0)
 
 -- what a command on the set is refused with, in this order
@@ -104,7 +111,7 @@ set_or_same (Some refusal) new set = set
 abbrev pub set_after : Devices → Event → SetState → SetState
 set_after devices (OnVolumes command) set = settled devices set
 set_after devices (OnSet command) set =
-    settled devices (set_or_same (set_refusal devices command set) (changed_set devices.rows command set) set)
+    settled devices (set_or_same (set_refusal devices command set) (changed_set devices command set) set)
 
 -- what a command on the set answers and leaves
 pub record AnswersSet (devices : Devices) (command : SetCommand) (before : SetState) (reply : Reply) (left : SetState) : Type 0 where

@@ -14,6 +14,7 @@ use Rattle.superblock.specs.Counted.{least_sectors}
 use Rattle.superblock.specs.NextTables.{slots_of}
 use Rattle.array_io.specs.Believed.Holds.{row_count}
 use Rattle.array_io.specs.Believed.Views.{ArrayView, EndsIt, DeviceFailed, GoesOn, IsEndOf}
+use Rattle.layout_map.specs.declared.format.Format.TheVariants.{One}
 use Rattle.scrub.specs.Scrubbing.{AreUnsound}
 use Rattle.volume_table.specs.Volumes.{Block, VolumeMap}
 use Rattle.volume_table.specs.VolumeStep.{Blocks, Command, Create, Done, Event, Extend, Fail, Names, OnSet, OnVolumes, Refused, Remove, Rename, Replace, Reply}
@@ -34,6 +35,7 @@ pub record AreDevicesOf (honest : Type 0) (table : Table) (old new : Panel) (h :
   pub failed : honest → (slot : ℕ) → slot < slots_of table → DeviceFailed slot old new → devices.faults slot ≡ true
   pub is_down : (slot : ℕ) → slot < slots_of table → devices.faults slot ≡ true → new.down slot ≡ true
   pub unusable : (slot : ℕ) → slot < slots_of table → devices.unusable slot ≡ (old.down slot || nat_lt (old.sectors slot) (least_sectors table.geometry slot))
+  pub format : devices.format ≡ table.geometry.format
   pub rows : devices.rows ≡ row_count table
   pub unsound : honest → AreUnsound table (readable h) devices.unsound
 
@@ -48,7 +50,7 @@ lost_unless (Some refusal) lost slot = lost
 
 -- whether a `fail` is refused is decided by the states alone
 abbrev pub no_devices : Devices
-no_devices = record { faults = λ slot. false; unusable = λ slot. false; rows = 0; unsound = [] }
+no_devices = record { faults = λ slot. false; unusable = λ slot. false; format = One; rows = 0; unsound = [] }
 
 abbrev pub lost_in : Event → Table → Option Lost → Option Lost
 lost_in (OnSet (Fail slot)) table lost = lost_unless (set_refusal no_devices (Fail slot) (set_of table)) lost slot

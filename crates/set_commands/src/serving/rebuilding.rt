@@ -21,8 +21,9 @@ use std::io::Write;
 use stripe_journal::Entry;
 use volume_table::Store;
 
-/// Makes steps of 64 rows of the rebuild of the set of this id, and writes how far the last one came: so many steps,
-/// but one at least, or where no number is given as many as it takes, and none once the rebuild is complete.
+/// Makes steps of the rebuild of the set of this id, each of 64 rows or in format 2 of 4,096, and writes how far the
+/// last one came: so many steps, but one at least, or where no number is given as many as it takes, and none once the
+/// rebuild is complete.
 ///
 /// Refused as `open_on` is, with `NothingToRebuild` as `Store::rebuild_step` says, where the steps before are done, and
 /// with `WriteFault`, where all of them are done and a beginning of the line may be written.

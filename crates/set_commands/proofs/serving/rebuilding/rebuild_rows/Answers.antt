@@ -2,7 +2,7 @@ use Rattle.std.proofs.Common.{◌+◌, ℕ, refl, ap, arith, Err, Ok}
 use Rattle.std.proofs.lemmas.Result.{err_from_is_err_and}
 use Rattle.rebuild.specs.Stepping.{progress_by}
 use Rattle.set_commands.specs.Steps.{none_made}
-use Rattle.set_commands.proofs.MadeSteps.{ends_early, ends_last, none_answered, none_refused, of_its_step, one_more}
+use Rattle.set_commands.proofs.MadeSteps.{ends_early, ends_last, none_answered, none_refused, of_its_step, one_more, steps_on}
 use Rattle.set_commands.proofs.serving.rebuilding.rebuild_rows.Goals as goal
 
 pub loop-init : goal.loop-init
@@ -26,7 +26,7 @@ loop-preserved g c =
       still = λ honest. was.still (c.in_ok-progress.ensures.honest.1 honest);
       made = one_more _ _ was.before _ _ _ _ _ was.honest (ap (λ p. Ok (progress_by p)) c.in-Position.is) was.made
           (of_its_step _ _ c.args.store.now.array.table _ _ (Ok (progress_by c.in_ok-progress.progress))
-          c.args.store.now.array.its_slots.of_format_one c.rebuild_rows-rows.ensures
+          (steps_on _ was.before _ _ was.made).geometry c.rebuild_rows-rows.ensures
           c.in_ok-progress.ensures.rebuilds);
     }
 
@@ -43,7 +43,7 @@ returns-in_err-progress-clause-rebuilds g c =
     rw (p.1, p.2) (ends_early _ _ c.args.steps _ _ was.before _ _ _ _ c.unwrap_or-most.ensures was.honest (omega (arith, was.counted, c.loop-test.true))
     was.made
     (of_its_step _ _ c.args.store.now.array.table _ _ (Err c.in_err-progress.field-0.0)
-    c.args.store.now.array.its_slots.of_format_one c.rebuild_rows-rows.ensures c.in_err-progress.ensures.rebuilds)
+    (steps_on _ was.before _ _ was.made).geometry c.rebuild_rows-rows.ensures c.in_err-progress.ensures.rebuilds)
     (none_refused _))
 
 pub returns-in-Complete-clause-honest : goal.returns-in-Complete-clause-honest
@@ -57,7 +57,7 @@ returns-in-Complete-clause-rebuilds g c =
     let was = c.loop.invariant in
     ends_early _ _ c.args.steps _ _ was.before _ _ _ _ c.unwrap_or-most.ensures was.honest (omega (arith, was.counted, c.loop-test.true)) was.made
     (of_its_step _ _ c.args.store.now.array.table _ _ (Ok (progress_by c.in_ok-progress.progress))
-    c.args.store.now.array.its_slots.of_format_one c.rebuild_rows-rows.ensures
+    (steps_on _ was.before _ _ was.made).geometry c.rebuild_rows-rows.ensures
     c.in_ok-progress.ensures.rebuilds) (none_answered _ c.in-Complete.is)
 
 pub returns-clause-honest : goal.returns-clause-honest
@@ -71,5 +71,5 @@ returns-clause-rebuilds g c =
     let was = c.loop.invariant in
     ends_last _ _ c.args.steps _ _ was.before _ _ _ _ c.unwrap_or-most.ensures c.rows.ensures was.honest
     (omega (arith, was.counted, was.within, c.loop-test.false)) was.made
-    (of_its_step _ _ c.args.store.now.array.table _ _ _ c.args.store.now.array.its_slots.of_format_one c.rebuild_rows-rows.ensures
+    (of_its_step _ _ c.args.store.now.array.table _ _ _ (steps_on _ was.before _ _ was.made).geometry c.rebuild_rows-rows.ensures
     c.rebuild_step-2.ensures.rebuilds)

@@ -41,5 +41,4 @@ returns-clause-rebuilds g c =
       kept = kept_by_code old new c.rebuild_step-answer.result
           record { going = c.in_default.is; same = c.end_by.ensures.table; going_on = c.end_by.ensures.going_on; ended = c.end_by.ensures.ended };
       steps = c.rebuild_step-answer.ensures.steps;
-      of_format_one = its.of_format_one;
     })

@@ -1,5 +1,5 @@
 -- What the contracts of the program's commands say is something that was done on a bank.
-use Rattle.std.proofs.Common.{◌+◌, arith, ◌≡◌, inl, inr, ℕ, zero, suc, Bool, List, [], ◌∷◌, ◌++◌, Option, Some, None, Result, refl, sym, ap, subst, subst₂}
+use Rattle.std.proofs.Common.{◌+◌, arith, ◌≡◌, inl, inr, ℕ, zero, suc, Bool, List, [], ◌∷◌, ◌++◌, Option, Some, None, Result, replicate, refl, sym, ap, ◌∙◌, subst, subst₂}
 use Rattle.std.proofs.lemmas.List.{append-nil}
 use Rattle.sector_model.specs.declared.refusal.Refusal.{Refusal}
 use Rattle.sector_model.specs.declared.refusal.Refusal.TheVariants.{BadLine, TwoLost, Worn}

@@ -1,10 +1,10 @@
 //! The table on the devices: what stands in it, in which order its volumes are listed, and one that is damaged.
-use layout_map::Format;
 use super::Answer::Done;
 use super::Call::{Create, Extend, Remove};
 use super::Step::{Do, Holds, Table};
 use super::{SET_A, Step, assembled, check_new, fresh_store, image_now};
 use crate::testing::same;
+use layout_map::Format;
 use sector_model::{Bank, Image, Refusal};
 use std::process::Abort;
 use volume_table::Store;

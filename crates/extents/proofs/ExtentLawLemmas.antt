@@ -1,20 +1,22 @@
 -- The laws of maps of extents.
-use Rattle.std.proofs.Common.{◌≡◌, ◌≢◌, inl, inr, ℕ, zero, suc, ◌+◌, ◌-◌, ◌*◌, ◌/◌, ◌<◌, ◌≤◌, ◌==◌, nat_lt, min, Bool, true, false, cond, List, [], ◌∷◌, length}
+use Rattle.std.proofs.Common.{◌≡◌, ◌≢◌, inl, inr, ℕ, zero, suc, ◌+◌, ◌-◌, ◌*◌, ◌<◌, ◌≤◌, ◌==◌, nat_lt, min, Bool, true, false, cond, List, [], ◌∷◌, length}
 use Rattle.std.proofs.Common.{take, count_by, Option, Some, None, is_none, is_some, get_or, refl, sym, ◌∙◌, ap, subst, arith}
 use Rattle.std.proofs.lemmas.Bool.{cases_lt, cases_eq}
 use Rattle.std.proofs.lemmas.Bool.Decides.{nat_tests}
 use Rattle.std.proofs.lemmas.List.{take_all, ext_get_or}
 use Rattle.std.proofs.lemmas.List.Sums.{count_by_more_yes, count_by_more_no}
+use Rattle.extents.specs.declared.extent_layout.ExtentLayout.{ExtentLayout}
 use Rattle.extents.specs.declared.owned.Owned.{Owned}
 use Rattle.extents.specs.Owners.{owner_of, IsAt, HasPlaces}
 use Rattle.extents.specs.ExtentMaps.{IsExtentMap, free_of, free_below, is_of, count_of, AreAppended, IsTaken, IsGivenBack, HasPlace, IsWhere}
+use Rattle.extents.specs.ExtentMaps.{place_of}
 use Rattle.extents.specs.ExtentLaws.{counted_below, IsCounted, TakingKeeps, GivingBackKeeps}
 use Rattle.extents.proofs.OwnerLemmas.{HasOwner, free_or_owned, owned_is_within, owned_is_not_free, owner_is_one}
+use Rattle.extents.proofs.Blocks.{block_is_one, sector_is_of_one, sector_within}
 use Rattle.extents.proofs.CountLemmas.{count_cons, count_same, count_none, count_parts, count_of_places}
 use Rattle.extents.proofs.TakeLemmas.{free_below_free, free_below_owned}
 use Rattle.extents.proofs.MapLemmas.{free_below_later, free_below_rises, kept_or_fresh, taken_kept, taken_places, taken_is_map, given_kept, given_none_left}
 use Rattle.extents.proofs.MapLemmas.{given_is_map}
-use Rattle.layout_map.specs.declared.sizes.TheConstants.{EXTENT_SECTORS, RESERVED_SECTORS}
 use Rattle.extents.specs.declared.volume_table.TheConstants.{MOST_VOLUMES}
 
 -- an extent with this owner is that of a volume below this one
@@ -283,22 +285,20 @@ giving_back_keeps old new volume map given = record {
 }
 
 -- a block lies in one of the extents
-pub block_is_within : (owners : List (Option Owned)) (volume block sector : ℕ) → HasPlace owners volume (block / EXTENT_SECTORS)
-    → IsWhere owners volume block sector
-    → (RESERVED_SECTORS ≤ sector) × (sector < RESERVED_SECTORS + EXTENT_SECTORS * length owners)
-block_is_within owners volume block sector there is =
+pub block_is_within : (extents : ExtentLayout) (owners : List (Option Owned)) (volume block sector : ℕ) → HasPlace owners volume (place_of extents block)
+    → IsWhere extents owners volume block sector
+    → (extents.first ≤ sector) × (sector < extents.first + length owners * extents.blocks)
+block_is_within extents owners volume block sector there is =
     let is_sector = is there.0 there.1 in
-    let within = owned_is_within owners there.0 volume (block / EXTENT_SECTORS) there.1 in
-    (omega arith, omega arith)
+    let within = owned_is_within owners there.0 volume (place_of extents block) there.1 in
+    (omega (arith, is_sector), omega (arith, is_sector, sector_within extents there.0 block (length owners) within))
 
 -- no two blocks lie in one sector
-pub sector_is_one : (owners : List (Option Owned)) (volume block other block' sector : ℕ) → HasPlace owners volume (block / EXTENT_SECTORS)
-    → HasPlace owners other (block' / EXTENT_SECTORS)
-    → IsWhere owners volume block sector → IsWhere owners other block' sector → (volume ≡ other) × (block ≡ block')
-sector_is_one owners volume block other block' sector there also is or_is =
-    let one = is there.0 there.1 in
-    let two = or_is also.0 also.1 in
-    let same_extent : there.0 ≡ also.0 = omega arith in
-    let owner = owner_is_one owners also.0 volume (block / EXTENT_SECTORS) other (block' / EXTENT_SECTORS)
-    (subst (λ e. IsAt owners e volume (block / EXTENT_SECTORS)) same_extent there.1) also.1 in
-    (owner.0, omega (arith, owner.1))
+pub sector_is_one : (extents : ExtentLayout) (owners : List (Option Owned)) (volume block other block' sector : ℕ)
+    → HasPlace owners volume (place_of extents block) → HasPlace owners other (place_of extents block')
+    → IsWhere extents owners volume block sector → IsWhere extents owners other block' sector → (volume ≡ other) × (block ≡ block')
+sector_is_one extents owners volume block other block' sector there also is or_is =
+    let parts = sector_is_of_one extents there.0 also.0 block block' (sym (is there.0 there.1) ∙ or_is also.0 also.1) in
+    let owner = owner_is_one owners also.0 volume (place_of extents block) other (place_of extents block')
+    (subst (λ e. IsAt owners e volume (place_of extents block)) parts.0 there.1) also.1 in
+    (owner.0, block_is_one extents.blocks block block' owner.1 parts.1)

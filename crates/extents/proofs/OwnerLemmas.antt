@@ -4,7 +4,7 @@ use Rattle.std.proofs.lemmas.Bool.{cases_lt}
 use Rattle.std.proofs.lemmas.List.{get_or_past}
 use Rattle.std.proofs.lemmas.Option.{none-some}
 use Rattle.extents.specs.declared.owned.Owned.{Owned}
-use Rattle.extents.specs.Owners.{owner_of, IsAt}
+use Rattle.extents.specs.Owners.{owner_of, IsAt, HasPlaces}
 
 -- an extent that is some volume's
 pub record HasOwner (owners : List (Option Owned)) (extent : ℕ) : Type 0 where
@@ -52,3 +52,12 @@ owner_is owned volume place same_volume same_place =
     let by_volume : Some owned ≡ Some record { volume = volume; place = owned.place } =
     ap (λ (v : ℕ). Some record { volume = v; place = owned.place }) same_volume in
     by_volume ∙ ap (λ (p : ℕ). Some record { volume = volume; place = p }) same_place
+
+-- a volume has the same places in owners that are the same
+pub places_by_owner : (owners other : List (Option Owned)) (volume n : ℕ) → ((extent : ℕ) → owner_of other extent ≡ owner_of owners extent)
+    → HasPlaces owners volume n → HasPlaces other volume n
+places_by_owner owners other volume n same has = record {
+  extent_at = λ place within. let at = has.extent_at place within in (at.0, same at.0 ∙ at.1);
+  below = λ extent place at. has.below extent place (sym (same extent) ∙ at);
+  once = λ first second place one two. has.once first second place (sym (same first) ∙ one) (sym (same second) ∙ two);
+}

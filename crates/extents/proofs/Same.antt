@@ -3,9 +3,11 @@ use Rattle.std.proofs.Common.{◌≡◌, ℕ, ◌≤◌, List, Option, Some, Non
 use Rattle.std.specs.Prelude.{◌↔◌, IsSome, IfSome}
 use Rattle.std.proofs.Props.{props}
 use mathlib.Core.HLevel.{is_prop→PathP}
+use Rattle.extents.specs.declared.extent_layout.ExtentLayout.{ExtentLayout}
 use Rattle.extents.specs.declared.name.Name.{Name}
 use Rattle.extents.specs.declared.record.Record.{Record}
 use Rattle.extents.specs.declared.volume_table.VolumeTable.{VolumeTable}
+use Rattle.extents.specs.Layouts.{IsExtentLayout}
 use Rattle.extents.specs.Names.{IsGoodName}
 use Rattle.extents.specs.VolumeTables.{IsVolumeTable}
 use Rattle.extents.specs.declared.record.TheConstants.{MOST_BLOCKS}
@@ -28,6 +30,17 @@ same_record a b name blocks = λ i. record {
   blocks = blocks i;
   some = is_prop→PathP (λ j. 1 ≤ blocks j) (λ j. hlevel props) a.some b.some i;
   most = is_prop→PathP (λ j. blocks j ≤ MOST_BLOCKS) (λ j. hlevel props) a.most b.most i;
+}
+
+IsExtentLayout-prop : (first blocks count : ℕ) → IsProp (IsExtentLayout first blocks count)
+IsExtentLayout-prop first blocks count = hlevel props
+
+pub same_layout : (a b : ExtentLayout) → a.first ≡ b.first → a.blocks ≡ b.blocks → a.count ≡ b.count → a ≡ b
+same_layout a b first blocks count = λ i. record {
+  first = first i;
+  blocks = blocks i;
+  count = count i;
+  limits = is_prop→PathP (λ j. IsExtentLayout (first j) (blocks j) (count j)) (λ j. IsExtentLayout-prop (first j) (blocks j) (count j)) a.limits b.limits i;
 }
 
 pub same_table : (a b : VolumeTable) → a.version ≡ b.version → a.records ≡ b.records → a.extents ≡ b.extents → a ≡ b

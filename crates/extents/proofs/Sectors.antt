@@ -6,21 +6,24 @@ use Rattle.std.specs.Option.{is_none}
 use Rattle.std.proofs.Props.{props}
 use Rattle.std.proofs.Math.Logic.{∥∥₁_elim}
 use Rattle.std.proofs.lemmas.Bool.{cases_lt, ne_eqb, le-ltb, lt-ltb}
-use Rattle.std.proofs.lemmas.List.{get_or_past, get_or-take, get_or-drop, length-take, length-take-le}
+use Rattle.std.proofs.lemmas.List.{get_or-take, get_or-drop, length-take, length-take-le}
+use Rattle.std.proofs.lemmas.List.Sums.{count_by-le-length}
 use Rattle.std.proofs.lemmas.List.FromFn.{length-map-range_with_len, get_or-map-range_with_len, fill_by_all}
 use Rattle.extents.specs.declared.owned.Owned.{Owned}
 use Rattle.extents.specs.declared.record.Record.{Record}
 use Rattle.extents.specs.declared.volume_table.VolumeTable.{VolumeTable}
 use Rattle.extents.specs.Cells.{SpellRecords, SpellExtents, OwnersHaveRoom, AreRecordsAt}
+use Rattle.extents.specs.ExtentMaps.{is_of}
 use Rattle.extents.specs.TableSpelling.{record_bytes, owner_bytes, record_sector, extent_sector, first_sector, sector_of, spelling, Spell}
 use Rattle.extents.specs.Versions.{IsVersion, most_volumes, record_width, records_a_sector, record_sectors, table_length}
-use Rattle.extents.specs.VolumeTables.{record_of, extents_of, IsShort, AreOfVersion, IsVolumeTable}
+use Rattle.extents.specs.VolumeTables.{record_of, IsShort, AreOfVersion, IsVolumeTable}
 use Rattle.extents.proofs.Cells.{cells_of_sectors, sectors_of_cells, cut}
+use Rattle.extents.proofs.CountLemmas.{count_of_places}
 use Rattle.extents.proofs.Spelled.{length-record_bytes, length-owner_bytes}
-use Rattle.extents.proofs.Tables.{table_owners, all_of_version}
+use Rattle.extents.proofs.Tables.{all_of_version}
 use Rattle.extents.proofs.Versions.{numbers_fit, width_all, records_all, table_length_is}
 use Rattle.extents.specs.declared.volume_table.TheConstants.{MOST_VOLUMES}
-use Rattle.layout_map.specs.declared.sizes.TheConstants.{EXTENT_SECTORS, MOST_EXTENTS}
+use Rattle.layout_map.specs.declared.sizes.TheConstants.{MOST_EXTENTS}
 
 pub length-spelling : (version : ℕ) (records : List (Option Record)) (extents : List (Option Owned))
     → length (spelling version records extents) ≡ table_length version
@@ -167,19 +170,14 @@ module _ (version : ℕ) (records : List (Option Record)) (extents : List (Optio
 
 -- ---- what a table has
 
-extents_most : (one : Option Record) → extents_of EXTENT_SECTORS one ≤ MOST_EXTENTS
-extents_most None = omega arith
-extents_most (Some used) = let most = used.most in omega arith
-
 room_of : {version : ℕ} (records : List (Option Record)) (extents : List (Option Owned)) → IsVolumeTable version records extents → OwnersHaveRoom extents
 room_of records extents table number owner at =
-    let within = (table_owners records extents table number owner at).within in
-    let most = extents_most (record_of records owner.volume) in
-    let long = table.all_records in
+    let its = table.map.places owner.volume in
+    let below = its.1.below number owner.place at in
+    let few = count_by-le-length (is_of owner.volume) extents in
     record {
-      volume = ⊎_elim (λ below. omega arith) (λ beyond. absurd (let none : extents_of EXTENT_SECTORS (record_of records owner.volume) ≡ 0 =
-          ap (extents_of EXTENT_SECTORS) (get_or_past records owner.volume None (omega arith)) in omega arith)) (cases_lt owner.volume MOST_VOLUMES);
-      place = omega arith;
+      volume = omega (arith, table.map.volumes number owner.volume owner.place at);
+      place = omega (arith, below, count_of_places extents owner.volume its.0 its.1, few, table.all_extents);
     }
 
 pub table_room : {version : ℕ} (records : List (Option Record)) (extents : List (Option Owned)) → ∥ IsVolumeTable version records extents ∥₁

@@ -9,11 +9,11 @@ use Rattle.extents.specs.declared.owned.Owned.{Owned}
 use Rattle.extents.specs.declared.record.Record.{Record}
 use Rattle.extents.specs.declared.volume_table.VolumeTable.{VolumeTable}
 use Rattle.extents.specs.Cells.{cell, SpellRecords, SpellExtents, OwnerHasRoom}
-use Rattle.extents.specs.Owners.{owner_of}
+use Rattle.extents.specs.Owners.{owner_of, HasPlaces}
 use Rattle.extents.specs.TableLaw.{IsEmpty}
 use Rattle.extents.specs.TableSpelling.{zeros, record_bytes, owner_bytes, record_sector, extent_sector, first_sector, sector_of, spelling, table_sectors, Spell}
 use Rattle.extents.specs.Versions.{most_volumes, record_width, records_a_sector, record_sectors, table_length}
-use Rattle.extents.specs.VolumeTables.{record_of, extents_of, IsShort, IsVolumeTable}
+use Rattle.extents.specs.VolumeTables.{record_of, IsShort, IsVolumeTable}
 use Rattle.extents.proofs.Bytes.{length-zeros, drop-zeros}
 use Rattle.extents.proofs.Cells.{length-cells_of}
 use Rattle.extents.proofs.Same.{same_record, same_table}
@@ -25,7 +25,7 @@ use Rattle.extents.proofs.Spelled.{length-record_bytes, length-owner_bytes, not_
 use Rattle.extents.proofs.Spelled.{number_of_owner, place_of_owner, same_owner}
 use Rattle.extents.proofs.Tables.{table_from}
 use Rattle.extents.specs.declared.volume_table.TheConstants.{MOST_VOLUMES}
-use Rattle.layout_map.specs.declared.sizes.TheConstants.{EXTENT_SECTORS, MOST_EXTENTS}
+use Rattle.layout_map.specs.declared.sizes.TheConstants.{MOST_EXTENTS}
 
 -- ---- a table fills the sectors of its version
 
@@ -308,9 +308,19 @@ empty_table =
     })
     length-no_records length-no_owners
     (λ i j first second at other same. absurd (let none : record_of no_records i ≡ None = no_record_at i in let no : ⊥ = cc in no))
-    (λ extent owner at. absurd (let none : owner_of no_owners extent ≡ None = no_owner_at extent in let no : ⊥ = cc in no))
-    (λ volume below place within. absurd (let none : extents_of EXTENT_SECTORS (record_of no_records volume) ≡ 0 =
-    ap (extents_of EXTENT_SECTORS) (no_record_at volume) in omega arith))
+    (record {
+      at_most = omega (arith, length-no_owners);
+      volumes =
+          λ extent volume place at. absurd (let none : owner_of no_owners extent ≡ None = no_owner_at extent in let no : ⊥ = cc in no);
+      places = λ volume. (0, none_has_places volume);
+    })
+  where
+    none_has_places : (volume : ℕ) → HasPlaces no_owners volume 0
+    none_has_places volume = record {
+      extent_at = λ place within. absurd (omega (arith, within));
+      below = λ extent place at. absurd (let none : owner_of no_owners extent ≡ None = no_owner_at extent in let no : ⊥ = cc in no);
+      once = λ first second place one other. absurd (let none : owner_of no_owners first ≡ None = no_owner_at first in let no : ⊥ = cc in no);
+    }
 
 pub empty_exists : ∥ ((table : VolumeTable) × IsEmpty table) ∥₁
 empty_exists = ∣ (

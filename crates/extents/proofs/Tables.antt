@@ -1,5 +1,5 @@
 -- What the checks find out is what makes a table.
-use Rattle.std.proofs.Common.{◌≡◌, ℕ, ◌<◌, ◌≤◌, Bool, true, false, not, List, Option, Some, None, length, get_or, refl, sym, ◌∙◌, ap, ◌⊎◌, ⊎_elim, eqb, arith}
+use Rattle.std.proofs.Common.{◌≡◌, ℕ, ◌<◌, ◌≤◌, Bool, true, false, not, List, Option, Some, None, length, get_or, refl, sym, ◌∙◌, ap, ◌⊎◌, inl, inr, ⊎_elim, eqb, arith}
 use Rattle.std.specs.Option.{MatchOption, option_eq, is_some}
 use Rattle.std.specs.Str.{bytes_eq}
 use Rattle.std.proofs.lemmas.Bool.{eqb-true, eq-eqb, cases_lt}
@@ -10,24 +10,25 @@ use Rattle.std.proofs.lemmas.Slice.Eq.{bytes_eq-Decides}
 use Rattle.std.proofs.lemmas.List.{get_or_past, get_or_default}
 use Rattle.extents.specs.declared.owned.Owned.{Owned}
 use Rattle.extents.specs.declared.record.Record.{Record}
-use Rattle.extents.specs.Owners.{owner_of, HasPlaces}
-use Rattle.extents.specs.VolumeTables.{record_of, extents_of, AreDistinct, AreOfVersion, IsShort, IsVolumeTable}
+use Rattle.extents.specs.ExtentMaps.{IsExtentMap}
+use Rattle.extents.specs.Owners.{HasPlaces, IsAt}
+use Rattle.extents.specs.VolumeTables.{record_of, extents_of, AreDistinct, AreOfVersion, HaveTheirPlaces, IsShort, IsVolumeTable}
 use Rattle.extents.specs.Versions.{IsVersion, most_volumes}
 use Rattle.extents.specs.Checks.{IsNamed, IsFirstNamed, IsFirstAt, OwnersFit, AllPlacesOccur}
-use Rattle.layout_map.specs.declared.sizes.TheConstants.{EXTENT_SECTORS, MOST_EXTENTS}
+use Rattle.layout_map.specs.declared.sizes.TheConstants.{MOST_EXTENTS}
 use Rattle.extents.specs.declared.volume_table.TheConstants.{MOST_VOLUMES}
 
 -- a record after the last takes no extent
-none_beyond_end : (records : List (Option Record)) (volume : ℕ) → length records ≡ MOST_VOLUMES → MOST_VOLUMES ≤ volume
-    → extents_of EXTENT_SECTORS (record_of records volume) ≡ 0
-none_beyond_end records volume long beyond = ap (extents_of EXTENT_SECTORS) (get_or_past records volume None (omega arith))
+none_beyond_end : (each : ℕ) (records : List (Option Record)) (volume : ℕ) → length records ≡ MOST_VOLUMES → MOST_VOLUMES ≤ volume
+    → extents_of each (record_of records volume) ≡ 0
+none_beyond_end each records volume long beyond = ap (extents_of each) (get_or_past records volume None (omega arith))
 
 -- each volume has its places
-places_from : (records : List (Option Record)) (extents : List (Option Owned)) → length records ≡ MOST_VOLUMES → OwnersFit EXTENT_SECTORS records extents
-    → AllPlacesOccur EXTENT_SECTORS records extents
-    → (volume : ℕ) → (volume < MOST_VOLUMES) ⊎ (MOST_VOLUMES ≤ volume) → HasPlaces extents volume (extents_of EXTENT_SECTORS (record_of records volume))
-places_from records extents long fit occur volume side = record {
-  extent_at = ⊎_elim (λ below. occur volume below) (λ beyond place within. absurd (omega (arith, none_beyond_end records volume long beyond))) side;
+places_from : (each : ℕ) (records : List (Option Record)) (extents : List (Option Owned)) → length records ≡ MOST_VOLUMES → OwnersFit each records extents
+    → AllPlacesOccur each records extents
+    → (volume : ℕ) → (volume < MOST_VOLUMES) ⊎ (MOST_VOLUMES ≤ volume) → HasPlaces extents volume (extents_of each (record_of records volume))
+places_from each records extents long fit occur volume side = record {
+  extent_at = ⊎_elim (λ below. occur volume below) (λ beyond place within. absurd (omega (arith, none_beyond_end each records volume long beyond))) side;
   below = λ extent place at. (fit extent (record { volume = volume; place = place }) at).within;
   once = λ first second place one other.
       let owner : Owned = record { volume = volume; place = place } in
@@ -36,33 +37,49 @@ places_from records extents long fit occur volume side = record {
       omega arith;
 }
 
+pub places_found : (each : ℕ) (records : List (Option Record)) (extents : List (Option Owned)) → length records ≡ MOST_VOLUMES → OwnersFit each records extents
+    → AllPlacesOccur each records extents → HaveTheirPlaces each records extents
+places_found each records extents long fit occur volume = places_from each records extents long fit occur volume (cases_lt volume MOST_VOLUMES)
+
+-- extents that are those of records are a map
+pub placed_is_map : (each : ℕ) (records : List (Option Record)) (extents : List (Option Owned)) → length records ≡ MOST_VOLUMES → length extents ≡ MOST_EXTENTS
+    → HaveTheirPlaces each records extents → IsExtentMap extents
+placed_is_map each records extents long all placed = record {
+  at_most = omega (arith, all);
+  volumes = λ extent volume place at. elim (cases_lt volume MOST_VOLUMES) [
+    | inl below ↦ below
+    | inr beyond ↦ absurd (omega (arith, none_beyond_end each records volume long beyond, (placed volume).below extent place at))
+  ];
+  places = λ volume. (extents_of each (record_of records volume), placed volume);
+}
+
 -- what the checks find makes a table
 pub table_from : (version : ℕ) (records : List (Option Record)) (extents : List (Option Owned)) → IsVersion version → AreOfVersion version records
     → length records ≡ MOST_VOLUMES → length extents ≡ MOST_EXTENTS
-    → AreDistinct records → OwnersFit EXTENT_SECTORS records extents → AllPlacesOccur EXTENT_SECTORS records extents → IsVolumeTable version records extents
-table_from version records extents is_version of_version all_records all_extents distinct fit occur = record {
+    → AreDistinct records → IsExtentMap extents → IsVolumeTable version records extents
+table_from version records extents is_version of_version all_records all_extents distinct map = record {
   is_version = is_version;
   of_version = of_version;
   all_records = all_records;
   all_extents = all_extents;
   distinct = distinct;
-  places = λ volume. places_from records extents all_records fit occur volume (cases_lt volume MOST_VOLUMES);
+  map = map;
 }
 
 -- the owners of a table fit
-pub table_owners : {version : ℕ} (records : List (Option Record)) (extents : List (Option Owned)) → IsVolumeTable version records extents
-    → OwnersFit EXTENT_SECTORS records extents
-table_owners records extents table extent owner at = record {
-  within = (table.places owner.volume).below extent owner.place at;
+pub table_owners : (each : ℕ) (records : List (Option Record)) (extents : List (Option Owned)) → HaveTheirPlaces each records extents
+    → OwnersFit each records extents
+table_owners each records extents placed extent owner at = record {
+  within = (placed owner.volume).below extent owner.place at;
   first = λ other same.
-      let one : extent ≡ other = (table.places owner.volume).once extent other owner.place at same in
+      let one : extent ≡ other = (placed owner.volume).once extent other owner.place at same in
       omega arith;
 }
 
 -- the places of a table occur
-pub table_places : {version : ℕ} (records : List (Option Record)) (extents : List (Option Owned)) → IsVolumeTable version records extents
-    → AllPlacesOccur EXTENT_SECTORS records extents
-table_places records extents table volume below = (table.places volume).extent_at
+pub table_places : (each : ℕ) (records : List (Option Record)) (extents : List (Option Owned)) → HaveTheirPlaces each records extents
+    → AllPlacesOccur each records extents
+table_places each records extents placed volume below = (placed volume).extent_at
 
 -- what was read within a list of options
 pub read_at : {X : Type 0} (xs : List (Option X)) (i : ℕ) (x : Option X) → i < length xs → x ≡ get_or xs i x → get_or xs i None ≡ x
@@ -117,22 +134,22 @@ found_named records number bytes (Some i) found same =
     }
 
 -- an owner that fits is found first at its extent
-pub first_owner : (extents : List (Option Owned)) (extent : ℕ) (owner : Owned) → owner_of extents extent ≡ Some owner
-    → ((other : ℕ) → owner_of extents other ≡ Some owner → extent ≤ other)
-    → (r : Option ℕ) → MatchOption r ((e : ℕ) → owner_of extents e ≡ Some owner → ⊥) (λ e. IsFirstAt extents owner e) → r ≡ Some extent
-first_owner extents extent owner at least None none = absurd (none extent at)
-first_owner extents extent owner at least (Some e) found =
+pub first_owner : (extents : List (Option Owned)) (extent volume place : ℕ) → IsAt extents extent volume place
+    → ((other : ℕ) → IsAt extents other volume place → extent ≤ other)
+    → (r : Option ℕ) → MatchOption r ((e : ℕ) → IsAt extents e volume place → ⊥) (λ e. IsFirstAt extents volume place e) → r ≡ Some extent
+first_owner extents extent volume place at least None none = absurd (none extent at)
+first_owner extents extent volume place at least (Some e) found =
     let up : e ≤ extent = found.first extent at in
     let down : extent ≤ e = least e found.at in
     let one : e ≡ extent = omega arith in
     ap Some one
 
 -- the extent that was found
-pub found_owner : (extents : List (Option Owned)) (extent : ℕ) (owner : Owned) (r : Option ℕ)
-    → MatchOption r ((e : ℕ) → owner_of extents e ≡ Some owner → ⊥) (λ e. IsFirstAt extents owner e) → r ≡ Some extent
-    → (other : ℕ) → owner_of extents other ≡ Some owner → extent ≤ other
-found_owner extents extent owner None none same = absurd (let no : ⊥ = cc in no)
-found_owner extents extent owner (Some e) found same = λ other at.
+pub found_owner : (extents : List (Option Owned)) (extent volume place : ℕ) (r : Option ℕ)
+    → MatchOption r ((e : ℕ) → IsAt extents e volume place → ⊥) (λ e. IsFirstAt extents volume place e) → r ≡ Some extent
+    → (other : ℕ) → IsAt extents other volume place → extent ≤ other
+found_owner extents extent volume place None none same = absurd (let no : ⊥ = cc in no)
+found_owner extents extent volume place (Some e) found same = λ other at.
     let one : e ≡ extent = cc in
     let least : e ≤ other = found.first other at in
     omega arith
@@ -145,19 +162,19 @@ pub not_false : {b : Bool} → not b ≡ false → b ≡ true
 not_false {b = true} h = refl
 not_false {b = false} h = sym h
 
--- an owner whose first extent was found occurs
-pub occurs_found : (extents : List (Option Owned)) (owner : Owned) (r : Option ℕ)
-    → MatchOption r ((e : ℕ) → owner_of extents e ≡ Some owner → ⊥) (λ e. IsFirstAt extents owner e)
-    → is_some r ≡ true → (extent : ℕ) × (owner_of extents extent ≡ Some owner)
-occurs_found extents owner None none some = absurd (let no : ⊥ = cc in no)
-occurs_found extents owner (Some e) found some = (e, found.at)
+-- a place whose first extent was found occurs
+pub occurs_found : (extents : List (Option Owned)) (volume place : ℕ) (r : Option ℕ)
+    → MatchOption r ((e : ℕ) → IsAt extents e volume place → ⊥) (λ e. IsFirstAt extents volume place e)
+    → is_some r ≡ true → (extent : ℕ) × IsAt extents extent volume place
+occurs_found extents volume place None none some = absurd (let no : ⊥ = cc in no)
+occurs_found extents volume place (Some e) found some = (e, found.at)
 
--- an owner of which none was found does not
-pub occurs_not : (extents : List (Option Owned)) (owner : Owned) (r : Option ℕ)
-    → MatchOption r ((e : ℕ) → owner_of extents e ≡ Some owner → ⊥) (λ e. IsFirstAt extents owner e)
-    → is_some r ≡ false → (extent : ℕ) × (owner_of extents extent ≡ Some owner) → ⊥
-occurs_not extents owner None none some at = none at.0 at.1
-occurs_not extents owner (Some e) found some at = cc
+-- one of which none was found does not
+pub occurs_not : (extents : List (Option Owned)) (volume place : ℕ) (r : Option ℕ)
+    → MatchOption r ((e : ℕ) → IsAt extents e volume place → ⊥) (λ e. IsFirstAt extents volume place e)
+    → is_some r ≡ false → (extent : ℕ) × IsAt extents extent volume place → ⊥
+occurs_not extents volume place None none some at = none at.0 at.1
+occurs_not extents volume place (Some e) found some at = cc
 
 -- records are of a version where each of the 64 is short, and there is none from the most volumes of the version on
 pub all_of_version : (version : ℕ) (records : List (Option Record)) → length records ≡ MOST_VOLUMES
@@ -189,7 +206,7 @@ upgraded version records extents table = record {
   all_records = table.all_records;
   all_extents = table.all_extents;
   distinct = table.distinct;
-  places = table.places;
+  map = table.map;
 }
 
 pub table_upgraded : {version : ℕ} (records : List (Option Record)) (extents : List (Option Owned)) → ∥ IsVolumeTable version records extents ∥₁

@@ -15,10 +15,10 @@ pub record IsFirstNamed (records : List (Option Record)) (bytes : List ℕ) (num
   pub named : IsNamed records number bytes
   pub first : (other : ℕ) → IsNamed records other bytes → number ≤ other
 
--- the first extent of an owner
-pub record IsFirstAt (extents : List (Option Owned)) (owner : Owned) (extent : ℕ) : Type 0 where
-  pub at : owner_of extents extent ≡ Some owner
-  pub first : (other : ℕ) → owner_of extents other ≡ Some owner → extent ≤ other
+-- the first extent of a volume at a place
+pub record IsFirstAt (extents : List (Option Owned)) (volume place extent : ℕ) : Type 0 where
+  pub at : IsAt extents extent volume place
+  pub first : (other : ℕ) → IsAt extents other volume place → extent ≤ other
 
 -- an owner's place is one that its volume's length takes by so many blocks an extent, and the owner has no extent before this one
 pub record Fits (each : ℕ) (records : List (Option Record)) (extents : List (Option Owned)) (extent : ℕ) (owner : Owned) : Type 0 where

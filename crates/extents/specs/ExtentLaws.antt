@@ -1,9 +1,9 @@
 -- What holds of every map of extents, and what the taking and the giving back of extents do to it.
-use Rattle.std.specs.Prelude.{◌≡◌, ◌≢◌, ◌↔◌, ℕ, zero, suc, ◌+◌, ◌*◌, ◌/◌, ◌<◌, ◌≤◌, List, Option, None, length}
+use Rattle.std.specs.Prelude.{◌≡◌, ◌≢◌, ◌↔◌, ℕ, zero, suc, ◌+◌, ◌*◌, ◌<◌, ◌≤◌, List, Option, None, length}
+use Rattle.extents.specs.declared.extent_layout.ExtentLayout.{ExtentLayout}
 use Rattle.extents.specs.declared.owned.Owned.{Owned}
 use Rattle.extents.specs.Owners.{owner_of, IsAt, HasPlaces}
-use Rattle.extents.specs.ExtentMaps.{IsExtentMap, free_of, count_of, IsTaken, IsGivenBack, HasPlace, IsWhere}
-use Rattle.layout_map.specs.declared.sizes.TheConstants.{EXTENT_SECTORS, RESERVED_SECTORS}
+use Rattle.extents.specs.ExtentMaps.{IsExtentMap, free_of, count_of, IsTaken, IsGivenBack, HasPlace, IsWhere, place_of}
 use Rattle.extents.specs.declared.volume_table.TheConstants.{MOST_VOLUMES}
 
 -- how many extents the volumes below this one have
@@ -58,14 +58,14 @@ pub record GivingBackKeeps (old new : List (Option Owned)) (volume : ℕ) : Type
 abbrev pub GivingBackKeepsMaps : Type 0
 GivingBackKeepsMaps = (old new : List (Option Owned)) (volume : ℕ) → IsExtentMap old → IsGivenBack old new volume → GivingBackKeeps old new volume
 
--- a block of a volume lies in one of the extents, above the 64 reserved sectors
+-- a block of a volume lies in one of the extents, wherever these lie
 abbrev pub BlocksAreWithin : Type 0
-BlocksAreWithin = (owners : List (Option Owned)) (volume block sector : ℕ) → HasPlace owners volume (block / EXTENT_SECTORS)
-    → IsWhere owners volume block sector
-    → (RESERVED_SECTORS ≤ sector) × (sector < RESERVED_SECTORS + EXTENT_SECTORS * length owners)
+BlocksAreWithin = (extents : ExtentLayout) (owners : List (Option Owned)) (volume block sector : ℕ) → HasPlace owners volume (place_of extents block)
+    → IsWhere extents owners volume block sector
+    → (extents.first ≤ sector) × (sector < extents.first + length owners * extents.blocks)
 
 -- no two blocks, of one volume or of two, lie in one logical sector
 abbrev pub NoSectorIsShared : Type 0
-NoSectorIsShared = (owners : List (Option Owned)) (volume block other block' sector : ℕ) → HasPlace owners volume (block / EXTENT_SECTORS)
-    → HasPlace owners other (block' / EXTENT_SECTORS)
-    → IsWhere owners volume block sector → IsWhere owners other block' sector → (volume ≡ other) × (block ≡ block')
+NoSectorIsShared = (extents : ExtentLayout) (owners : List (Option Owned)) (volume block other block' sector : ℕ)
+    → HasPlace owners volume (place_of extents block) → HasPlace owners other (place_of extents block')
+    → IsWhere extents owners volume block sector → IsWhere extents owners other block' sector → (volume ≡ other) × (block ≡ block')

@@ -1,8 +1,9 @@
 -- Which volume has which extents, and how they are taken and given back.
 use Rattle.std.specs.Prelude.{◌≡◌, ◌≢◌, ◌==◌, ℕ, ◌+◌, ◌*◌, ◌/◌, ◌%◌, ◌<◌, ◌≤◌, Bool, false, List, Option, Some, None, is_none, length, take, count_by}
+use Rattle.extents.specs.declared.extent_layout.ExtentLayout.{ExtentLayout}
 use Rattle.extents.specs.declared.owned.Owned.{Owned}
 use Rattle.extents.specs.Owners.{owner_of, IsAt, HasPlaces}
-use Rattle.layout_map.specs.declared.sizes.TheConstants.{EXTENT_SECTORS, MOST_EXTENTS, RESERVED_SECTORS}
+use Rattle.layout_map.specs.declared.sizes.TheConstants.{MOST_EXTENTS}
 use Rattle.extents.specs.declared.volume_table.TheConstants.{MOST_VOLUMES}
 
 -- the owners of at most 1,024 extents, where each volume is below 64 and has its places from 0 on, without gap or repeat
@@ -59,7 +60,14 @@ pub record IsGivenBack (old new : List (Option Owned)) (volume : ℕ) : Type 0 w
 abbrev pub HasPlace : List (Option Owned) → (volume place : ℕ) → Type 0
 HasPlace owners volume place = (extent : ℕ) × IsAt owners extent volume place
 
--- the logical sector of block k of a volume: it is number k mod 64 of the extent at place k div 64, and extent 0 begins at sector 64
-abbrev pub IsWhere : List (Option Owned) → (volume block sector : ℕ) → Type 0
-IsWhere owners volume block sector = (extent : ℕ) → IsAt owners extent volume (block / EXTENT_SECTORS)
-    → sector ≡ RESERVED_SECTORS + EXTENT_SECTORS * extent + block % EXTENT_SECTORS
+-- the place of a volume's extent that has a block: each has so many
+abbrev pub place_of : ExtentLayout → (block : ℕ) → ℕ
+place_of extents block = block / extents.blocks
+
+-- the logical sector of a block in an extent that is at its place: extents lie one after another, and each begins with the first of its blocks
+abbrev pub sector_of_block : ExtentLayout → (extent block : ℕ) → ℕ
+sector_of_block extents extent block = extents.first + extent * extents.blocks + block % extents.blocks
+
+-- the logical sector of a block of a volume
+abbrev pub IsWhere : ExtentLayout → List (Option Owned) → (volume block sector : ℕ) → Type 0
+IsWhere extents owners volume block sector = (extent : ℕ) → IsAt owners extent volume (place_of extents block) → sector ≡ sector_of_block extents extent block

@@ -3,8 +3,10 @@ pub mod Checks
 pub mod ExtentIndexes
 pub mod ExtentLaws
 pub mod ExtentMaps
+pub mod Layouts
 pub mod Names
 pub mod Owners
+pub mod SetExtents
 pub mod TableLaw
 pub mod TableSpelling
 pub mod Versions

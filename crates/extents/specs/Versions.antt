@@ -1,6 +1,5 @@
 -- What the version of a table of volumes decides. A set that was just made has version 1; version 2 has more volumes, with longer names.
 use Rattle.std.specs.Prelude.{ℕ, ◌+◌, ◌==◌, ◌≤◌, if◌then◌else◌}
-use Rattle.layout_map.specs.declared.sizes.TheConstants.{EXTENT_SECTORS}
 use Rattle.extents.specs.declared.record.TheConstants.{MOST_BLOCKS}
 use Rattle.extents.specs.declared.version.TheConstants.{FIRST_VERSION, LAST_VERSION}
 
@@ -35,10 +34,6 @@ record_sectors version = by_version version 2 16
 -- where a record has its number of blocks
 unfoldable pub blocks_at : ℕ → ℕ
 blocks_at version = by_version version 28 64
-
--- the blocks of an extent: as many as the sectors that the set's geometry counts extents by
-abbrev pub extent_blocks : ℕ → ℕ
-extent_blocks version = EXTENT_SECTORS
 
 -- the most blocks of a volume
 abbrev pub most_blocks : ℕ → ℕ

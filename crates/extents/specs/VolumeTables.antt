@@ -2,8 +2,9 @@
 use Rattle.std.specs.Prelude.{◌≡◌, ◌≤◌, ℕ, ◌+◌, ◌-◌, ◌/◌, List, ◌++◌, Option, Some, None, length, replicate, slice_index_or}
 use Rattle.extents.specs.declared.owned.Owned.{Owned}
 use Rattle.extents.specs.declared.record.Record.{Record}
+use Rattle.extents.specs.ExtentMaps.{IsExtentMap}
 use Rattle.extents.specs.Owners.{HasPlaces}
-use Rattle.extents.specs.Versions.{IsVersion, extent_blocks, most_blocks, most_name_bytes, most_volumes}
+use Rattle.extents.specs.Versions.{IsVersion, most_blocks, most_name_bytes, most_volumes}
 use Rattle.layout_map.specs.declared.sizes.TheConstants.{MOST_EXTENTS}
 use Rattle.extents.specs.declared.volume_table.TheConstants.{MOST_VOLUMES}
 
@@ -53,14 +54,18 @@ pub record AreOfVersion (version : ℕ) (records : List (Option Record)) : Type 
   pub short : (volume : ℕ) → IsShort version (record_of records volume)
   pub sized : (volume : ℕ) → IsSized (most_blocks version) (record_of records volume)
 
--- 64 records of a version, with distinct names, and the owners of 1,024 extents, of which each record has exactly those that its blocks take
+-- 64 records of a version, with distinct names, and a map of 1,024 extents
 pub record IsVolumeTable (version : ℕ) (records : List (Option Record)) (extents : List (Option Owned)) : Type 0 where
   pub is_version : IsVersion version
   pub of_version : AreOfVersion version records
   pub all_records : length records ≡ MOST_VOLUMES
   pub all_extents : length extents ≡ MOST_EXTENTS
   pub distinct : AreDistinct records
-  pub places : (volume : ℕ) → HasPlaces extents volume (extents_of (extent_blocks version) (record_of records volume))
+  pub map : IsExtentMap extents
+
+-- each record has exactly the extents that its blocks take, of which each extent has so many
+abbrev pub HaveTheirPlaces : (each : ℕ) → List (Option Record) → List (Option Owned) → Type 0
+HaveTheirPlaces each records extents = (volume : ℕ) → HasPlaces extents volume (extents_of each (record_of records volume))
 
 -- the owners of 1,024 extents, those of a map first: the others are free
 unfoldable pub owners_padded : List (Option Owned) → List (Option Owned)

@@ -1,14 +1,15 @@
 //! Whether what was read of a table keeps its rules.
-ghost use Rattle.std.specs.Prelude.{◌≡◌, ◌↔◌, ℕ, Some, IsTrue, MatchOption};
-ghost use Rattle.extents.specs.Owners.{owner_of};
-ghost use Rattle.extents.specs.VolumeTables.{record_of, extents_of, AreDistinct, AreOfVersion, IsVolumeTable};
-ghost use Rattle.extents.specs.Versions.{IsVersion, extent_blocks};
+ghost use Rattle.std.specs.Prelude.{◌≡◌, ◌↔◌, ℕ, IsTrue, MatchOption};
+ghost use Rattle.extents.specs.Owners.{IsAt};
+ghost use Rattle.extents.specs.VolumeTables.{record_of, extents_of, AreDistinct, AreOfVersion, HaveTheirPlaces};
+ghost use Rattle.extents.specs.VolumeTables.{IsVolumeTable};
+ghost use Rattle.extents.specs.Versions.{IsVersion};
 ghost use Rattle.extents.specs.Checks.{IsNamed, IsFirstNamed, IsFirstAt, OwnersFit, PlacesOccur, AllPlacesOccur};
 ghost use Rattle.extents.specs.Checks.{AreFreeFrom};
 
-use crate::extent_map::{MAX_EXTENTS, extents_for};
+use crate::extent_map::MAX_EXTENTS;
 use crate::volume_table::MOST_VOLUMES;
-use crate::{Name, Owned, Record};
+use crate::{ExtentLayout, Name, Owned, Record};
 
 // The number of the first record with this name. None where there is none.
 fn first_named(records: &[Option<Record>], name: &Name) -> Option<usize>
@@ -39,13 +40,16 @@ fn are_distinct(records: &[Option<Record>]) -> bool
     true
 }
 
-// The first extent that has this owner. None where there is none.
-fn first_at(extents: &[Option<Owned>], owner: Owned) -> Option<usize>
-    ensures { MatchOption result ((e : ℕ) → owner_of extents.now e ≡ Some owner → ⊥)
-        (λ e. IsFirstAt extents.now owner e) }
+// The first extent that a volume has at this place. None where it has none there.
+fn first_at(extents: &[Option<Owned>], volume: u8, place: u32) -> Option<usize>
+    ensures { MatchOption result ((e : ℕ) → IsAt extents.now e volume place → ⊥)
+        (λ e. IsFirstAt extents.now volume place e) }
 {
-    for (extent, other) in extents.iter().enumerate() {
-        if *other == Some(owner) {
+    for (extent, owner) in extents.iter().enumerate() {
+        if let Some(owner) = owner
+            && owner.volume == volume
+            && u32::from(owner.place) == place
+        {
             return Some(extent);
         }
     }
@@ -53,24 +57,25 @@ fn first_at(extents: &[Option<Owned>], owner: Owned) -> Option<usize>
 }
 
 // How many extents the record of this number takes; none where it is not used or there is no such record.
-fn extents_of_volume(version: u8, records: &[Option<Record>], volume: u8) -> u16
-    ensures { result ≡ extents_of (extent_blocks version) (record_of records.now volume) }
+fn extents_of_volume(layout: &ExtentLayout, records: &[Option<Record>], volume: u8) -> u32
+    ensures { result ≡ extents_of layout.now.blocks (record_of records.now volume) }
 {
     match records.get(usize::from(volume)) {
-        Some(Some(record)) => extents_for(version, record.blocks) as u16,
+        Some(Some(record)) => layout.extents_for(record.blocks),
         _ => 0,
     }
 }
 
 // Whether each extent that is not free has a place that its volume's length takes, and no extent before it has the
 // same.
-fn owners_fit(version: u8, records: &[Option<Record>], extents: &[Option<Owned>]) -> bool
-    ensures { IsTrue result ↔ OwnersFit (extent_blocks version) records.now extents.now }
+fn owners_fit(layout: &ExtentLayout, records: &[Option<Record>], extents: &[Option<Owned>]) -> bool
+    ensures { IsTrue result ↔ OwnersFit layout.now.blocks records.now extents.now }
 {
     for (extent, owner) in extents.iter().enumerate() {
         if let Some(owner) = owner {
-            let within = owner.place < extents_of_volume(version, records, owner.volume);
-            if !within || first_at(extents, *owner) != Some(extent) {
+            let place = u32::from(owner.place);
+            let within = place < extents_of_volume(layout, records, owner.volume);
+            if !within || first_at(extents, owner.volume, place) != Some(extent) {
                 return false;
             }
         }
@@ -79,11 +84,11 @@ fn owners_fit(version: u8, records: &[Option<Record>], extents: &[Option<Owned>]
 }
 
 // Whether the first n places of a volume occur.
-fn places_occur(extents: &[Option<Owned>], volume: u8, n: u16) -> bool
+fn places_occur(extents: &[Option<Owned>], volume: u8, n: u32) -> bool
     ensures { IsTrue result ↔ PlacesOccur extents.now volume n }
 {
     for place in 0..n {
-        if first_at(extents, Owned { volume, place }).is_none() {
+        if first_at(extents, volume, place).is_none() {
             return false;
         }
     }
@@ -91,34 +96,41 @@ fn places_occur(extents: &[Option<Owned>], volume: u8, n: u16) -> bool
 }
 
 // Whether all places that the records' lengths take occur.
-fn all_places_occur(version: u8, records: &[Option<Record>], extents: &[Option<Owned>]) -> bool
-    ensures { IsTrue result ↔ AllPlacesOccur (extent_blocks version) records.now extents.now }
+fn all_places_occur(
+    layout: &ExtentLayout,
+    records: &[Option<Record>],
+    extents: &[Option<Owned>],
+) -> bool
+    ensures { IsTrue result ↔ AllPlacesOccur layout.now.blocks records.now extents.now }
 {
     for volume in 0..MOST_VOLUMES as u8 {
-        if !places_occur(extents, volume, extents_of_volume(version, records, volume)) {
+        if !places_occur(extents, volume, extents_of_volume(layout, records, volume)) {
             return false;
         }
     }
     true
 }
 
-/// Whether these records and owners are a table of this version, which the records are of (condition).
+/// Whether these records and owners are a table of this version, which the records are of (condition), and each record
+/// has exactly the extents that its blocks take in a set whose extents lie so.
 pub fn is_table(
+    layout: &ExtentLayout,
     version: u8,
     records: &[Option<Record>; MOST_VOLUMES],
     extents: &[Option<Owned>; MAX_EXTENTS],
 ) -> bool
     requires is_version { IsVersion version }
     requires of_version { AreOfVersion version records.now }
-    ensures { IsTrue result ↔ ∥ IsVolumeTable version records.now extents.now ∥₁ }
+    ensures { IsTrue result ↔ (∥ IsVolumeTable version records.now extents.now ∥₁
+        × ∥ HaveTheirPlaces layout.now.blocks records.now extents.now ∥₁) }
 {
     if !are_distinct(records) {
         return false;
     }
-    if !owners_fit(version, records, extents) {
+    if !owners_fit(layout, records, extents) {
         return false;
     }
-    all_places_occur(version, records, extents)
+    all_places_occur(layout, records, extents)
 }
 
 /// Whether each extent from this one on is free.

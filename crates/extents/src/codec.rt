@@ -4,7 +4,7 @@ ghost use Rattle.extents.specs.declared.owned.Owned.{Owned};
 ghost use Rattle.extents.specs.declared.record.Record.{Record};
 ghost use Rattle.extents.specs.declared.volume_table.VolumeTable.{VolumeTable};
 ghost use Rattle.extents.specs.Cells.{IsRecordAt, AreRecordsAt, SpellExtents, OwnersHaveRoom};
-ghost use Rattle.extents.specs.Checks.{AreFreeFrom};
+ghost use Rattle.extents.specs.SetExtents.{IsOfSet};
 ghost use Rattle.extents.specs.TableSpelling.{first_sector, sector_of, Spell};
 ghost use Rattle.extents.specs.Versions.{IsVersion, table_length};
 
@@ -16,7 +16,7 @@ use crate::version::{
     most_volumes, record_sectors, record_width, records_a_sector, table_length, version_of,
 };
 use crate::volume_table::{MOST_VOLUMES, TABLE_SECTORS};
-use crate::{Owned, Record, VolumeTable};
+use crate::{ExtentLayout, Owned, Record, VolumeTable};
 use arrayvec::ArrayVec;
 use layout_map::MOST_EXTENTS;
 use sector_model::Sector;
@@ -116,22 +116,24 @@ impl VolumeTable {
         }
     }
 
-    /// The table that the sectors begin with, of a set with so many extents. Sectors after those of its version are not
+    /// The table that the sectors begin with, of a set whose extents lie so. Sectors after those of its version are not
     /// looked at.
     ///
     /// None where they spell no table: where sector 0 is not a version and zeros, a record has no good name, one that
     /// is too long for the version, 0 blocks or more than 65,536, or a byte other than 0 outside its fields, two names
     /// are equal, an extent in use names no used record, the places of a record are not exactly those that its blocks
     /// take, each once, or an extent that the set does not have is in use.
-    pub fn decode(from: &[Sector; TABLE_SECTORS], extents: u32) -> Option<VolumeTable>
+    pub fn decode(from: &[Sector; TABLE_SECTORS], extents: &ExtentLayout) -> Option<VolumeTable>
         ensures some { IfSome result (λ t. Spell from.now t) }
-        ensures within { IfSome result (λ t. AreFreeFrom t.extents extents) }
-        ensures exact { (t : VolumeTable) → Spell from.now t → AreFreeFrom t.extents extents → result ≡ Some t }
+        ensures of_set { IfSome result (λ t. IsOfSet extents.now t) }
+        ensures exact { (t : VolumeTable) → Spell from.now t → IsOfSet extents.now t → result ≡ Some t }
     {
         let version = read_version(from)?;
         let records = read_records(version, from)?;
         let owners = read_extents(version, from)?;
-        if !are_free_from(&owners, extents) || !is_table(version, &records, &owners) {
+        if !are_free_from(&owners, extents.count)
+            || !is_table(extents, version, &records, &owners)
+        {
             return None;
         }
         Some(VolumeTable {

@@ -1,20 +1,17 @@
 //! Which volume has which extents, and where the blocks of a volume lie.
-ghost use Rattle.std.specs.Prelude.{◌≡◌, ◌+◌, ◌/◌, ◌<◌, ◌≤◌, length};
+ghost use Rattle.std.specs.Prelude.{◌≡◌, ℕ, ◌+◌, ◌<◌, ◌≤◌, length, slice_index};
 ghost use Rattle.extents.specs.Owners.{owner_of, HasPlaces};
 ghost use Rattle.extents.specs.ExtentMaps.{IsExtentMap, free_of, is_of, count_of, AreAppended, IsTaken, IsGivenBack};
-ghost use Rattle.extents.specs.ExtentMaps.{HasPlace, IsWhere};
+ghost use Rattle.extents.specs.ExtentMaps.{HasPlace, IsWhere, place_of};
 ghost use Rattle.extents.specs.ExtentIndexes.{AreExtentsOf};
-ghost use Rattle.extents.specs.VolumeTables.{extents_for};
-ghost use Rattle.extents.specs.Versions.{extent_blocks};
 ghost use Rattle.extents.specs.ExtentLaws.{EachExtentIsCounted, TakingKeepsMaps, GivingBackKeepsMaps, BlocksAreWithin};
 ghost use Rattle.extents.specs.ExtentLaws.{NoSectorIsShared};
 
-use crate::Owned;
 use crate::extent_index::ExtentIndex;
-use crate::version::extent_blocks;
 use crate::volume_table::MOST_VOLUMES;
+use crate::{ExtentLayout, Owned};
 use arrayvec::ArrayVec;
-use layout_map::{EXTENT_SECTORS, MOST_EXTENTS, RESERVED_SECTORS};
+use layout_map::MOST_EXTENTS;
 use std::marker::Model;
 
 /// The most extents that a map has, as the length of a list.
@@ -89,9 +86,11 @@ impl ExtentMap {
         self.extents_of(volume).len() as u32
     }
 
-    /// The extents of a volume in order of place: the one at place 0 first. Empty where the volume has none.
+    /// The extents of a volume in order of place, each below 1,024: the one at place 0 first. Empty where the volume has
+    /// none.
     pub fn extents_of(&self, volume: u8) -> &[u16]
         ensures extents { AreExtentsOf self.now volume result.now }
+        ensures below { (place : ℕ) → place < length result.now → slice_index result.now place < MOST_EXTENTS }
         ensures most { length result.now ≤ MOST_EXTENTS }
     {
         let index = &self.index;
@@ -124,23 +123,16 @@ impl ExtentMap {
         self.index = ExtentIndex::of(&self.owners);
     }
 
-    /// The logical sector of a block of a volume, which has an extent at the block's place, the block divided by 64.
-    pub fn where_is(&self, volume: u8, block: u32) -> u64
-        requires { HasPlace self.now volume (block / EXTENT_SECTORS) }
-        ensures { IsWhere self.now volume block result }
+    /// The logical sector of a block of a volume in a set whose extents lie so. The volume has an extent at the block's
+    /// place, the block divided by the blocks of an extent (condition).
+    pub fn where_is(&self, extents: &ExtentLayout, volume: u8, block: u32) -> u64
+        requires { HasPlace self.now volume (place_of extents.now block) }
+        ensures { IsWhere extents.now self.now volume block result }
     {
         let block = u64::from(block);
-        let extent = self.extents_of(volume)[(block / EXTENT_SECTORS) as usize];
-        RESERVED_SECTORS + EXTENT_SECTORS * u64::from(extent) + block % EXTENT_SECTORS
+        let extent = self.extents_of(volume)[(block / extents.blocks) as usize];
+        extents.first + u64::from(extent) * extents.blocks + block % extents.blocks
     }
-}
-
-/// The extents that so many blocks take in a table of this version, the last of them in part where the blocks don't
-/// fill it.
-pub fn extents_for(version: u8, blocks: u32) -> u32
-    ensures { result ≡ extents_for (extent_blocks version) blocks }
-{
-    blocks.div_ceil(extent_blocks(version) as u32)
 }
 
 // Whether an extent with this owner is the volume's.
@@ -181,8 +173,8 @@ fn free_all(owners: &mut [Option<Owned>], volume: u8)
 /// The laws of maps of extents. It computes nothing: its promises are what it is for.
 ///
 /// Each extent is free or counted for one volume. Taking and giving back make a map of a map, and leave the other
-/// volumes their extents; each has one outcome. The extents that are taken lie below those that are left. No two blocks
-/// share a logical sector, and each lies in one of the extents.
+/// volumes their extents; each has one outcome. The extents that are taken lie below those that are left. Wherever the
+/// extents of a set lie, no two blocks share a logical sector, and each lies in one of the extents.
 pub fn extent_map_law()
     ensures counted { EachExtentIsCounted }
     ensures taking { TakingKeepsMaps }

@@ -4,6 +4,7 @@
 mod checks;
 mod codec;
 mod extent_index;
+mod extent_layout;
 mod extent_map;
 mod law;
 mod name;
@@ -11,17 +12,19 @@ mod owned;
 mod owner_codec;
 mod record;
 mod record_codec;
+mod set_extents;
 mod version;
 mod volume_table;
 
-pub use extent_map::{ExtentMap, extent_map_law, extents_for};
+pub use extent_layout::ExtentLayout;
+pub use extent_map::{ExtentMap, extent_map_law};
 pub use law::volume_table_law;
 pub use name::{MOST_NAME_BYTES, Name};
 pub use owned::Owned;
 pub use record::{MOST_BLOCKS, Record};
 pub use version::{
-    FIRST_VERSION, LAST_VERSION, extent_blocks, most_blocks, most_name_bytes, most_volumes,
-    table_length, version_of,
+    FIRST_VERSION, LAST_VERSION, most_blocks, most_name_bytes, most_volumes, table_length,
+    version_of,
 };
 pub use volume_table::{Found, MOST_VOLUMES, TABLE_SECTORS, VolumeTable};
 

@@ -1,7 +1,8 @@
 //! The sectors of tables byte by byte, and sectors that are no table's.
 use super::*;
-use crate::testing::same;
-use sector_model::Sector;
+use crate::testing::{extents_of_64, same};
+use layout_map::Geometry;
+use sector_model::{Refusal, Sector};
 use std::process::Abort;
 
 mod full;
@@ -93,7 +94,10 @@ fn check_sectors(rt: &impl Abort, table: &VolumeTable, expected: &[Sector; 25]) 
 
 // Checks that these sectors are the table of this version and of `a` with so many blocks.
 fn check_vector(rt: &impl Abort, sectors: &[Sector; 25], version: u8, blocks: u32) {
-    let table = VolumeTable::decode(sectors, 7).expect(rt, "the sectors are a table's");
+    let table = VolumeTable::decode(sectors, &extents_of_64(7)).expect(
+        rt,
+        "the sectors are a table's",
+    );
     check_table(rt, &table, version, blocks);
     check_sectors(rt, &table, sectors);
 }
@@ -114,7 +118,10 @@ fn table_vectors(rt: HostRuntime) {
 #[test]
 fn upgraded_vector(rt: HostRuntime) {
     let sectors = sectors_of(A_64, b"\x01\x00\x00\x00");
-    let mut table = VolumeTable::decode(&sectors, 7).expect(&rt, "the sectors are a table's");
+    let mut table = VolumeTable::decode(&sectors, &extents_of_64(7)).expect(
+        &rt,
+        "the sectors are a table's",
+    );
     let expected = second_sectors_of(64, b"\x01\x00\x00\x00");
 
     table.upgrade();
@@ -127,7 +134,10 @@ fn upgraded_vector(rt: HostRuntime) {
 
 #[test]
 fn blank_sectors(rt: HostRuntime) {
-    let table = VolumeTable::decode(&[[0; 512]; 25], 0).expect(&rt, "blank sectors are a table");
+    let table = VolumeTable::decode(&[[0; 512]; 25], &extents_of_64(0)).expect(
+        &rt,
+        "blank sectors are a table",
+    );
     check_table(&rt, &table, 1, 0);
 }
 
@@ -138,21 +148,47 @@ fn numbers_of_versions(rt: HostRuntime) {
     same(&rt, (first, second), ((32, 24, 11), (64, 63, 25)));
 }
 
-// What an extent and a volume hold at most, and the extents that the blocks at their ends take.
 #[test]
 fn blocks_of_versions(rt: HostRuntime) {
-    for version in FIRST_VERSION..LAST_VERSION + 1 {
-        same(
-            &rt,
-            (extent_blocks(version), most_blocks(version)),
-            (64, 65_536),
-        );
-        let small = (
-            extents_for(version, 0),
-            extents_for(version, 1),
-            extents_for(version, 64),
-        );
-        let large = (extents_for(version, 65), extents_for(version, 65_536));
-        same(&rt, (small, large), ((0, 1, 1), (2, 1_024)));
+    same(&rt, (most_blocks(1), most_blocks(2)), (65_536, 65_536));
+}
+
+// Checks where the extents of a set lie: with which sector they begin, the blocks of each, and how many there are.
+fn check_layout(rt: &impl Abort, set: Result<Geometry, Refusal>, layout: (u64, u64, u32)) {
+    let extents = ExtentLayout::of(&set.expect(rt, "the set's numbers are within their limits"));
+    same(rt, (extents.first, extents.blocks, extents.count), layout);
+}
+
+#[test]
+fn extents_of_sets(rt: HostRuntime) {
+    check_layout(&rt, Geometry::new(3, 8, 32), (64, 64, 7));
+    check_layout(&rt, Geometry::new(8, 128, 65_536), (64, 64, 1_024));
+    check_layout(&rt, Geometry::large(3, 8, 32), (64, 16, 28));
+    check_layout(&rt, Geometry::large(4, 8, 200), (72, 24, 197));
+    check_layout(&rt, Geometry::large(5, 128, 2_049), (512, 1_024, 1_024));
+    let greatest = Geometry::large(8, 8, 536_870_910);
+    check_layout(&rt, greatest, (112, 29_360_128, 1_023));
+}
+
+// Checks how many extents so many blocks take.
+fn check_taken(rt: &impl Abort, extents: &ExtentLayout, rows: &[(u32, u32)]) {
+    for (blocks, taken) in rows {
+        let got = extents.extents_for(*blocks);
+        same(rt, (*blocks, got), (*blocks, *taken));
     }
+}
+
+#[test]
+fn extents_for_blocks(rt: HostRuntime) {
+    let rows = [(0, 0), (1, 1), (64, 1), (65, 2), (65_536, 1_024)];
+    check_taken(&rt, &extents_of_64(7), &rows);
+    let set = Geometry::large(8, 8, 536_870_910).expect(&rt, "the greatest set");
+    let extents = ExtentLayout::of(&set);
+    let rows = [
+        (1, 1),
+        (29_360_128, 1),
+        (29_360_129, 2),
+        (4_294_967_295, 147),
+    ];
+    check_taken(&rt, &extents, &rows);
 }

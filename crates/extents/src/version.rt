@@ -1,8 +1,7 @@
 //! What the version of a table of volumes decides: docs/FORMATS.md, "Volume table".
 ghost use Rattle.std.specs.Prelude.{◌≡◌, ◌↔◌, ◌≤◌, ℕ, IfSome, IsTrue, Some, drop};
-ghost use Rattle.extents.specs.Versions.{IsVersion, most_volumes, most_name_bytes, extent_blocks, most_blocks};
+ghost use Rattle.extents.specs.Versions.{IsVersion, most_volumes, most_name_bytes, most_blocks};
 ghost use Rattle.extents.specs.Versions.{record_width, records_a_sector, record_sectors, blocks_at, table_length};
-ghost use Rattle.layout_map.specs.declared.sizes.TheConstants.{EXTENT_SECTORS};
 ghost use Rattle.extents.specs.TableSpelling.{zeros, first_sector};
 
 use sector_model::Sector;
@@ -25,16 +24,6 @@ pub fn most_name_bytes(version: u8) -> usize
     ensures { result ≡ most_name_bytes version }
 {
     if version == FIRST_VERSION { 24 } else { 63 }
-}
-
-/// The blocks of an extent in a table of this version, 64 in each: as many as the sectors by which the set counts
-/// extents.
-pub fn extent_blocks(version: u8) -> u64
-    ensures number { result ≡ extent_blocks version }
-    ensures of_set { result ≡ EXTENT_SECTORS }
-{
-    let _ = version;
-    layout_map::EXTENT_SECTORS
 }
 
 /// The most blocks of a volume in a table of this version, 65,536 in each.

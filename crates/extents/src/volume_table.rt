@@ -14,8 +14,8 @@ pub const MOST_VOLUMES: usize = 64;
 
 /// Which volumes there are, and who has each extent.
 ///
-/// The names of the records are distinct. A volume of b blocks has b / 64 extents, rounded up, one at each of the
-/// places from 0 on. Every other extent is free.
+/// The names of the records are distinct, and the extents are a map: each volume's have the places from 0 on, without
+/// gap or repeat. In a set's table a volume has as many of the set's extents as its blocks take.
 #[derive(Drop)]
 pub struct VolumeTable {
     /// The version, 1 or 2.

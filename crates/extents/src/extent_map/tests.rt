@@ -3,8 +3,10 @@ ghost use Rattle.std.specs.Prelude.{◌≡◌, ◌≤◌};
 ghost use Rattle.extents.specs.ExtentMaps.{free_of};
 
 use super::*;
-use crate::testing::same;
+use crate::testing::{extents_of_64, same};
 use std::process::Abort;
+
+mod far_end;
 
 // The map of this many free extents.
 fn free_map<const N: usize>() -> ExtentMap
@@ -20,12 +22,26 @@ fn take(rt: &impl Abort, map: &mut ExtentMap, volume: u8, n: u32) {
     map.take(volume, n);
 }
 
-// Checks that a block of a volume lies in this extent, at this logical sector.
-fn check_block(rt: &impl Abort, map: &ExtentMap, volume: u8, block: u32, extent: u32, sector: u64) {
-    assert!(rt; block < 65_536);
-    let place = (block / 64) as u16;
+// Checks that a block of a volume lies in this extent, at this logical sector, where extents lie so.
+fn check_block_in(
+    rt: &impl Abort,
+    extents: &ExtentLayout,
+    map: &ExtentMap,
+    (volume, block): (u8, u32),
+    extent: u32,
+    sector: u64,
+) {
+    let place = u64::from(block) / extents.blocks;
+    assert!(rt; place < 1_024);
+    let place = place as u16;
     assert!(rt; map.entry(extent) == Some(Owned { volume, place }));
-    same(rt, map.where_is(volume, block), sector);
+    same(rt, map.where_is(extents, volume, block), sector);
+}
+
+// Checks it in a set of format 1.
+fn check_block(rt: &impl Abort, map: &ExtentMap, volume: u8, block: u32, extent: u32, sector: u64) {
+    let extents = extents_of_64(1_024);
+    check_block_in(rt, &extents, map, (volume, block), extent, sector);
 }
 
 // Checks that a volume has these extents, in order of place.

@@ -79,7 +79,10 @@ fn check_full_owners(rt: &impl Abort, extents: &[Option<Owned>; 1024]) {
 #[test]
 fn full_table(rt: HostRuntime) {
     let sectors = full_sectors();
-    let table = VolumeTable::decode(&sectors, 1024).expect(&rt, "the sectors are a table's");
+    let table = VolumeTable::decode(&sectors, &extents_of_64(1024)).expect(
+        &rt,
+        "the sectors are a table's",
+    );
     same(&rt, table.version, 2);
     check_full_records(&rt, &table.records);
     check_full_owners(&rt, &table.extents);
@@ -88,6 +91,6 @@ fn full_table(rt: HostRuntime) {
 
 #[test]
 fn full_table_of_a_smaller_set(rt: HostRuntime) {
-    let table = VolumeTable::decode(&full_sectors(), 1023);
+    let table = VolumeTable::decode(&full_sectors(), &extents_of_64(1023));
     same(&rt, table.is_some(), false);
 }

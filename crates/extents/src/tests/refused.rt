@@ -77,14 +77,21 @@ const SECOND_REFUSED: &[Refused] = &[
 
 // Checks that the sectors are a table's, and no more with the bytes of each row.
 fn check_refused(rt: &impl Abort, good: &[Sector; 25], rows: &[Refused]) {
-    same(rt, VolumeTable::decode(good, 7).is_some(), true);
+    same(
+        rt,
+        VolumeTable::decode(good, &extents_of_64(7)).is_some(),
+        true,
+    );
     for (why, number, at, bytes) in rows {
         let mut sectors = *good;
         assert!(rt; *number < 25);
         put(&mut sectors[*number], *at, bytes);
         same(
             rt,
-            (*why, VolumeTable::decode(&sectors, 7).is_some()),
+            (
+                *why,
+                VolumeTable::decode(&sectors, &extents_of_64(7)).is_some(),
+            ),
             (*why, false),
         );
     }
@@ -107,7 +114,10 @@ fn check_versions(rt: &impl Abort, good: &[Sector; 25]) {
         sectors[0][0] = byte as u8;
         same(
             rt,
-            (byte, VolumeTable::decode(&sectors, 7).is_some()),
+            (
+                byte,
+                VolumeTable::decode(&sectors, &extents_of_64(7)).is_some(),
+            ),
             (byte, false),
         );
     }
@@ -124,16 +134,20 @@ fn other_versions(rt: HostRuntime) {
 fn longer_name(rt: HostRuntime) {
     let mut sectors = two_second_volumes();
     put(&mut sectors[1], 0, b"\x19aaaaaaaaaaaaaaaaaaaaaaaaa");
-    same(&rt, VolumeTable::decode(&sectors, 7).is_some(), true);
+    same(
+        &rt,
+        VolumeTable::decode(&sectors, &extents_of_64(7)).is_some(),
+        true,
+    );
 }
 
 // Checks which sets have the extents: the two volumes' are 0 to 2, and of the other table's the last is number 1,023.
 fn check_extents(rt: &impl Abort, two: &[Sector; 25], last: &[Sector; 25]) {
     let are_tables = (
-        VolumeTable::decode(two, 3).is_some(),
-        VolumeTable::decode(two, 2).is_some(),
-        VolumeTable::decode(last, 1024).is_some(),
-        VolumeTable::decode(last, 1023).is_some(),
+        VolumeTable::decode(two, &extents_of_64(3)).is_some(),
+        VolumeTable::decode(two, &extents_of_64(2)).is_some(),
+        VolumeTable::decode(last, &extents_of_64(1024)).is_some(),
+        VolumeTable::decode(last, &extents_of_64(1023)).is_some(),
     );
     same(rt, are_tables, (true, false, true, false));
 }

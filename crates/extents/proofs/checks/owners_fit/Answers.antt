@@ -1,8 +1,8 @@
-use Rattle.std.proofs.Common.{◌≡◌, ◌<◌, Some, ◌∙◌, sym, refl, subst, below_more, arith}
+use Rattle.std.proofs.Common.{◌≡◌, ℕ, ◌<◌, ◌≤◌, Some, ◌∙◌, sym, refl, subst, below_more, arith}
 use Rattle.extents.specs.declared.owned.Owned.{Owned}
 use Rattle.extents.specs.VolumeTables.{record_of, extents_of}
 use Rattle.extents.specs.Checks.{Fits}
-use Rattle.extents.specs.Versions.{extent_blocks}
+use Rattle.extents.specs.Owners.{IsAt}
 use Rattle.extents.proofs.Tables.{some_within, found_owner, is_number, not_false}
 use Rattle.extents.proofs.checks.owners_fit.Goals as goal
 use Rattle.extents.proofs.checks.owners_fit.Goals.{in-Some+else-not-within+else-ne, in_default}
@@ -15,11 +15,14 @@ loop-extent-preserved c =
       | in-Some+else-not-within+else-ne w ↦ λ owner at.
           let mine : Owned = w.in-Some.owner in
           let same : mine ≡ owner = let is = w.in-Some.is in cc in
-          let within : mine.place < extents_of (extent_blocks c.args.version) (record_of c.args.records.now mine.volume) = let one =
+          let within : mine.place < extents_of c.args.layout.now.blocks (record_of c.args.records.now mine.volume) = let one =
           w.extents_of_volume.ensures in let two = w.if-not-within.false in omega arith in
           let found : w.first_at.result ≡ Some extent = is_number w.first_at.result extent (not_false (sym w.ne.ensures ∙ w.if-ne.false)) in
-          let P : Owned → Type 0 = λ one. Fits (extent_blocks c.args.version) c.args.records.now extents extent one in
-          subst P same (record { within = within; first = found_owner extents extent mine w.first_at.result w.first_at.ensures found })
+          let P : Owned → Type 0 = λ one. Fits c.args.layout.now.blocks c.args.records.now extents extent one in
+          let First : ℕ → Type 0 = λ place. (other : ℕ) → IsAt extents other mine.volume place → extent ≤ other in
+          let first : First mine.place = subst First w.from-place.ensures
+          (found_owner extents extent mine.volume w.from-place.result w.first_at.result w.first_at.ensures found) in
+          subst P same (record { within = within; first = first })
       | in_default w ↦ λ owner at. absurd (w.in_default.not-Some owner at)
     ])
 

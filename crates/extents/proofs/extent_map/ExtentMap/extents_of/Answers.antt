@@ -1,5 +1,6 @@
 -- The part of the index from the volume's start to the next one's has its extents.
 use Rattle.std.proofs.Common.{arith}
+use Rattle.extents.proofs.OwnerLemmas.{owned_is_within}
 use Rattle.extents.proofs.IndexLemmas.{IsPart, part_is, part_is_extents, none_are_extents}
 use Rattle.extents.proofs.extent_map.ExtentMap.extents_of.Goals as goal
 use Rattle.extents.proofs.extent_map.ExtentMap.extents_of.Goals.{After-from-end}
@@ -26,3 +27,10 @@ pub returns-clause-extents : goal.returns-clause-extents
 returns-clause-extents c =
     rw (← c.self.view_is) (part_is_extents c.self.inside.owners.items c.self.inside.index.packed c.args.volume c.from-first.result c.from-end.result
     c.self.invariant.map c.self.invariant.indexed.packed (part (goal.at.returns-clause-extents c).After-from-end))
+
+-- each is an extent of the map
+pub returns-clause-below : goal.returns-clause-below
+returns-clause-below c = λ place within.
+    let at = (part_is_extents c.self.inside.owners.items c.self.inside.index.packed c.args.volume c.from-first.result c.from-end.result
+    c.self.invariant.map c.self.invariant.indexed.packed (part (goal.at.returns-clause-below c).After-from-end)).each place within in
+    omega (arith, owned_is_within c.self.inside.owners.items _ c.args.volume place at, c.self.invariant.map.at_most)

@@ -2,7 +2,7 @@ use Rattle.std.proofs.Common.{◌≡◌, ℕ, List, Option, Some, None, true, fa
 use Rattle.extents.specs.declared.owned.Owned.{Owned}
 use Rattle.extents.specs.declared.record.Record.{Record}
 use Rattle.extents.specs.Checks.{AreFreeFrom}
-use Rattle.extents.specs.VolumeTables.{IsVolumeTable}
+use Rattle.extents.specs.VolumeTables.{HaveTheirPlaces, IsVolumeTable}
 use Rattle.extents.proofs.Same.{same_table}
 use Rattle.extents.proofs.Sectors.{spelled_by, version_of_table, read_of_table, owners_of_table, read_of_version, read_is_spelled}
 use Rattle.extents.proofs.Versions.{table_length_most}
@@ -11,13 +11,13 @@ use Rattle.extents.proofs.volume_table.VolumeTable.decode.Goals.{then-not-are_fr
 use Rattle.extents.proofs.volume_table.VolumeTable.decode.Goals.{then-not-are_free_from-via-else-not-are_free_from+then-not-is_table}
 
 pub returns-in_err-version-clause-exact : goal.returns-in_err-version-clause-exact
-returns-in_err-version-clause-exact c = λ t is free. absurd (
+returns-in_err-version-clause-exact c = λ t is of_set. absurd (
     let some : c.read_version.result ≡ Some t.version = version_of_table c.args.from.now t c.read_version.result c.read_version.ensures.exact is in
     let none : c.read_version.result ≡ None = c.in_err-version.was in
     let no : ⊥ = cc in no)
 
 pub returns-in_err-records-clause-exact : goal.returns-in_err-records-clause-exact
-returns-in_err-records-clause-exact c = λ t is free. absurd (
+returns-in_err-records-clause-exact c = λ t is of_set. absurd (
     let some_version : c.read_version.result ≡ Some t.version = version_of_table c.args.from.now t c.read_version.result c.read_version.ensures.exact is in
     let read_version : c.read_version.result ≡ Some c.in_ok-version.version = c.in_ok-version.was in
     let same_version : c.in_ok-version.version ≡ t.version = cc in
@@ -27,7 +27,7 @@ returns-in_err-records-clause-exact c = λ t is free. absurd (
     let no : ⊥ = cc in no)
 
 pub returns-in_err-owners-clause-exact : goal.returns-in_err-owners-clause-exact
-returns-in_err-owners-clause-exact c = λ t is free. absurd (
+returns-in_err-owners-clause-exact c = λ t is of_set. absurd (
     let some_version : c.read_version.result ≡ Some t.version = version_of_table c.args.from.now t c.read_version.result c.read_version.ensures.exact is in
     let read_version : c.read_version.result ≡ Some c.in_ok-version.version = c.in_ok-version.was in
     let same_version : c.in_ok-version.version ≡ t.version = cc in
@@ -43,7 +43,7 @@ is_table-requires c = record {
 }
 
 pub returns-then-not-are_free_from-clause-exact : goal.returns-then-not-are_free_from-clause-exact
-returns-then-not-are_free_from-clause-exact c = λ t is free. absurd (
+returns-then-not-are_free_from-clause-exact c = λ t is of_set. absurd (
     let version = c.in_ok-version.version in
     let records = c.in_ok-records.records in
     let owners = c.in_ok-owners.owners in
@@ -61,7 +61,7 @@ returns-then-not-are_free_from-clause-exact c = λ t is free. absurd (
     elim c.then-not-are_free_from.branch [
       | then-not-are_free_from-via-then-not-are_free_from w ↦
           let yes : c.are_free_from.result ≡ true = c.are_free_from.ensures.1
-          (subst (λ (xs : List (Option Owned)). AreFreeFrom xs c.args.extents) same_owners free) in
+          (subst (λ (xs : List (Option Owned)). AreFreeFrom xs c.args.extents.now.count) same_owners of_set.free_beyond) in
           let other : c.are_free_from.result ≡ false = w.if-not-are_free_from.true in
           let no : ⊥ = cc in no
       | then-not-are_free_from-via-else-not-are_free_from+then-not-is_table w ↦
@@ -69,8 +69,14 @@ returns-then-not-are_free_from-clause-exact c = λ t is free. absurd (
           subst (λ (v : ℕ). ∥ IsVolumeTable v t.records t.extents ∥₁) (sym same_version) t.is_table in
           let with_records : ∥ IsVolumeTable version records t.extents ∥₁ =
           subst (λ (xs : List (Option Record)). ∥ IsVolumeTable version xs t.extents ∥₁) same_records with_version in
-          let yes : w.is_table.result ≡ true = w.is_table.ensures.1
-          (subst (λ (xs : List (Option Owned)). ∥ IsVolumeTable version records xs ∥₁) same_owners with_records) in
+          let with_owners : ∥ IsVolumeTable version records owners ∥₁ =
+          subst (λ (xs : List (Option Owned)). ∥ IsVolumeTable version records xs ∥₁) same_owners with_records in
+          let each = c.args.extents.now.blocks in
+          let placed_records : ∥ HaveTheirPlaces each records t.extents ∥₁ =
+          subst (λ (xs : List (Option Record)). ∥ HaveTheirPlaces each xs t.extents ∥₁) same_records of_set.placed in
+          let placed : ∥ HaveTheirPlaces each records owners ∥₁ =
+          subst (λ (xs : List (Option Owned)). ∥ HaveTheirPlaces each records xs ∥₁) same_owners placed_records in
+          let yes : w.is_table.result ≡ true = w.is_table.ensures.1 (with_owners, placed) in
           let other : w.is_table.result ≡ false = w.if-not-is_table.true in
           let no : ⊥ = cc in no
     ])
@@ -84,7 +90,7 @@ returns-clause-some c =
     (read_is_spelled version c.args.from.now c.in_ok-records.records c.in_ok-records.ensures.some) c.in_ok-owners.ensures.some
 
 pub returns-clause-exact : goal.returns-clause-exact
-returns-clause-exact c = λ t is free.
+returns-clause-exact c = λ t is of_set.
     let version = c.in_ok-version.version in
     let some_version : c.read_version.result ≡ Some t.version = version_of_table c.args.from.now t c.read_version.result c.read_version.ensures.exact is in
     let read_version : c.read_version.result ≡ Some version = c.in_ok-version.was in

@@ -11,6 +11,7 @@ use Rattle.std.proofs.lemmas.List.{get_or_default, length-append, length-replica
 use Rattle.std.proofs.lemmas.Option.{none-some}
 use Rattle.sector_model.specs.declared.refusal.Refusal.{Refusal}
 use Rattle.sector_model.specs.declared.refusal.Refusal.TheVariants.{BadCount, BadName, BadSize, Exists, NoSpace, NoVolume, OutOfRange, TooManyVolumes}
+use Rattle.extents.specs.declared.extent_layout.ExtentLayout.{ExtentLayout}
 use Rattle.extents.specs.declared.owned.Owned.{Owned}
 use Rattle.extents.specs.declared.record.Record.{Record}
 use Rattle.extents.specs.declared.volume_table.VolumeTable.{VolumeTable}
@@ -21,7 +22,7 @@ use Rattle.extents.proofs.Tables.{some_within}
 use Rattle.volume_table.specs.Names.{is_good_name}
 use Rattle.extents.specs.Versions.{most_name_bytes, most_volumes}
 use Rattle.volume_table.specs.Volumes.{AreVolumes, Block, Volume, VolumeList, VolumeMap, blocks_of, need, with_volume, zero_block}
-use Rattle.volume_table.specs.VolumeStep.{Create, Extend, Remove, Rename, blocks_in, changed, checks_within, first_refusal, has_no_volume, is_bad_count}
+use Rattle.volume_table.specs.VolumeStep.{Command, Create, Extend, Remove, Rename, blocks_in, changed, checks_within, first_refusal, has_no_volume, is_bad_count}
 use Rattle.volume_table.specs.VolumeStep.{is_bad_size, refusal_of, zero_blocks}
 use Rattle.volume_table.specs.Law.{HasLength}
 use Rattle.volume_table.specs.Shows.{used_records}
@@ -36,7 +37,7 @@ use Rattle.volume_table.proofs.VolumeLemmas.{need-with_other}
 use Rattle.extents.specs.declared.record.TheConstants.{MOST_BLOCKS}
 use Rattle.volume_table.specs.declared.event.TheConstants.{MOST_BLOCKS_AT_ONCE}
 use Rattle.extents.specs.declared.volume_table.TheConstants.{MOST_VOLUMES}
-use Rattle.layout_map.specs.declared.sizes.TheConstants.{EXTENT_SECTORS, MOST_EXTENTS}
+use Rattle.layout_map.specs.declared.sizes.TheConstants.{MOST_EXTENTS}
 
 -- a table has 64 records
 pub all_records : (table : VolumeTable) → length table.records ≡ MOST_VOLUMES
@@ -79,7 +80,7 @@ found_within table name number long at count found least most fits =
     }
 
 -- no volume has a name that no record has
-pub absent_by : (extents : ℕ) (table : VolumeTable) (sectors : List Block) (volumes : VolumeMap) (name : List ℕ) → ShowsBy extents table sectors volumes
+pub absent_by : (extents : ExtentLayout) (table : VolumeTable) (sectors : List Block) (volumes : VolumeMap) (name : List ℕ) → ShowsBy extents table sectors volumes
     → (HasRecord table.records name → ⊥)
     → blocks_of name volumes.volumes ≡ None
 absent_by extents table sectors volumes name by none =
@@ -87,7 +88,7 @@ absent_by extents table sectors volumes name by none =
     none (record { number = number; entry = entry; used = ap (λ (t : VolumeTable). record_of t.records number) (sym by.by) ∙ used; named = named }))
 
 -- a volume is as long as its record says
-pub length_by : (extents : ℕ) (table : VolumeTable) (sectors : List Block) (volumes : VolumeMap) (name : List ℕ) (number count : ℕ)
+pub length_by : (extents : ExtentLayout) (table : VolumeTable) (sectors : List Block) (volumes : VolumeMap) (name : List ℕ) (number count : ℕ)
     → ShowsBy extents table sectors volumes
     → IsRecordFor table.records name number count → HasLength name count volumes.volumes
 length_by extents table sectors volumes name number count by found =
@@ -103,7 +104,7 @@ is_there name count volumes has = ap is_none has.found
 long_blocks : (name : List ℕ) (count : ℕ) (volumes : VolumeList) → HasLength name count volumes → length (blocks_in name volumes) ≡ count
 long_blocks name count volumes has = ap (λ o. length (unwrap_or o [])) has.found ∙ has.as_long
 
-pub removal_admitted : (extents : ℕ) (name : List ℕ) (count : ℕ) (volumes : VolumeMap) → HasLength name count volumes.volumes
+pub removal_admitted : (extents : ExtentLayout) (name : List ℕ) (count : ℕ) (volumes : VolumeMap) → HasLength name count volumes.volumes
     → None ≡ refusal_of extents (Remove name) volumes
 removal_admitted extents name count volumes has = sym (cond-false (has_no_volume name volumes.volumes) (Some NoVolume) None
     (is_there name count volumes.volumes has))
@@ -176,17 +177,28 @@ size_is_good : (count : ℕ) → 1 ≤ count → count ≤ MOST_BLOCKS → is_ba
 size_is_good count least most = or_from (count == 0) (nat_lt MOST_BLOCKS count) (ne_eqb count 0 (λ none. omega (arith, least, none)))
     (le-ltb MOST_BLOCKS count most)
 
+-- what an admission decides where extents lie so, it decides in a set whose extents lie so
+pub decided_by : (refused : Option Refusal) (table : VolumeTable) (owners : List (Option Owned)) (command : Command) (extents its : ExtentLayout)
+    → extents ≡ its
+    → ((sectors : List Block) (volumes : VolumeMap) → AreKept extents table owners → ShowsBy extents table sectors volumes
+    → refused ≡ refusal_of extents command volumes)
+    → (sectors : List Block) (volumes : VolumeMap) → AreKept its table owners → ShowsBy its table sectors volumes
+    → refused ≡ refusal_of its command volumes
+decided_by refused table owners command extents its same decides =
+    subst (λ (e : ExtentLayout). (sectors : List Block) (volumes : VolumeMap) → AreKept e table owners → ShowsBy e table sectors volumes
+    → refused ≡ refusal_of e command volumes) same decides
+
 -- the free extents of a store are those that its volumes do not need
-pub free_by : (extents : ℕ) (table : VolumeTable) (owners : List (Option Owned)) (sectors : List Block) (volumes : VolumeMap) → extents ≤ MOST_EXTENTS
+pub free_by : (extents : ExtentLayout) (table : VolumeTable) (owners : List (Option Owned)) (sectors : List Block) (volumes : VolumeMap)
     → AreKept extents table owners
-    → ShowsBy extents table sectors volumes → free_of owners + need EXTENT_SECTORS volumes.volumes ≡ extents
-free_by extents table owners sectors volumes most kept by =
-    ap (λ o. free_of o + need EXTENT_SECTORS volumes.volumes) kept.same
-    ∙ ap (λ (t : VolumeTable). free_of (take extents t.extents) + need EXTENT_SECTORS volumes.volumes) (sym by.by)
-    ∙ free_is_not_needed extents sectors volumes by.shows most
+    → ShowsBy extents table sectors volumes → free_of owners + need extents.blocks volumes.volumes ≡ extents.count
+free_by extents table owners sectors volumes kept by =
+    ap (λ o. free_of o + need extents.blocks volumes.volumes) kept.same
+    ∙ ap (λ (t : VolumeTable). free_of (take extents.count t.extents) + need extents.blocks volumes.volumes) (sym by.by)
+    ∙ free_is_not_needed extents sectors volumes by.shows
 
 -- as many volumes as used records
-used_by : (extents : ℕ) (table : VolumeTable) (sectors : List Block) (volumes : VolumeMap) → ShowsBy extents table sectors volumes
+used_by : (extents : ExtentLayout) (table : VolumeTable) (sectors : List Block) (volumes : VolumeMap) → ShowsBy extents table sectors volumes
     → length volumes.volumes ≡ used_records table.records
 used_by extents table sectors volumes by = (records_are_counted extents sectors volumes by.shows).0 ∙ ap (λ (t : VolumeTable). used_records t.records) by.by
 
@@ -244,11 +256,11 @@ one_unused (suc n) (Some entry ∷ records) (suc number) below unused none =
     omega (arith, one_unused n records number (omega (arith, below)) unused (none_from_next n (Some entry) records none))
 
 -- the version of a table is that of the volumes that are shown by it
-version_by : (extents : ℕ) (table : VolumeTable) (sectors : List Block) (volumes : VolumeMap) → ShowsBy extents table sectors volumes
+version_by : (extents : ExtentLayout) (table : VolumeTable) (sectors : List Block) (volumes : VolumeMap) → ShowsBy extents table sectors volumes
     → table.version ≡ volumes.version
 version_by extents table sectors volumes by = ap (λ (t : VolumeTable). t.version) (sym by.by) ∙ by.shows.of_version
 
-pub volumes_are_full : (extents : ℕ) (table : VolumeTable) (sectors : List Block) (volumes : VolumeMap) → ShowsBy extents table sectors volumes
+pub volumes_are_full : (extents : ExtentLayout) (table : VolumeTable) (sectors : List Block) (volumes : VolumeMap) → ShowsBy extents table sectors volumes
     → ((number : ℕ) → number < most_volumes table.version → record_of table.records number ≢ None) → most_volumes volumes.version ≤ length volumes.volumes
 volumes_are_full extents table sectors volumes by none =
     let long = all_records table in
@@ -256,7 +268,7 @@ volumes_are_full extents table sectors volumes by none =
     let same : most_volumes table.version ≡ most_volumes volumes.version = ap most_volumes (version_by extents table sectors volumes by) in
     omega (arith, same, used_by extents table sectors volumes by, all_used (most_volumes table.version) table.records (omega (arith, long, most)) none)
 
-pub volumes_are_fewer : (extents : ℕ) (table : VolumeTable) (sectors : List Block) (volumes : VolumeMap) (number : ℕ) → ShowsBy extents table sectors volumes
+pub volumes_are_fewer : (extents : ExtentLayout) (table : VolumeTable) (sectors : List Block) (volumes : VolumeMap) (number : ℕ) → ShowsBy extents table sectors volumes
     → IsFirstUnused table.version table.records number → length volumes.volumes < most_volumes volumes.version
 volumes_are_fewer extents table sectors volumes number by unused =
     let same : most_volumes table.version ≡ most_volumes volumes.version = ap most_volumes (version_by extents table sectors volumes by) in
@@ -275,50 +287,50 @@ pub record IsGoodNew (version : ℕ) (name : List ℕ) (count : ℕ) : Type 0 wh
   pub most : count ≤ MOST_BLOCKS
 
 -- a name that a table may have is one that its volumes may have
-pub new_by : (extents : ℕ) (table : VolumeTable) (sectors : List Block) (volumes : VolumeMap) (name : List ℕ) (count : ℕ)
+pub new_by : (extents : ExtentLayout) (table : VolumeTable) (sectors : List Block) (volumes : VolumeMap) (name : List ℕ) (count : ℕ)
     → ShowsBy extents table sectors volumes
     → IsGoodNew table.version name count → IsGoodNew volumes.version name count
 new_by extents table sectors volumes name count by new = subst (λ (v : ℕ). IsGoodNew v name count) (version_by extents table sectors volumes by) new
 
-pub name_by : (extents : ℕ) (table : VolumeTable) (sectors : List Block) (volumes : VolumeMap) (name : List ℕ) → ShowsBy extents table sectors volumes
+pub name_by : (extents : ExtentLayout) (table : VolumeTable) (sectors : List Block) (volumes : VolumeMap) (name : List ℕ) → ShowsBy extents table sectors volumes
     → IsNameOf table.version name → IsNameOf volumes.version name
 name_by extents table sectors volumes name by is = subst (λ (v : ℕ). IsNameOf v name) (version_by extents table sectors volumes by) is
 
-pub creation_bad_name : (extents : ℕ) (name : List ℕ) (count : ℕ) (volumes : VolumeMap) → (IsNameOf volumes.version name → ⊥)
+pub creation_bad_name : (extents : ExtentLayout) (name : List ℕ) (count : ℕ) (volumes : VolumeMap) → (IsNameOf volumes.version name → ⊥)
     → Some BadName ≡ refusal_of extents (Create name count) volumes
 creation_bad_name extents name count volumes none = sym
     (cond-true (not (is_good_name volumes.version name)) (Some BadName) _ (name_is_bad volumes.version name none))
 
 -- a name that is longer than those of the table
-pub creation_long_name : (extents : ℕ) (table : VolumeTable) (sectors : List Block) (volumes : VolumeMap) (name : List ℕ) (count : ℕ)
+pub creation_long_name : (extents : ExtentLayout) (table : VolumeTable) (sectors : List Block) (volumes : VolumeMap) (name : List ℕ) (count : ℕ)
     → ShowsBy extents table sectors volumes
     → most_name_bytes table.version < length name → Some BadName ≡ refusal_of extents (Create name count) volumes
 creation_long_name extents table sectors volumes name count by long =
     let same : most_name_bytes table.version ≡ most_name_bytes volumes.version = ap most_name_bytes (version_by extents table sectors volumes by) in
     creation_bad_name extents name count volumes (λ is. omega (arith, long, same, is.short))
 
-pub creation_bad_size : (extents : ℕ) (name : List ℕ) (count : ℕ) (volumes : VolumeMap) → IsNameOf volumes.version name → (count ≡ 0) ⊎ (MOST_BLOCKS < count)
+pub creation_bad_size : (extents : ExtentLayout) (name : List ℕ) (count : ℕ) (volumes : VolumeMap) → IsNameOf volumes.version name → (count ≡ 0) ⊎ (MOST_BLOCKS < count)
     → Some BadSize ≡ refusal_of extents (Create name count) volumes
 creation_bad_size extents name count volumes is bad =
     sym (cond-false (not (is_good_name volumes.version name)) (Some BadName) _ (name_is_good volumes.version name is)
     ∙ cond-true (is_bad_size MOST_BLOCKS count) (Some BadSize) _ (size_is_bad count bad))
 
 -- what a creation is refused with where name and size are good
-good_new : (extents : ℕ) (name : List ℕ) (count : ℕ) (volumes : VolumeMap) → IsGoodNew volumes.version name count
+good_new : (extents : ExtentLayout) (name : List ℕ) (count : ℕ) (volumes : VolumeMap) → IsGoodNew volumes.version name count
     → refusal_of extents (Create name count) volumes
     ≡ first_refusal ((is_some (blocks_of name volumes.volumes), Exists) ∷ (nat_le (most_volumes volumes.version) (length volumes.volumes), TooManyVolumes)
-    ∷ (nat_lt extents (need EXTENT_SECTORS volumes.volumes + extents_for EXTENT_SECTORS count), NoSpace) ∷ [])
+    ∷ (nat_lt extents.count (need extents.blocks volumes.volumes + extents_for extents.blocks count), NoSpace) ∷ [])
 good_new extents name count volumes new =
     cond-false (not (is_good_name volumes.version name)) (Some BadName) _ (name_is_good volumes.version name new.its_name)
     ∙ cond-false (is_bad_size MOST_BLOCKS count) (Some BadSize) _ (size_is_good count new.least new.most)
 
-pub creation_exists : (extents : ℕ) (name : List ℕ) (long count : ℕ) (volumes : VolumeMap) → IsGoodNew volumes.version name count
+pub creation_exists : (extents : ExtentLayout) (name : List ℕ) (long count : ℕ) (volumes : VolumeMap) → IsGoodNew volumes.version name count
     → HasLength name long volumes.volumes
     → Some Exists ≡ refusal_of extents (Create name count) volumes
 creation_exists extents name long count volumes new has =
     sym (good_new extents name count volumes new ∙ cond-true (is_some (blocks_of name volumes.volumes)) (Some Exists) _ (ap is_some has.found))
 
-pub creation_full : (extents : ℕ) (name : List ℕ) (count : ℕ) (volumes : VolumeMap) → IsGoodNew volumes.version name count
+pub creation_full : (extents : ExtentLayout) (name : List ℕ) (count : ℕ) (volumes : VolumeMap) → IsGoodNew volumes.version name count
     → blocks_of name volumes.volumes ≡ None
     → most_volumes volumes.version ≤ length volumes.volumes → Some TooManyVolumes ≡ refusal_of extents (Create name count) volumes
 creation_full extents name count volumes new none full =
@@ -335,8 +347,8 @@ pub record HasRoomFor (name : List ℕ) (volumes : VolumeMap) : Type 0 where
   pub fewer : length volumes.volumes < most_volumes volumes.version
 
 -- what it is refused with there
-room_for_one : (extents : ℕ) (name : List ℕ) (count : ℕ) (volumes : VolumeMap) → IsGoodNew volumes.version name count → HasRoomFor name volumes
-    → refusal_of extents (Create name count) volumes ≡ cond (nat_lt extents (need EXTENT_SECTORS volumes.volumes + extents_for EXTENT_SECTORS count))
+room_for_one : (extents : ExtentLayout) (name : List ℕ) (count : ℕ) (volumes : VolumeMap) → IsGoodNew volumes.version name count → HasRoomFor name volumes
+    → refusal_of extents (Create name count) volumes ≡ cond (nat_lt extents.count (need extents.blocks volumes.volumes + extents_for extents.blocks count))
     (Some NoSpace) None
 room_for_one extents name count volumes new room =
     good_new extents name count volumes new
@@ -344,28 +356,28 @@ room_for_one extents name count volumes new room =
     ∙ cond-false (nat_le (most_volumes volumes.version) (length volumes.volumes)) (Some TooManyVolumes) _
     (lt-leb (most_volumes volumes.version) (length volumes.volumes) room.fewer)
 
-pub creation_no_space : (extents free : ℕ) (name : List ℕ) (count : ℕ) (volumes : VolumeMap) → IsGoodNew volumes.version name count → HasRoomFor name volumes
-    → free + need EXTENT_SECTORS volumes.volumes ≡ extents → free < extents_for EXTENT_SECTORS count
+pub creation_no_space : (extents : ExtentLayout) (free : ℕ) (name : List ℕ) (count : ℕ) (volumes : VolumeMap) → IsGoodNew volumes.version name count → HasRoomFor name volumes
+    → free + need extents.blocks volumes.volumes ≡ extents.count → free < extents_for extents.blocks count
     → Some NoSpace ≡ refusal_of extents (Create name count) volumes
 creation_no_space extents free name count volumes new room all less =
-    let needed = need EXTENT_SECTORS volumes.volumes + extents_for EXTENT_SECTORS count in
+    let needed = need extents.blocks volumes.volumes + extents_for extents.blocks count in
     sym (room_for_one extents name count volumes new room
-    ∙ cond-true (nat_lt extents needed) (Some NoSpace) None (lt-ltb extents needed (omega (arith, all, less))))
+    ∙ cond-true (nat_lt extents.count needed) (Some NoSpace) None (lt-ltb extents.count needed (omega (arith, all, less))))
 
-pub creation_admitted : (extents free : ℕ) (name : List ℕ) (count : ℕ) (volumes : VolumeMap) → IsGoodNew volumes.version name count → HasRoomFor name volumes
-    → free + need EXTENT_SECTORS volumes.volumes ≡ extents → extents_for EXTENT_SECTORS count ≤ free → None ≡ refusal_of extents (Create name count) volumes
+pub creation_admitted : (extents : ExtentLayout) (free : ℕ) (name : List ℕ) (count : ℕ) (volumes : VolumeMap) → IsGoodNew volumes.version name count → HasRoomFor name volumes
+    → free + need extents.blocks volumes.volumes ≡ extents.count → extents_for extents.blocks count ≤ free → None ≡ refusal_of extents (Create name count) volumes
 creation_admitted extents free name count volumes new room all fits =
-    let needed = need EXTENT_SECTORS volumes.volumes + extents_for EXTENT_SECTORS count in
+    let needed = need extents.blocks volumes.volumes + extents_for extents.blocks count in
     sym (room_for_one extents name count volumes new room
-    ∙ cond-false (nat_lt extents needed) (Some NoSpace) None (le-ltb extents needed (omega (arith, all, fits))))
+    ∙ cond-false (nat_lt extents.count needed) (Some NoSpace) None (le-ltb extents.count needed (omega (arith, all, fits))))
 
 -- a new record may be put
-pub may_create_at : (table : VolumeTable) (owners : List (Option Owned)) (number : ℕ) (entry : Record) (name : List ℕ)
+pub may_create_at : (extents : ExtentLayout) (table : VolumeTable) (owners : List (Option Owned)) (number : ℕ) (entry : Record) (name : List ℕ)
     → IsFirstUnused table.version table.records number → 1 ≤ entry.blocks
     → entry.name.bytes.items ≡ name → length name ≤ most_name_bytes table.version → (HasRecord table.records name → ⊥)
-    → extents_for EXTENT_SECTORS entry.blocks ≤ free_of owners
-    → MayGrowTo table.version table.records owners number 0 entry
-may_create_at table owners number entry name unused least named short none fits =
+    → extents_for extents.blocks entry.blocks ≤ free_of owners
+    → MayGrowTo extents table.version table.records owners number 0 entry
+may_create_at extents table owners number entry name unused least named short none fits =
     record {
       of_table = unused.of_table;
       short = subst (λ (n : List ℕ). length n ≤ most_name_bytes table.version) (sym named) short;
@@ -376,11 +388,11 @@ may_create_at table owners number entry name unused least named short none fits 
     }
 
 -- a record may be put with more blocks
-pub may_extend_at : (table : VolumeTable) (owners : List (Option Owned)) (number first : ℕ) (entry : Record) (name : List ℕ)
+pub may_extend_at : (extents : ExtentLayout) (table : VolumeTable) (owners : List (Option Owned)) (number first : ℕ) (entry : Record) (name : List ℕ)
     → IsRecordFor table.records name number first
-    → first < entry.blocks → entry.name.bytes.items ≡ name → extents_for EXTENT_SECTORS entry.blocks ≤ extents_for EXTENT_SECTORS first + free_of owners
-    → MayGrowTo table.version table.records owners number first entry
-may_extend_at table owners number first entry name found more named fits =
+    → first < entry.blocks → entry.name.bytes.items ≡ name → extents_for extents.blocks entry.blocks ≤ extents_for extents.blocks first + free_of owners
+    → MayGrowTo extents table.version table.records owners number first entry
+may_extend_at extents table owners number first entry name found more named fits =
     record {
       of_table = used_is_of_version table number found.entry found.used;
       short = subst (λ (n : List ℕ). length n ≤ most_name_bytes table.version) (found.named ∙ sym named) (used_is_short table number found.entry found.used);
@@ -392,20 +404,20 @@ may_extend_at table owners number first entry name found more named fits =
     }
 
 -- what the volumes need after an extend
-grown_need : (extents : ℕ) (name : List ℕ) (long growth : ℕ) (volumes : VolumeMap) → AreVolumes extents volumes → HasLength name long volumes.volumes
-    → need EXTENT_SECTORS (changed (Extend name growth) volumes.volumes) + extents_for EXTENT_SECTORS long ≡ need EXTENT_SECTORS volumes.volumes + extents_for
-    EXTENT_SECTORS (long + growth)
+grown_need : (extents : ExtentLayout) (name : List ℕ) (long growth : ℕ) (volumes : VolumeMap) → AreVolumes extents volumes → HasLength name long volumes.volumes
+    → need extents.blocks (changed (Extend name growth) volumes.volumes) + extents_for extents.blocks long ≡ need extents.blocks volumes.volumes + extents_for
+    extents.blocks (long + growth)
 grown_need extents name long growth volumes are has =
     let old = blocks_in name volumes.volumes in
     let new : Volume = record { name = name; blocks = old ++ zero_blocks growth } in
     let found : blocks_of name volumes.volumes ≡ Some old = has.found ∙ ap (λ o. Some (unwrap_or o [])) (sym has.found) in
     let as_long = long_blocks name long volumes.volumes has in
     let new_long : length new.blocks ≡ long + growth = omega (arith, length-append old (zero_blocks growth), length-replicate growth zero_block, as_long) in
-    let needed = need-with_other new volumes.volumes old are.rising found in
-    ap (λ n. need EXTENT_SECTORS (with_volume new volumes.volumes) + extents_for EXTENT_SECTORS n) (sym as_long) ∙ needed
-    ∙ ap (λ n. need EXTENT_SECTORS volumes.volumes + extents_for EXTENT_SECTORS n) new_long
+    let needed = need-with_other extents.blocks new volumes.volumes old are.rising found in
+    ap (λ n. need extents.blocks (with_volume new volumes.volumes) + extents_for extents.blocks n) (sym as_long) ∙ needed
+    ∙ ap (λ n. need extents.blocks volumes.volumes + extents_for extents.blocks n) new_long
 
-pub extension_bad_size : (extents : ℕ) (name : List ℕ) (long growth : ℕ) (volumes : VolumeMap) → HasLength name long volumes.volumes → (growth ≡ 0)
+pub extension_bad_size : (extents : ExtentLayout) (name : List ℕ) (long growth : ℕ) (volumes : VolumeMap) → HasLength name long volumes.volumes → (growth ≡ 0)
     ⊎ (MOST_BLOCKS < long + growth)
     → Some BadSize ≡ refusal_of extents (Extend name growth) volumes
 extension_bad_size extents name long growth volumes has bad =
@@ -419,9 +431,9 @@ extension_bad_size extents name long growth volumes has bad =
     )
 
 -- what it is refused with where the size is good
-good_growth : (extents : ℕ) (name : List ℕ) (long growth : ℕ) (volumes : VolumeMap) → HasLength name long volumes.volumes → 1 ≤ growth
+good_growth : (extents : ExtentLayout) (name : List ℕ) (long growth : ℕ) (volumes : VolumeMap) → HasLength name long volumes.volumes → 1 ≤ growth
     → long + growth ≤ MOST_BLOCKS
-    → refusal_of extents (Extend name growth) volumes ≡ cond (nat_lt extents (need EXTENT_SECTORS (changed (Extend name growth) volumes.volumes)))
+    → refusal_of extents (Extend name growth) volumes ≡ cond (nat_lt extents.count (need extents.blocks (changed (Extend name growth) volumes.volumes)))
     (Some NoSpace) None
 good_growth extents name long growth volumes has least most =
     let all = length (blocks_in name volumes.volumes) + growth in
@@ -431,27 +443,27 @@ good_growth extents name long growth volumes has least most =
     (or_from (growth == 0) (nat_lt MOST_BLOCKS all) (ne_eqb growth 0 (λ none. omega (arith, least, none)))
     (le-ltb MOST_BLOCKS all (omega (arith, most, as_long))))
 
-pub extension_no_space : (extents free : ℕ) (name : List ℕ) (long growth : ℕ) (volumes : VolumeMap) → AreVolumes extents volumes
+pub extension_no_space : (extents : ExtentLayout) (free : ℕ) (name : List ℕ) (long growth : ℕ) (volumes : VolumeMap) → AreVolumes extents volumes
     → HasLength name long volumes.volumes → 1 ≤ growth → long + growth ≤ MOST_BLOCKS
-    → free + need EXTENT_SECTORS volumes.volumes ≡ extents → extents_for EXTENT_SECTORS long + free < extents_for EXTENT_SECTORS (long + growth)
+    → free + need extents.blocks volumes.volumes ≡ extents.count → extents_for extents.blocks long + free < extents_for extents.blocks (long + growth)
     → Some NoSpace ≡ refusal_of extents (Extend name growth) volumes
 extension_no_space extents free name long growth volumes are has least most all less =
-    let needed = need EXTENT_SECTORS (changed (Extend name growth) volumes.volumes) in
-    let above : extents < needed = omega (arith, all, less, grown_need extents name long growth volumes are has) in
-    sym (good_growth extents name long growth volumes has least most ∙ cond-true (nat_lt extents needed) (Some NoSpace) None (lt-ltb extents needed above))
+    let needed = need extents.blocks (changed (Extend name growth) volumes.volumes) in
+    let above : extents.count < needed = omega (arith, all, less, grown_need extents name long growth volumes are has) in
+    sym (good_growth extents name long growth volumes has least most ∙ cond-true (nat_lt extents.count needed) (Some NoSpace) None (lt-ltb extents.count needed above))
 
-pub extension_admitted : (extents free : ℕ) (name : List ℕ) (long growth : ℕ) (volumes : VolumeMap) → AreVolumes extents volumes
+pub extension_admitted : (extents : ExtentLayout) (free : ℕ) (name : List ℕ) (long growth : ℕ) (volumes : VolumeMap) → AreVolumes extents volumes
     → HasLength name long volumes.volumes → 1 ≤ growth → long + growth ≤ MOST_BLOCKS
-    → free + need EXTENT_SECTORS volumes.volumes ≡ extents → extents_for EXTENT_SECTORS (long + growth) ≤ extents_for EXTENT_SECTORS long + free
+    → free + need extents.blocks volumes.volumes ≡ extents.count → extents_for extents.blocks (long + growth) ≤ extents_for extents.blocks long + free
     → None ≡ refusal_of extents (Extend name growth) volumes
 extension_admitted extents free name long growth volumes are has least most all fits =
-    let needed = need EXTENT_SECTORS (changed (Extend name growth) volumes.volumes) in
-    let within : needed ≤ extents = omega (arith, all, fits, grown_need extents name long growth volumes are has) in
-    sym (good_growth extents name long growth volumes has least most ∙ cond-false (nat_lt extents needed) (Some NoSpace) None (le-ltb extents needed within))
+    let needed = need extents.blocks (changed (Extend name growth) volumes.volumes) in
+    let within : needed ≤ extents.count = omega (arith, all, fits, grown_need extents name long growth volumes are has) in
+    sym (good_growth extents name long growth volumes has least most ∙ cond-false (nat_lt extents.count needed) (Some NoSpace) None (le-ltb extents.count needed within))
 
 -- ---- a rename
 
-pub rename_bad_name : (extents : ℕ) (old new : List ℕ) (long : ℕ) (volumes : VolumeMap) → HasLength old long volumes.volumes
+pub rename_bad_name : (extents : ExtentLayout) (old new : List ℕ) (long : ℕ) (volumes : VolumeMap) → HasLength old long volumes.volumes
     → (IsNameOf volumes.version new → ⊥)
     → Some BadName ≡ refusal_of extents (Rename old new) volumes
 rename_bad_name extents old new long volumes has none =
@@ -461,7 +473,7 @@ rename_bad_name extents old new long volumes has none =
     )
 
 -- a name that is longer than those of the table
-pub rename_long_name : (extents : ℕ) (table : VolumeTable) (sectors : List Block) (volumes : VolumeMap) (old new : List ℕ) (long : ℕ)
+pub rename_long_name : (extents : ExtentLayout) (table : VolumeTable) (sectors : List Block) (volumes : VolumeMap) (old new : List ℕ) (long : ℕ)
     → ShowsBy extents table sectors volumes
     → HasLength old long volumes.volumes → most_name_bytes table.version < length new → Some BadName ≡ refusal_of extents (Rename old new) volumes
 rename_long_name extents table sectors volumes old new long by has above =
@@ -469,19 +481,19 @@ rename_long_name extents table sectors volumes old new long by has above =
     rename_bad_name extents old new long volumes has (λ is. omega (arith, above, same, is.short))
 
 -- what it is refused with where the old name is a volume's and the new one is good
-good_rename : (extents : ℕ) (old new : List ℕ) (long : ℕ) (volumes : VolumeMap) → HasLength old long volumes.volumes → IsNameOf volumes.version new
+good_rename : (extents : ExtentLayout) (old new : List ℕ) (long : ℕ) (volumes : VolumeMap) → HasLength old long volumes.volumes → IsNameOf volumes.version new
     → refusal_of extents (Rename old new) volumes ≡ cond (is_some (blocks_of new volumes.volumes)) (Some Exists) None
 good_rename extents old new long volumes has is =
     cond-false (has_no_volume old volumes.volumes) (Some NoVolume) _ (is_there old long volumes.volumes has)
     ∙ cond-false (not (is_good_name volumes.version new)) (Some BadName) _ (name_is_good volumes.version new is)
 
-pub rename_exists : (extents : ℕ) (old new : List ℕ) (long other : ℕ) (volumes : VolumeMap) → HasLength old long volumes.volumes → IsNameOf volumes.version new
+pub rename_exists : (extents : ExtentLayout) (old new : List ℕ) (long other : ℕ) (volumes : VolumeMap) → HasLength old long volumes.volumes → IsNameOf volumes.version new
     → HasLength new other volumes.volumes
     → Some Exists ≡ refusal_of extents (Rename old new) volumes
 rename_exists extents old new long other volumes has is taken =
     sym (good_rename extents old new long volumes has is ∙ cond-true (is_some (blocks_of new volumes.volumes)) (Some Exists) None (ap is_some taken.found))
 
-pub rename_admitted : (extents : ℕ) (old new : List ℕ) (long : ℕ) (volumes : VolumeMap) → HasLength old long volumes.volumes → IsNameOf volumes.version new
+pub rename_admitted : (extents : ExtentLayout) (old new : List ℕ) (long : ℕ) (volumes : VolumeMap) → HasLength old long volumes.volumes → IsNameOf volumes.version new
     → blocks_of new volumes.volumes ≡ None
     → None ≡ refusal_of extents (Rename old new) volumes
 rename_admitted extents old new long volumes has is absent =

@@ -3,6 +3,7 @@ use Rattle.std.proofs.Common.{◌≡◌, ℕ, zero, suc, Bool, true, false, List
 use Rattle.std.specs.Prelude.{unwrap_or}
 use Rattle.std.specs.List.Sorted.{IsStrictlySortedBy}
 use Rattle.std.proofs.lemmas.Option.{none-some, same_Some}
+use Rattle.extents.specs.declared.extent_layout.ExtentLayout.{ExtentLayout}
 use Rattle.extents.specs.declared.owned.Owned.{Owned}
 use Rattle.extents.specs.declared.record.Record.{Record}
 use Rattle.extents.specs.VolumeTables.{AreDistinct, HasRecord, extents_for, record_of}
@@ -13,7 +14,6 @@ use Rattle.volume_table.specs.Shows.{AreShown, IsOfVolume, Shows, records_need, 
 use Rattle.volume_table.proofs.VolumeLemmas.{Rising, same_name_is, same_name_itself, rising_with_volume, length-with_new, need-with_new, found_with_volume}
 use Rattle.volume_table.proofs.VolumeLemmas.{others_with_volume, known_by_blocks}
 use Rattle.volume_table.proofs.ShowsLemmas.{distinct_names, same_found}
-use Rattle.layout_map.specs.declared.sizes.TheConstants.{EXTENT_SECTORS}
 
 -- the volume of a record, with its blocks in these volumes
 abbrev pub volume_of : VolumeList → Record → Volume
@@ -122,39 +122,39 @@ length-listed volumes (Some first ∷ records) distinct =
     let more = length-with_new (volume_of volumes first) (listed volumes records) (rising_listed volumes records) (not_again volumes first records distinct) in
     omega (arith, rest, more)
 
-need-listed : (volumes : VolumeList) (records : List (Option Record)) → AreDistinct records
+need-listed : (each : ℕ) (volumes : VolumeList) (records : List (Option Record)) → AreDistinct records
     → ((number : ℕ) (entry : Record) → record_of records number ≡ Some entry → length (blocks_in entry.name.bytes.items volumes) ≡ entry.blocks)
-    → need EXTENT_SECTORS (listed volumes records) ≡ records_need EXTENT_SECTORS records
-need-listed volumes [] distinct as_long = refl
-need-listed volumes (None ∷ records) distinct as_long =
-    let rest = need-listed volumes records (distinct_rest None records distinct) (λ number entry used. as_long (suc number) entry used) in
+    → need each (listed volumes records) ≡ records_need each records
+need-listed each volumes [] distinct as_long = refl
+need-listed each volumes (None ∷ records) distinct as_long =
+    let rest = need-listed each volumes records (distinct_rest None records distinct) (λ number entry used. as_long (suc number) entry used) in
     omega (arith, rest)
-need-listed volumes (Some first ∷ records) distinct as_long =
-    let rest = need-listed volumes records (distinct_rest (Some first) records distinct) (λ number entry used. as_long (suc number) entry used) in
-    let more = need-with_new (volume_of volumes first) (listed volumes records) (rising_listed volumes records) (not_again volumes first records distinct) in
-    let same : extents_for EXTENT_SECTORS (length (blocks_in first.name.bytes.items volumes)) ≡ extents_for EXTENT_SECTORS first.blocks =
-    ap (extents_for EXTENT_SECTORS) (as_long 0 first refl) in
+need-listed each volumes (Some first ∷ records) distinct as_long =
+    let rest = need-listed each volumes records (distinct_rest (Some first) records distinct) (λ number entry used. as_long (suc number) entry used) in
+    let more = need-with_new each (volume_of volumes first) (listed volumes records) (rising_listed volumes records) (not_again volumes first records distinct) in
+    let same : extents_for each (length (blocks_in first.name.bytes.items volumes)) ≡ extents_for each first.blocks =
+    ap (extents_for each) (as_long 0 first refl) in
     omega (arith, rest, more, same)
 
 -- the blocks of a record's volume
-pub record_blocks : (records : List (Option Record)) (owners : List (Option Owned)) (sectors : List Block) (volumes : VolumeList)
-    → AreShown EXTENT_SECTORS records owners sectors volumes → (number : ℕ) (entry : Record) → record_of records number ≡ Some entry
+pub record_blocks : {extents : ExtentLayout} (records : List (Option Record)) (owners : List (Option Owned)) (sectors : List Block) (volumes : VolumeList)
+    → AreShown extents records owners sectors volumes → (number : ℕ) (entry : Record) → record_of records number ≡ Some entry
     → length (blocks_in entry.name.bytes.items volumes) ≡ entry.blocks
-record_blocks records owners sectors volumes shown number entry used =
-    let was : IsOfVolume EXTENT_SECTORS owners sectors volumes number entry = shown.used number entry used in
+record_blocks {extents} records owners sectors volumes shown number entry used =
+    let was : IsOfVolume extents owners sectors volumes number entry = shown.used number entry used in
     ap (λ o. length (unwrap_or o [])) was.named ∙ was.as_long
 
 -- the volumes of the records are the volumes
-pub listed_are : (records : List (Option Record)) (owners : List (Option Owned)) (sectors : List Block) (volumes : VolumeList) → Rising volumes
-    → AreShown EXTENT_SECTORS records owners sectors volumes → listed volumes records ≡ volumes
-listed_are records owners sectors volumes rising shown =
+pub listed_are : {extents : ExtentLayout} (records : List (Option Record)) (owners : List (Option Owned)) (sectors : List Block) (volumes : VolumeList) → Rising volumes
+    → AreShown extents records owners sectors volumes → listed volumes records ≡ volumes
+listed_are {extents} records owners sectors volumes rising shown =
     known_by_blocks (listed volumes records) volumes (rising_listed volumes records) rising (λ name.
     same_found (blocks_of name (listed volumes records)) (blocks_of name volumes) (there name) (back name))
   where
     there : (name : List ℕ) (blocks : List Block) → blocks_of name (listed volumes records) ≡ Some blocks → blocks_of name volumes ≡ Some blocks
     there name blocks found =
         let from = listed_from volumes records name blocks found in
-        let was : IsOfVolume EXTENT_SECTORS owners sectors volumes from.number from.entry = shown.used from.number from.entry from.used in
+        let was : IsOfVolume extents owners sectors volumes from.number from.entry = shown.used from.number from.entry from.used in
         let here : blocks_of name volumes ≡ Some was.blocks = ap (λ n. blocks_of n volumes) (sym from.named) ∙ was.named in
         here ∙ sym (ap Some (from.same ∙ ap (λ o. unwrap_or o []) here))
 
@@ -164,14 +164,14 @@ listed_are records owners sectors volumes rising shown =
         ap (λ n. blocks_of n (listed volumes records)) (sym has.named) ∙ listed_has volumes records has.number has.entry has.used
         ∙ ap (λ n. Some (blocks_in n volumes)) has.named ∙ ap (λ o. Some (unwrap_or o [])) found
 
-pub records_are_counted : (extents : ℕ) (sectors : List Block) (volumes : VolumeMap) (shows : Shows extents sectors volumes)
-    → (length volumes.volumes ≡ used_records shows.table.records) × (need EXTENT_SECTORS volumes.volumes ≡ records_need EXTENT_SECTORS shows.table.records)
+pub records_are_counted : (extents : ExtentLayout) (sectors : List Block) (volumes : VolumeMap) (shows : Shows extents sectors volumes)
+    → (length volumes.volumes ≡ used_records shows.table.records) × (need extents.blocks volumes.volumes ≡ records_need extents.blocks shows.table.records)
 records_are_counted extents sectors volumes shows =
     let records = shows.table.records in
     let owners = shows.table.extents in
     let distinct : AreDistinct records = distinct_names shows.table.version records owners shows.table.is_table in
     let same : listed volumes.volumes records ≡ volumes.volumes = listed_are records owners sectors volumes.volumes shows.limits.rising shows.shown in (
       ap length (sym same) ∙ length-listed volumes.volumes records distinct,
-      ap (need EXTENT_SECTORS) (sym same)
-          ∙ need-listed volumes.volumes records distinct (record_blocks records owners sectors volumes.volumes shows.shown),
+      ap (need extents.blocks) (sym same)
+          ∙ need-listed extents.blocks volumes.volumes records distinct (record_blocks records owners sectors volumes.volumes shows.shown),
     )

@@ -8,6 +8,8 @@ use Rattle.sector_model.specs.Bank.{IsTrueTo}
 use Rattle.layout_map.specs.declared.geometry.Geometry.{Geometry}
 use Rattle.array_io.specs.Believed.ArrayCalls.{Answer}
 use Rattle.array_io.specs.Believed.Views.{EndsIt}
+use Rattle.extents.specs.declared.extent_layout.ExtentLayout.{ExtentLayout}
+use Rattle.extents.specs.SetExtents.{extents_in}
 use Rattle.extents.specs.declared.owned.Owned.{Owned}
 use Rattle.extents.specs.declared.record.Record.{Record}
 use Rattle.extents.specs.declared.volume_table.VolumeTable.{VolumeTable}
@@ -20,7 +22,7 @@ use Rattle.volume_table.specs.Admission.{AreKept, IsFirstUnused, IsGrownFrom, Ma
 use Rattle.volume_table.specs.Volumes.{Block, VolumeMap}
 use Rattle.volume_table.specs.VolumeStep.{Command, Create, Done, HasBlocks, OnVolumes, answer, done, refusal_of}
 use Rattle.volume_table.specs.Shows.{Shows}
-use Rattle.volume_table.specs.Stands.{StoreView, extents_in}
+use Rattle.volume_table.specs.Stands.{StoreView}
 use Rattle.volume_table.specs.StoreCalls.{Applies, IsOfItsKind, extents_for_store}
 use Rattle.volume_table.specs.StoreChanges.{Grows, IsGrown, MayGrow}
 use Rattle.volume_table.specs.StoreFunctions.{CreatesVolume, done_reply}
@@ -30,10 +32,9 @@ use Rattle.volume_table.proofs.GrownVolumes.{IsGrowth, created_is_shown, is_grow
 use Rattle.volume_table.proofs.StoreSteps.{done_with_volumes, ended_with_volumes, refused_at_once}
 use Rattle.extents.specs.declared.record.TheConstants.{MOST_BLOCKS}
 use Rattle.extents.specs.declared.volume_table.TheConstants.{MOST_VOLUMES}
-use Rattle.layout_map.specs.declared.sizes.TheConstants.{EXTENT_SECTORS}
 
 -- a list that shows volumes by a table begins with its spelling
-pub begins_with : (extents : ℕ) (table : VolumeTable) (V : List Block) (volumes : VolumeMap) (by : ShowsBy extents table V volumes) → Spell V table
+pub begins_with : (extents : ExtentLayout) (table : VolumeTable) (V : List Block) (volumes : VolumeMap) (by : ShowsBy extents table V volumes) → Spell V table
 begins_with extents table V volumes by = subst (Spell V) by.by by.shows.spelled
 
 -- What `grow` did, with the store before and after it.
@@ -42,11 +43,11 @@ pub record HasGrown (honest : Type 0) (old new : StoreView) (owners owners' : Li
   pub kept : AreKept (extents_for_store old) old.keeps owners
   pub kept_then : AreKept (extents_for_store new) new.keeps owners'
   pub version : new.keeps.version ≡ old.keeps.version
-  pub may : MayGrowTo old.keeps.version old.keeps.records owners number first entry
+  pub may : MayGrowTo (extents_for_store old) old.keeps.version old.keeps.records owners number first entry
   pub records : new.keeps.records ≡ slice_set old.keeps.records number (Some entry)
-  pub taken : IsTaken owners owners' number (extents_for EXTENT_SECTORS entry.blocks - extents_for EXTENT_SECTORS first)
-  pub changes : ChangesList honest (entry.blocks - first + 1) (MayGrow old.keeps new.keeps number first entry.blocks)
-      (Grows old.keeps new.keeps number first entry.blocks) old.array new.array result
+  pub taken : IsTaken owners owners' number (extents_for (extents_for_store old).blocks entry.blocks - extents_for (extents_for_store old).blocks first)
+  pub changes : ChangesList honest (entry.blocks - first + 1) (MayGrow (extents_for_store old) old.keeps new.keeps number first entry.blocks)
+      (Grows (extents_for_store old) old.keeps new.keeps number first entry.blocks) old.array new.array result
   pub going : old.ended ≡ None
   pub goes : result ≡ Ok tt → new.ended ≡ None
   pub ends : (refusal : Refusal) → result ≡ Err refusal → new.ended ≡ Some refusal
@@ -56,7 +57,7 @@ module _ (honest : Type 0) (old new : StoreView) (owners owners' : List (Option 
     (grown : HasGrown honest old new owners owners' number first entry result) where
   pub growth : IsGrowth (extents_for_store old) old.keeps new.keeps number first entry
   growth = is_growth (extents_for_store old) old.keeps new.keeps owners owners' number first
-      (extents_for EXTENT_SECTORS entry.blocks - extents_for EXTENT_SECTORS first) entry grown.version
+      (extents_for (extents_for_store old).blocks entry.blocks - extents_for (extents_for_store old).blocks first) entry grown.version
       (omega (arith, table_all_records old.keeps.records old.keeps.extents old.keeps.is_table, grown.may.of_table, most_volumes_most old.keeps.version))
       grown.kept
       (subst (λ (geometry : Geometry). AreKept (extents_in geometry) new.keeps owners') grown.changes.goes_on.not_older.same_geometry grown.kept_then)
@@ -69,13 +70,13 @@ pub growing_applies : (honest : Type 0) (command : Command) (old new : StoreView
     → ((volumes : VolumeMap) → Done ≡ answer command volumes.volumes) → entry.blocks ≤ MOST_BLOCKS
     → ((sectors : List Block) (volumes : VolumeMap) → ShowsBy (extents_for_store old) old.keeps sectors volumes
     → None ≡ refusal_of (extents_for_store old) command volumes)
-    → ((V W : List Block) (volumes : VolumeMap) → ShowsBy (extents_for_store old) old.keeps V volumes → IsGrown new.keeps number first entry.blocks V W
+    → ((V W : List Block) (volumes : VolumeMap) → ShowsBy (extents_for_store old) old.keeps V volumes → IsGrown (extents_for_store old) new.keeps number first entry.blocks V W
     → ShowsBy (extents_for_store old) new.keeps W (done command volumes))
     → Applies honest (OnVolumes command) old new (done_reply result)
 growing_applies honest command old new owners owners' number first entry result grown whole kind answers most admitted shows = by_result result grown
   where
     on_the_way : (V W : List Block) (volumes : VolumeMap) → ShowsBy (extents_for_store old) old.keeps V volumes
-        → MayGrow old.keeps new.keeps number first entry.blocks V W
+        → MayGrow (extents_for_store old) old.keeps new.keeps number first entry.blocks V W
         → Shows (extents_for_store old) W volumes ⊎ Shows (extents_for_store old) W (done command volumes)
     on_the_way V W volumes by may = elim (may (begins_with (extents_for_store old) old.keeps V volumes by)) [
       | inl partly ↦ inl (shown_on_the_way (extents_for_store old) old.keeps new.keeps number first entry.blocks entry V W volumes
@@ -86,14 +87,14 @@ growing_applies honest command old new owners owners' number first entry result 
     by_result : (result : Answer) → HasGrown honest old new owners owners' number first entry result
         → Applies honest (OnVolumes command) old new (done_reply result)
     by_result (Ok unit) is =
-        done_with_volumes honest command (entry.blocks - first + 1) (MayGrow old.keeps new.keeps number first entry.blocks)
-        (Grows old.keeps new.keeps number first entry.blocks) old new Done whole (omega (arith, most)) is.going (is.goes refl) is.true_to is.changes kind
+        done_with_volumes honest command (entry.blocks - first + 1) (MayGrow (extents_for_store old) old.keeps new.keeps number first entry.blocks)
+        (Grows (extents_for_store old) old.keeps new.keeps number first entry.blocks) old new Done whole (omega (arith, most)) is.going (is.goes refl) is.true_to is.changes kind
         admitted
         (λ fair lost V volumes rests by. answers volumes) on_the_way
         (λ V W volumes by leaves. shows V W volumes by (leaves (begins_with (extents_for_store old) old.keeps V volumes by)))
     by_result (Err refusal) is =
-        ended_with_volumes honest command (entry.blocks - first + 1) (MayGrow old.keeps new.keeps number first entry.blocks)
-        (Grows old.keeps new.keeps number first entry.blocks) old new refusal whole (omega (arith, most)) is.going (is.ends refusal refl) is.true_to is.changes
+        ended_with_volumes honest command (entry.blocks - first + 1) (MayGrow (extents_for_store old) old.keeps new.keeps number first entry.blocks)
+        (Grows (extents_for_store old) old.keeps new.keeps number first entry.blocks) old new refusal whole (omega (arith, most)) is.going (is.ends refusal refl) is.true_to is.changes
         admitted on_the_way
 
 -- A create that is admitted.
@@ -110,7 +111,7 @@ create_applies honest name count old new owners owners' number first entry resul
     none_first : first ≡ 0
     none_first = subst (λ (r : Option Record). IsGrownFrom r first entry) unused grown.may.from
 
-    shows : (V W : List Block) (volumes : VolumeMap) → ShowsBy (extents_for_store old) old.keeps V volumes → IsGrown new.keeps number first entry.blocks V W
+    shows : (V W : List Block) (volumes : VolumeMap) → ShowsBy (extents_for_store old) old.keeps V volumes → IsGrown (extents_for_store old) new.keeps number first entry.blocks V W
         → ShowsBy (extents_for_store old) new.keeps W (done (Create name count) volumes)
     shows V W volumes by is =
         subst (λ (n : ℕ). ShowsBy (extents_for_store old) new.keeps W (done (Create name n) volumes)) same_count
@@ -118,7 +119,7 @@ create_applies honest name count old new owners owners' number first entry resul
         (subst (λ (n : ℕ). IsGrowth (extents_for_store old) old.keeps new.keeps number n entry) none_first
         (growth honest old new owners owners' number first entry result grown)) unused named by
         (subst (λ (n : ℕ). None ≡ refusal_of (extents_for_store old) (Create name n) volumes) (sym same_count) (admitted V volumes by))
-        (subst (λ (n : ℕ). IsGrown new.keeps number n entry.blocks V W) none_first is))
+        (subst (λ (n : ℕ). IsGrown (extents_for_store old) new.keeps number n entry.blocks V W) none_first is))
 
 -- What a create is refused with at once does not end the store.
 not_ended : (refusal : Refusal) → Contains (BadName ∷ BadSize ∷ Exists ∷ TooManyVolumes ∷ NoSpace ∷ []) refusal → ¬ EndsIt refusal

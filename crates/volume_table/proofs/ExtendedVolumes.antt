@@ -11,15 +11,19 @@ use Rattle.sector_model.specs.declared.refusal.Refusal.{Refusal}
 use Rattle.sector_model.specs.declared.refusal.Refusal.TheVariants.{BadSize, NoSpace, NoVolume}
 use Rattle.array_io.specs.Believed.ArrayCalls.{Answer}
 use Rattle.array_io.specs.Believed.Views.{EndsIt}
+use Rattle.extents.specs.declared.extent_layout.ExtentLayout.{ExtentLayout}
+use Rattle.extents.specs.ExtentMaps.{place_of, sector_of_block}
 use Rattle.extents.specs.declared.owned.Owned.{Owned}
 use Rattle.extents.specs.declared.record.Record.{Record}
 use Rattle.extents.specs.declared.volume_table.VolumeTable.{VolumeTable}
 use Rattle.extents.specs.Owners.{IsAt}
+use Rattle.extents.specs.SetExtents.{IsOfSet}
+use Rattle.extents.proofs.Blocks.{place_is_below}
 use Rattle.extents.specs.VolumeTables.{IsRecordFor, extents_of, record_of}
 use Rattle.volume_table.specs.Admission.{ShowsBy}
 use Rattle.volume_table.specs.Volumes.{Block, VolumeMap, zero_block}
 use Rattle.volume_table.specs.VolumeStep.{Extend, blocks_in, done, refusal_of, zero_blocks}
-use Rattle.volume_table.specs.Shows.{Shows, sector_of_block}
+use Rattle.volume_table.specs.Shows.{Shows}
 use Rattle.volume_table.specs.Stands.{StoreView}
 use Rattle.volume_table.specs.StoreCalls.{extents_for_store}
 use Rattle.volume_table.specs.StoreChanges.{IsGrown}
@@ -30,33 +34,33 @@ use Rattle.volume_table.proofs.StepLemmas.{changed_if_done}
 use Rattle.volume_table.proofs.StoreSteps.{refused_at_once}
 use Rattle.volume_table.proofs.TableLemmas.{extend_is_shown}
 use Rattle.extents.specs.declared.record.TheConstants.{MOST_BLOCKS}
-use Rattle.layout_map.specs.declared.sizes.TheConstants.{EXTENT_SECTORS}
 
 -- an extent that the volume had at a place is the one that it has there in the new table
-old_extent : (extents : ℕ) (old new : VolumeTable) (number first : ℕ) (entry one : Record) (j extent : ℕ) → IsGrowth extents old new number first entry
-    → record_of old.records number ≡ Some one
-    → j < one.blocks → IsAt new.extents extent number (j / EXTENT_SECTORS) → IsAt old.extents extent number (j / EXTENT_SECTORS)
-old_extent extents old new number first entry one j extent growth used below at =
-    ∥∥₁_elim old.is_table (hlevel props) (λ was. ∥∥₁_elim new.is_table (hlevel props) (λ is.
-    let there = (was.places number).extent_at (j / EXTENT_SECTORS)
-    (subst (λ (r : Option Record). j / EXTENT_SECTORS < extents_of EXTENT_SECTORS r) (sym used) (omega (arith, below))) in
-    subst (λ (e : ℕ). IsAt old.extents e number (j / EXTENT_SECTORS))
-    ((is.places number).once there.0 extent (j / EXTENT_SECTORS) (growth.stays there.0 number (j / EXTENT_SECTORS) there.1) at) there.1))
+old_extent : (extents : ExtentLayout) (old new : VolumeTable) (number first : ℕ) (entry one : Record) (j extent : ℕ) → IsGrowth extents old new number first entry
+    → IsOfSet extents old → record_of old.records number ≡ Some one
+    → j < one.blocks → IsAt new.extents extent number (place_of extents j) → IsAt old.extents extent number (place_of extents j)
+old_extent extents old new number first entry one j extent growth of_set used below at =
+    ∥∥₁_elim of_set.placed (hlevel props) (λ placed. ∥∥₁_elim new.is_table (hlevel props) (λ is.
+    let place = place_of extents j in
+    let there = (placed number).extent_at place
+    (subst (λ (r : Option Record). place < extents_of extents.blocks r) (sym used) (place_is_below extents.blocks one.blocks j extents.limits.some below)) in
+    subst (λ (e : ℕ). IsAt old.extents e number place)
+    ((is.map.places number).1.once there.0 extent place (growth.stays there.0 number place there.1) at) there.1))
 
 -- A volume is extended.
-extended_is_shown : (extents : ℕ) (old new : VolumeTable) (number : ℕ) (entry one : Record) (growth_by : ℕ) (V W : List Block) (volumes : VolumeMap)
+extended_is_shown : (extents : ExtentLayout) (old new : VolumeTable) (number : ℕ) (entry one : Record) (growth_by : ℕ) (V W : List Block) (volumes : VolumeMap)
     → IsGrowth extents old new number one.blocks entry
     → record_of old.records number ≡ Some one → entry.name.bytes.items ≡ one.name.bytes.items → entry.blocks ≡ one.blocks + growth_by
     → (by : ShowsBy extents old V volumes)
     → None ≡ refusal_of extents (Extend one.name.bytes.items growth_by) volumes
-    → IsGrown new number one.blocks entry.blocks V W → ShowsBy extents new W (done (Extend one.name.bytes.items growth_by) volumes)
+    → IsGrown extents new number one.blocks entry.blocks V W → ShowsBy extents new W (done (Extend one.name.bytes.items growth_by) volumes)
 extended_is_shown extents old new number entry one growth_by V W volumes growth used named blocks by admitted grown =
     let name : List ℕ = one.name.bytes.items in
     let t : VolumeTable = by.shows.table in
     shows_by extents new W (done (Extend name growth_by) volumes)
     (subst (Shows extents W) (changed_if_done extents (Extend name growth_by) volumes (sym admitted))
     (extend_is_shown extents V W volumes growth_by new number one by.shows used' (done_reply extents (Extend name growth_by) volumes admitted) grown.put.spelled
-    (growth'.version ∙ by.shows.of_version) growth.free_beyond
+    (growth'.version ∙ by.shows.of_version) growth.of_set
     (changes_one extents t new number one.blocks entry growth' entry.blocks V W grown)
     record {
       entry = entry;
@@ -86,12 +90,12 @@ extended_is_shown extents old new number entry one growth_by V W volumes growth 
     long = ap length in_map ∙ (by.shows.shown.used number one used').as_long
 
     stands : (j extent : ℕ) → j < length (blocks_in one.name.bytes.items volumes.volumes ++ zero_blocks growth_by)
-        → IsAt new.extents extent number (j / EXTENT_SECTORS)
-        → get_or W (sector_of_block EXTENT_SECTORS extent j) [] ≡ get_or (blocks_in one.name.bytes.items volumes.volumes ++ zero_blocks growth_by) j []
+        → IsAt new.extents extent number (place_of extents j)
+        → get_or W (sector_of_block extents extent j) [] ≡ get_or (blocks_in one.name.bytes.items volumes.volumes ++ zero_blocks growth_by) j []
     stands j extent within at = elim (cases_lt j one.blocks) [
       | inl below ↦
-          let was : IsAt by.shows.table.extents extent number (j / EXTENT_SECTORS) =
-          old_extent extents by.shows.table new number one.blocks entry one j extent growth' used' below at in
+          let was : IsAt by.shows.table.extents extent number (place_of extents j) =
+          old_extent extents by.shows.table new number one.blocks entry one j extent growth' by.shows.of_set used' below at in
           old_block extents by.shows.table new number one.blocks entry growth' entry.blocks V W grown one j extent used' below was
           ∙ (by.shows.shown.used number one used').stand j extent (omega (arith, below, (by.shows.shown.used number one used').as_long)) was
           ∙ ap (λ (bs : List Block). get_or bs j []) (sym in_map)
@@ -119,7 +123,7 @@ applies_to : (honest : Type 0) (name : List ℕ) (growth_by : ℕ) (old new : St
     → entry.blocks ≡ first + growth_by → entry.blocks ≤ MOST_BLOCKS
     → ((sectors : List Block) (volumes : VolumeMap) → ShowsBy (extents_for_store old) old.keeps sectors volumes
     → None ≡ refusal_of (extents_for_store old) (Extend name growth_by) volumes)
-    → ((V W : List Block) (volumes : VolumeMap) → ShowsBy (extents_for_store old) old.keeps V volumes → IsGrown new.keeps number first entry.blocks V W
+    → ((V W : List Block) (volumes : VolumeMap) → ShowsBy (extents_for_store old) old.keeps V volumes → IsGrown (extents_for_store old) new.keeps number first entry.blocks V W
     → ShowsBy (extents_for_store old) new.keeps W (done (Extend name growth_by) volumes))
 applies_to honest name growth_by old new owners owners' number first entry result grown found named blocks most admitted V W volumes by is =
     let one : Record = found.entry in
@@ -130,7 +134,7 @@ applies_to honest name growth_by old new owners owners' number first entry resul
     (growth honest old new owners owners' number first entry result grown)) found.used
     (named ∙ sym found.named) (blocks ∙ ap (λ (n : ℕ). n + growth_by) first_is) by
     (subst (λ (n : List ℕ). None ≡ refusal_of (extents_for_store old) (Extend n growth_by) volumes) (sym found.named) (admitted V volumes by))
-    (subst (λ (n : ℕ). IsGrown new.keeps number n entry.blocks V W) first_is is))
+    (subst (λ (n : ℕ). IsGrown (extents_for_store old) new.keeps number n entry.blocks V W) first_is is))
 
 -- the record that was found
 found_for : (records : List (Option Record)) (name : List ℕ) (number first : ℕ) → ∥ IsRecordFor records name number first ∥₁

@@ -10,6 +10,7 @@ use Rattle.layout_map.specs.declared.geometry.Geometry.{Geometry}
 use Rattle.layout_map.specs.Placement.{data_sectors_of}
 use Rattle.parity.specs.Xor.{zero_sector}
 use Rattle.parity.proofs.Laws.{zero_sector-replicate}
+use Rattle.extents.specs.SetExtents.{extents_in}
 use Rattle.extents.specs.declared.volume_table.VolumeTable.{VolumeTable}
 use Rattle.extents.specs.TableSpelling.{zeros, Spell}
 use Rattle.extents.specs.Versions.{record_sectors, table_length}
@@ -21,7 +22,7 @@ use Rattle.array_io.proofs.Laws.Fresh as fresh_set
 use Rattle.array_io.proofs.Laws.FromCore.{holds_from_core}
 use Rattle.volume_table.specs.Shows.{Shows}
 use Rattle.volume_table.specs.Volumes.{no_volumes}
-use Rattle.volume_table.specs.Stands.{FreshSetShowsNone, FreshSetStandsForNone, ShowsOneOf, extents_in}
+use Rattle.volume_table.specs.Stands.{FreshSetShowsNone, FreshSetStandsForNone, ShowsOneOf}
 use Rattle.volume_table.proofs.ReadLemmas.{empty_is_shown}
 use Rattle.volume_table.proofs.TableSizes.{has_table_sectors, table_short}
 

@@ -3,11 +3,15 @@ use Rattle.std.proofs.Common.{◌≡◌, ◌≢◌, inl, inr, ℕ, ◌/◌, ◌<
 use Rattle.std.proofs.Common.{arith}
 use Rattle.std.proofs.lemmas.List.{ext_get_or, get_or-take, length-take, get_or-set_same, get_or-set_other, get_or-replicate, length-replicate}
 use Rattle.sector_model.specs.declared.refusal.Refusal.{Refusal}
+use Rattle.extents.specs.declared.extent_layout.ExtentLayout.{ExtentLayout}
 use Rattle.extents.specs.declared.owned.Owned.{Owned}
 use Rattle.extents.specs.declared.record.Record.{Record}
 use Rattle.extents.specs.declared.volume_table.VolumeTable.{VolumeTable}
-use Rattle.extents.specs.ExtentMaps.{IsTaken, count_of}
-use Rattle.extents.specs.Owners.{IsAt, owner_of}
+use Rattle.extents.specs.ExtentMaps.{IsTaken, count_of, place_of, sector_of_block}
+use Rattle.extents.specs.Owners.{IsAt}
+use Rattle.extents.specs.SetExtents.{IsOfSet}
+use Rattle.extents.proofs.Blocks.{block_is_one, sector_is_of_one}
+use Rattle.extents.proofs.OwnerLemmas.{owner_is_one}
 use Rattle.extents.specs.TableSpelling.{Spell}
 use Rattle.extents.specs.Versions.{table_length}
 use Rattle.extents.proofs.Versions.{table_length_most}
@@ -17,24 +21,24 @@ use Rattle.extents.proofs.TableLaws.{one_table}
 use Rattle.volume_table.specs.Admission.{AreKept, IsGrownFrom, ShowsBy}
 use Rattle.volume_table.specs.Volumes.{Block, VolumeMap, zero_block}
 use Rattle.volume_table.specs.VolumeStep.{Command, Create, answer, done, or_refused, refusal_of, reply_to}
-use Rattle.volume_table.specs.Shows.{ChangesOneRecord, HaveSameBlocks, Shows, sector_of_block}
+use Rattle.volume_table.specs.Shows.{ChangesOneRecord, HaveSameBlocks, Shows}
 use Rattle.volume_table.specs.StoreChanges.{IsGrown, IsOfBlocks, IsPartlyZero}
 use Rattle.volume_table.proofs.KeptMaps.{kept_owner}
 use Rattle.volume_table.proofs.StepLemmas.{changed_if_done}
 use Rattle.volume_table.proofs.TableLemmas.{create_is_shown, unused_may_change}
-use Rattle.layout_map.specs.declared.sizes.TheConstants.{EXTENT_SECTORS, RESERVED_SECTORS}
+use Rattle.layout_map.specs.declared.sizes.TheConstants.{RESERVED_SECTORS}
 
 -- the new table differs from the old one in this record, and in extents that were free and are the volume's now
-pub record IsGrowth (extents : ℕ) (old new : VolumeTable) (number first : ℕ) (entry : Record) : Type 0 where
+pub record IsGrowth (extents : ExtentLayout) (old new : VolumeTable) (number first : ℕ) (entry : Record) : Type 0 where
   pub version : new.version ≡ old.version
   pub long : number < length old.records
   pub records : new.records ≡ slice_set old.records number (Some entry)
   pub from : IsGrownFrom (record_of old.records number) first entry
   pub stays : (extent other place : ℕ) → IsAt old.extents extent other place → IsAt new.extents extent other place
   pub was : (extent other place : ℕ) → other ≢ number → IsAt new.extents extent other place → IsAt old.extents extent other place
-  pub free_beyond : (extent : ℕ) → extents ≤ extent → owner_of new.extents extent ≡ None
+  pub of_set : IsOfSet extents new
 
-pub is_growth : (extents : ℕ) (old new : VolumeTable) (owners owners' : List (Option Owned)) (number first n : ℕ) (entry : Record) → new.version ≡ old.version
+pub is_growth : (extents : ExtentLayout) (old new : VolumeTable) (owners owners' : List (Option Owned)) (number first n : ℕ) (entry : Record) → new.version ≡ old.version
     → number < length old.records → AreKept extents old owners → AreKept extents new owners'
     → new.records ≡ slice_set old.records number (Some entry) → IsTaken owners owners' number n → IsGrownFrom (record_of old.records number) first entry
     → IsGrowth extents old new number first entry
@@ -48,34 +52,29 @@ is_growth extents old new owners owners' number first n entry version long kept 
   was = λ extent other place apart at.
       sym (kept_owner extents old owners kept extent) ∙ taken_kept owners owners' number (count_of owners number) n extent other place taken apart
       (kept_owner extents new owners' kept' extent ∙ at);
-  free_beyond = kept'.free_beyond;
+  of_set = kept'.of_set;
 }
 
-same_owned : (a b : Owned) → Some a ≡ Some b → a ≡ b
-same_owned a b both = cc
-
 -- a sector is of one extent, and at one place in it
-module _ (extents : ℕ) (old new : VolumeTable) (number first : ℕ) (entry : Record) (growth : IsGrowth extents old new number first entry) (last : ℕ) where
+module _ (extents : ExtentLayout) (old new : VolumeTable) (number first : ℕ) (entry : Record) (growth : IsGrowth extents old new number first entry) (last : ℕ) where
   -- a block that a volume has is none of the new ones
   not_new : (other : ℕ) (one : Record) (j extent : ℕ) → record_of old.records other ≡ Some one → j < one.blocks
-      → IsAt old.extents extent other (j / EXTENT_SECTORS)
-      → ¬ IsOfBlocks EXTENT_SECTORS new.extents number first last (sector_of_block EXTENT_SECTORS extent j)
+      → IsAt old.extents extent other (place_of extents j)
+      → ¬ IsOfBlocks extents new.extents number first last (sector_of_block extents extent j)
   not_new other one j extent used below at is =
-      let same_extent : is.extent ≡ extent = omega (arith, is.is) in
-      let both : record { volume = number; place = is.block / EXTENT_SECTORS } ≡ record { volume = other; place = j / EXTENT_SECTORS } =
-      same_owned (record { volume = number; place = is.block / EXTENT_SECTORS }) (record { volume = other; place = j / EXTENT_SECTORS })
-      (sym is.at ∙ ap (owner_of new.extents) same_extent ∙ growth.stays extent other (j / EXTENT_SECTORS) at) in
-      let same_number : number ≡ other = ap (λ (o : Owned). o.volume) both in
-      let same_place : is.block / EXTENT_SECTORS ≡ j / EXTENT_SECTORS = ap (λ (o : Owned). o.place) both in
-      let same_block : is.block ≡ j = omega (arith, same_place, same_extent, is.is) in
+      let parts = sector_is_of_one extents is.extent extent is.block j (sym is.is) in
+      let owner = owner_is_one new.extents extent number (place_of extents is.block) other (place_of extents j)
+      (subst (λ e. IsAt new.extents e number (place_of extents is.block)) parts.0 is.at) (growth.stays extent other (place_of extents j) at) in
+      let same_number : number ≡ other = owner.0 in
+      let same_block : is.block ≡ j = block_is_one extents.blocks is.block j owner.1 parts.1 in
       let from : IsGrownFrom (Some one) first entry = subst (λ (r : Option Record). IsGrownFrom r first entry) (ap (record_of old.records) same_number ∙ used)
       growth.from in
       omega (arith, is.least, same_block, below, from.0)
 
   -- with some of the new blocks zero each volume's blocks are as before
-  module _ (V W : List Block) (partly : IsPartlyZero EXTENT_SECTORS new.extents number first last V W) where
-    pub same_blocks : (other : ℕ) (one : Record) → record_of old.records other ≡ Some one → HaveSameBlocks EXTENT_SECTORS old.extents other one V W
-    same_blocks other one used j extent below at = elim (partly.each (sector_of_block EXTENT_SECTORS extent j)) [
+  module _ (V W : List Block) (partly : IsPartlyZero extents new.extents number first last V W) where
+    pub same_blocks : (other : ℕ) (one : Record) → record_of old.records other ≡ Some one → HaveSameBlocks extents old.extents other one V W
+    same_blocks other one used j extent below at = elim (partly.each (sector_of_block extents extent j)) [
       | inl same ↦ same
       | inr is ↦ absurd (not_new other one j extent used below at is.1)
     ]
@@ -84,7 +83,7 @@ module _ (extents : ℕ) (old new : VolumeTable) (number first : ℕ) (entry : R
     pub same_front : (sector : ℕ) → sector < RESERVED_SECTORS → get_or W sector [] ≡ get_or V sector []
     same_front sector below = elim (partly.each sector) [
       | inl same ↦ same
-      | inr is ↦ absurd (omega (arith, is.1.is, below))
+      | inr is ↦ absurd (omega (arith, is.1.is, below, extents.limits.above))
     ]
 
     pub same_table : (version : ℕ) → take (table_length version) W ≡ take (table_length version) V
@@ -95,11 +94,11 @@ module _ (extents : ℕ) (old new : VolumeTable) (number first : ℕ) (entry : R
         get_or-take n W k [] below ∙ same_front k (omega (arith, below, table_length_most version)) ∙ sym (get_or-take n V k [] below))
 
   -- with all of them zero and the new table the list differs in one record
-  module _ (V W : List Block) (grown : IsGrown new number first last V W) where
-    beyond : (extent j : ℕ) → get_or W (sector_of_block EXTENT_SECTORS extent j) [] ≡ get_or grown.mid (sector_of_block EXTENT_SECTORS extent j) []
-    beyond extent j = grown.put.beyond (sector_of_block EXTENT_SECTORS extent j) (omega (arith, table_length_most new.version))
+  module _ (V W : List Block) (grown : IsGrown extents new number first last V W) where
+    beyond : (extent j : ℕ) → get_or W (sector_of_block extents extent j) [] ≡ get_or grown.mid (sector_of_block extents extent j) []
+    beyond extent j = grown.put.beyond (sector_of_block extents extent j) (omega (arith, table_length_most new.version, extents.limits.above))
 
-    pub changes_one : ChangesOneRecord EXTENT_SECTORS old.records new.records old.extents new.extents V W number
+    pub changes_one : ChangesOneRecord extents old.records new.records old.extents new.extents V W number
     changes_one = record {
       same_records = λ other apart. ap (λ (rs : List (Option Record)). record_of rs other) growth.records
           ∙ get_or-set_other old.records number other (Some entry) None apart;
@@ -111,31 +110,31 @@ module _ (extents : ℕ) (old new : VolumeTable) (number first : ℕ) (entry : R
     entry_used = ap (λ (rs : List (Option Record)). record_of rs number) growth.records ∙ get_or-set_same old.records number (Some entry) None growth.long
 
     -- a new block is zero
-    pub new_block : (j extent : ℕ) → first ≤ j → j < last → IsAt new.extents extent number (j / EXTENT_SECTORS)
-        → get_or W (sector_of_block EXTENT_SECTORS extent j) [] ≡ zero_block
+    pub new_block : (j extent : ℕ) → first ≤ j → j < last → IsAt new.extents extent number (place_of extents j)
+        → get_or W (sector_of_block extents extent j) [] ≡ zero_block
     new_block j extent least most at = beyond extent j
-        ∙ grown.zeroed.zero (sector_of_block EXTENT_SECTORS extent j) record { block = j; extent = extent; least = least; most = most; at = at; is = refl }
+        ∙ grown.zeroed.zero (sector_of_block extents extent j) record { block = j; extent = extent; least = least; most = most; at = at; is = refl }
 
     -- and a block that the volume had is as before
     pub old_block : (one : Record) (j extent : ℕ) → record_of old.records number ≡ Some one → j < one.blocks
-        → IsAt old.extents extent number (j / EXTENT_SECTORS)
-        → get_or W (sector_of_block EXTENT_SECTORS extent j) [] ≡ get_or V (sector_of_block EXTENT_SECTORS extent j) []
+        → IsAt old.extents extent number (place_of extents j)
+        → get_or W (sector_of_block extents extent j) [] ≡ get_or V (sector_of_block extents extent j) []
     old_block one j extent used below at = beyond extent j ∙ same_blocks V grown.mid grown.zeroed.partly number one used j extent below at
 
 -- the list shows these volumes by the table that its first sectors spell
-pub shows_by : (extents : ℕ) (table : VolumeTable) (W : List Block) (volumes : VolumeMap) → Shows extents W volumes → Spell W table
+pub shows_by : (extents : ExtentLayout) (table : VolumeTable) (W : List Block) (volumes : VolumeMap) → Shows extents W volumes → Spell W table
     → ShowsBy extents table W volumes
 shows_by extents table W volumes shows spelled = record { shows = shows; by = one_table W shows.table table shows.spelled spelled }
 
 -- what is not refused is answered as done
-pub done_reply : (extents : ℕ) (command : Command) (volumes : VolumeMap) → None ≡ refusal_of extents command volumes
+pub done_reply : (extents : ExtentLayout) (command : Command) (volumes : VolumeMap) → None ≡ refusal_of extents command volumes
     → reply_to extents command volumes ≡ answer command volumes.volumes
 done_reply extents command volumes none = ap (λ (r : Option Refusal). or_refused r (answer command volumes.volumes)) (sym none)
 
 -- On the way the old volumes are shown, or the new ones.
-pub shown_on_the_way : (extents : ℕ) (old new : VolumeTable) (number first last : ℕ) (entry : Record) (V W : List Block) (volumes : VolumeMap)
+pub shown_on_the_way : (extents : ExtentLayout) (old new : VolumeTable) (number first last : ℕ) (entry : Record) (V W : List Block) (volumes : VolumeMap)
     → IsGrowth extents old new number first entry
-    → (by : ShowsBy extents old V volumes) → IsPartlyZero EXTENT_SECTORS new.extents number first last V W → Shows extents W volumes
+    → (by : ShowsBy extents old V volumes) → IsPartlyZero extents new.extents number first last V W → Shows extents W volumes
 shown_on_the_way extents old new number first last entry V W volumes growth by partly =
     let growth' : IsGrowth extents by.shows.table new number first entry =
     subst (λ (t : VolumeTable). IsGrowth extents t new number first entry) (sym by.by) growth in
@@ -143,11 +142,11 @@ shown_on_the_way extents old new number first last entry V W volumes growth by p
     (same_blocks extents by.shows.table new number first entry growth' last V W partly)
 
 -- A new volume is there.
-pub created_is_shown : (extents : ℕ) (old new : VolumeTable) (name : List ℕ) (number : ℕ) (entry : Record) (V W : List Block) (volumes : VolumeMap)
+pub created_is_shown : (extents : ExtentLayout) (old new : VolumeTable) (name : List ℕ) (number : ℕ) (entry : Record) (V W : List Block) (volumes : VolumeMap)
     → IsGrowth extents old new number 0 entry
     → record_of old.records number ≡ None → entry.name.bytes.items ≡ name → (by : ShowsBy extents old V volumes)
     → None ≡ refusal_of extents (Create name entry.blocks) volumes
-    → IsGrown new number 0 entry.blocks V W → ShowsBy extents new W (done (Create name entry.blocks) volumes)
+    → IsGrown extents new number 0 entry.blocks V W → ShowsBy extents new W (done (Create name entry.blocks) volumes)
 created_is_shown extents old new name number entry V W volumes growth unused named by admitted grown =
     let t : VolumeTable = by.shows.table in
     let growth' : IsGrowth extents t new number 0 entry = subst (λ (table : VolumeTable). IsGrowth extents table new number 0 entry) (sym by.by) growth in
@@ -155,7 +154,7 @@ created_is_shown extents old new name number entry V W volumes growth unused nam
     shows_by extents new W (done (Create name last) volumes)
     (subst (Shows extents W) (changed_if_done extents (Create name last) volumes (sym admitted))
     (create_is_shown extents V W volumes name last new number by.shows (done_reply extents (Create name last) volumes admitted) grown.put.spelled
-    (growth'.version ∙ by.shows.of_version) growth'.free_beyond
+    (growth'.version ∙ by.shows.of_version) growth'.of_set
     (changes_one extents t new number 0 entry growth' last V W grown)
     record {
       entry = entry;

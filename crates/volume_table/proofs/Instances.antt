@@ -8,6 +8,7 @@ use Rattle.sector_model.specs.declared.refusal.Refusal.TheVariants.{NoSet, BadTa
 use Rattle.array_io.specs.Believed.Holds.{row_count}
 use Rattle.array_io.specs.Believed.Views.{EndsIt}
 use Rattle.superblock.specs.Cases.{Lost}
+use Rattle.extents.specs.declared.extent_layout.ExtentLayout.{ExtentLayout}
 use Rattle.extents.specs.declared.volume_table.VolumeTable.{VolumeTable}
 use Rattle.volume_table.specs.Volumes.{Block, VolumeMap, need}
 use Rattle.volume_table.specs.VolumeStep.{Blocks, Done, Event, Progressed, Refused, Reply, Scrubbed, Volumes}
@@ -21,7 +22,6 @@ use Rattle.volume_table.specs.StoreFunctions.{none_done, then_done}
 use Rattle.volume_table.proofs.CountLemmas.{records_are_counted}
 use Rattle.volume_table.proofs.EndedStore.{run_stays_ended, stays_ended, tells_ended}
 use Rattle.volume_table.proofs.StatusTold.{counts_told, status_by}
-use Rattle.layout_map.specs.declared.sizes.TheConstants.{EXTENT_SECTORS}
 
 some_is_none : {A : Type 0} (refusal : Refusal) → Some refusal ≡ None → A
 some_is_none refusal e = absurd (none-some refusal (sym e))
@@ -92,22 +92,22 @@ run_without_memory honest events store acks goes = record {
 
 -- a status that the table of the array and the table of volumes tell is that of each store that goes on
 pub status_is_told : TablesHaveOneSpelling → (store : StoreView) → store.ended ≡ None
-    → TellsStatus store (Ok (status_by store (row_count store.array.table) (extents_for_store store)
-    (extents_for_store store - records_need EXTENT_SECTORS store.keeps.records) (used_records store.keeps.records) store.keeps.version))
+    → TellsStatus store (Ok (status_by store (row_count store.array.table) (extents_for_store store).count
+    ((extents_for_store store).count - records_need (extents_for_store store).blocks store.keeps.records) (used_records store.keeps.records) store.keeps.version))
 status_is_told one_spelling store goes =
-    counts_told store (row_count store.array.table) (extents_for_store store) (extents_for_store store - records_need EXTENT_SECTORS store.keeps.records)
+    counts_told store (row_count store.array.table) (extents_for_store store).count ((extents_for_store store).count - records_need (extents_for_store store).blocks store.keeps.records)
     (used_records store.keeps.records) store.keeps.version goes refl refl counted
   where
     same_table : (those : VolumeMap) (lost : Option Lost) (rests : IsSettledOn store lost those) → rests.shown.table ≡ store.keeps
     same_table those lost rests = one_spelling rests.logical rests.shown.table store.keeps rests.shown.spelled rests.spelled
 
     counted : (lost : Option Lost) (those : VolumeMap) → IsSettledOn store lost those
-        → (extents_for_store store - records_need EXTENT_SECTORS store.keeps.records ≡ extents_for_store store - need EXTENT_SECTORS those.volumes)
+        → ((extents_for_store store).count - records_need (extents_for_store store).blocks store.keeps.records ≡ (extents_for_store store).count - need (extents_for_store store).blocks those.volumes)
         × (used_records store.keeps.records ≡ length those.volumes) × (store.keeps.version ≡ those.version)
     counted lost those rests =
         let are = records_are_counted (extents_for_store store) rests.logical those rests.shown in (
-          ap (λ (t : VolumeTable). extents_for_store store - records_need EXTENT_SECTORS t.records) (sym (same_table those lost rests))
-              ∙ ap (λ n. extents_for_store store - n) (sym are.1),
+          ap (λ (t : VolumeTable). (extents_for_store store).count - records_need (extents_for_store store).blocks t.records) (sym (same_table those lost rests))
+              ∙ ap (λ n. (extents_for_store store).count - n) (sym are.1),
           ap (λ (t : VolumeTable). used_records t.records) (sym (same_table those lost rests)) ∙ sym are.0,
           ap (λ (t : VolumeTable). t.version) (sym (same_table those lost rests)) ∙ rests.shown.of_version,
         )

@@ -5,31 +5,32 @@ use Rattle.std.proofs.Math.Logic.{∥∥₁_elim}
 use Rattle.std.proofs.lemmas.Bool.{cases_eq, cases_lt}
 use Rattle.std.proofs.lemmas.List.{get_or-take, get_or_past, length-take}
 use Rattle.std.proofs.lemmas.Option.{none-some, same_Some}
+use Rattle.extents.specs.declared.extent_layout.ExtentLayout.{ExtentLayout}
 use Rattle.extents.specs.declared.owned.Owned.{Owned}
 use Rattle.extents.specs.declared.record.Record.{Record}
 use Rattle.extents.specs.declared.volume_table.VolumeTable.{VolumeTable}
-use Rattle.extents.specs.ExtentMaps.{HasPlace}
+use Rattle.extents.specs.ExtentMaps.{HasPlace, place_of}
 use Rattle.extents.specs.Owners.{owner_of, IsAt}
 use Rattle.extents.specs.VolumeTables.{extents_for, extents_of, record_of}
+use Rattle.extents.proofs.Blocks.{place_is_below}
 use Rattle.extents.proofs.OwnerLemmas.{owner_is}
 use Rattle.volume_table.specs.Admission.{AreKept, HasRecordAt, IsWithinVolume}
 use Rattle.volume_table.specs.StoreChanges.{AllPlaced}
 use Rattle.extents.specs.declared.record.TheConstants.{MOST_BLOCKS}
-use Rattle.layout_map.specs.declared.sizes.TheConstants.{EXTENT_SECTORS}
 use Rattle.volume_table.specs.declared.event.TheConstants.{MOST_BLOCKS_AT_ONCE}
 
 -- its extents have the owners that they have in the table
-pub kept_owner : (extents : ℕ) (table : VolumeTable) (owners : List (Option Owned)) → AreKept extents table owners → (extent : ℕ)
+pub kept_owner : (extents : ExtentLayout) (table : VolumeTable) (owners : List (Option Owned)) → AreKept extents table owners → (extent : ℕ)
     → owner_of owners extent ≡ owner_of table.extents extent
-kept_owner extents table owners kept extent = elim (cases_lt extent extents) [
-  | inl below ↦ ap (λ (its : List (Option Owned)). owner_of its extent) kept.same ∙ get_or-take extents table.extents extent None below
-  | inr beyond ↦ get_or_past owners extent None (omega (arith, beyond, ap length kept.same, length-take extents table.extents))
-      ∙ sym (kept.free_beyond extent beyond)
+kept_owner extents table owners kept extent = elim (cases_lt extent extents.count) [
+  | inl below ↦ ap (λ (its : List (Option Owned)). owner_of its extent) kept.same ∙ get_or-take extents.count table.extents extent None below
+  | inr beyond ↦ get_or_past owners extent None (omega (arith, beyond, ap length kept.same, length-take extents.count table.extents))
+      ∙ sym (kept.of_set.free_beyond extent beyond)
 ]
 
 -- it has no more extents than the set
-pub kept_sized : (extents : ℕ) (table : VolumeTable) (owners : List (Option Owned)) → AreKept extents table owners → length owners ≤ extents
-kept_sized extents table owners kept = omega (arith, ap length kept.same, length-take extents table.extents)
+pub kept_sized : (extents : ExtentLayout) (table : VolumeTable) (owners : List (Option Owned)) → AreKept extents table owners → length owners ≤ extents.count
+kept_sized extents table owners kept = omega (arith, ap length kept.same, length-take extents.count table.extents)
 
 -- whether a volume has an extent at a place is found by a search
 find_place : (owners : List (Option Owned)) (volume place : ℕ) → HasPlace owners volume place ⊎ ¬ HasPlace owners volume place
@@ -64,13 +65,14 @@ found_place owners volume place has = elim (find_place owners volume place) [
 ]
 
 -- each of the blocks that are to be read or written has an extent
-pub within_is_placed : (extents : ℕ) (table : VolumeTable) (owners : List (Option Owned)) (name : List ℕ) (number at count : ℕ) → AreKept extents table owners
-    → ∥ IsWithinVolume table.records name number at count ∥₁ → AllPlaced EXTENT_SECTORS owners number at (at + count)
+pub within_is_placed : (extents : ExtentLayout) (table : VolumeTable) (owners : List (Option Owned)) (name : List ℕ) (number at count : ℕ) → AreKept extents table owners
+    → ∥ IsWithinVolume table.records name number at count ∥₁ → AllPlaced extents owners number at (at + count)
 within_is_placed extents table owners name number at count kept within block least below =
-    found_place owners number (block / EXTENT_SECTORS) (∥∥₁_elim table.is_table (hlevel props) (λ is_table. ∥∥₁_elim within (hlevel props) (λ it.
-    let many : extents_of EXTENT_SECTORS (record_of table.records number) ≡ extents_for EXTENT_SECTORS it.entry.blocks =
-    ap (extents_of EXTENT_SECTORS) it.used in
-    let there = (is_table.places number).extent_at (block / EXTENT_SECTORS) (omega (arith, many, below, it.fits)) in
+    found_place owners number (place_of extents block) (∥∥₁_elim kept.of_set.placed (hlevel props) (λ placed. ∥∥₁_elim within (hlevel props) (λ it.
+    let many : extents_of extents.blocks (record_of table.records number) ≡ extents_for extents.blocks it.entry.blocks =
+    ap (extents_of extents.blocks) it.used in
+    let its = place_is_below extents.blocks it.entry.blocks block extents.limits.some (omega (arith, below, it.fits)) in
+    let there = (placed number).extent_at (place_of extents block) (omega (arith, many, its)) in
     ∣ (there.0, kept_owner extents table owners kept there.0 ∙ there.1) ∣₁)))
 
 -- they are 1 to 32, and end by 65,536

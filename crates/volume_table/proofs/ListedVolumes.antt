@@ -11,6 +11,7 @@ use Rattle.sector_model.specs.declared.refusal.Refusal.{Refusal}
 use Rattle.sector_model.specs.declared.refusal.Refusal.TheVariants.{BadName, Memory}
 use Rattle.sector_model.specs.Bank.{IsTrueTo}
 use Rattle.array_io.specs.Believed.Views.{EndsIt}
+use Rattle.extents.specs.declared.extent_layout.ExtentLayout.{ExtentLayout}
 use Rattle.extents.specs.declared.record.Record.{Record}
 use Rattle.extents.specs.declared.volume_table.VolumeTable.{VolumeTable}
 use Rattle.extents.specs.VolumeTables.{AreDistinct, record_of}
@@ -30,7 +31,6 @@ use Rattle.volume_table.proofs.ListChanges.{changes_none}
 use Rattle.volume_table.proofs.ShowsLemmas.{distinct_names}
 use Rattle.volume_table.proofs.StoreSteps.{done_with_volumes, incarnations_same, refused_at_once}
 use Rattle.extents.specs.declared.volume_table.TheConstants.{MOST_VOLUMES}
-use Rattle.layout_map.specs.declared.sizes.TheConstants.{EXTENT_SECTORS}
 
 -- the parts of a list that is told
 first_of : List ℕ × ℕ → List (List ℕ × ℕ) → List ℕ × ℕ
@@ -109,7 +109,7 @@ put_in_order (item ∷ items) (one ∷ volumes) (suc place) new volume same is n
 
 -- what is listed are the volumes of the records from this number on
 abbrev pub ListsFrom : VolumeTable → ℕ → List Listed → Type 0
-ListsFrom table number items = (extents : ℕ) (sectors : List Block) (volumes : VolumeMap) → ShowsBy extents table sectors volumes
+ListsFrom table number items = (extents : ExtentLayout) (sectors : List Block) (volumes : VolumeMap) → ShowsBy extents table sectors volumes
     → told items ≡ lengths_of (listed volumes.volumes (drop number table.records))
 
 pub lists_none : (table : VolumeTable) → ListsFrom table MOST_VOLUMES []
@@ -136,9 +136,9 @@ distinct_from records n distinct i j first second one two same =
     same in
     omega (arith, next)
 
-shown_by_table : (extents : ℕ) (table : VolumeTable) (sectors : List Block) (volumes : VolumeMap) → ShowsBy extents table sectors volumes
-    → AreShown EXTENT_SECTORS table.records table.extents sectors volumes.volumes
-shown_by_table extents table sectors volumes by = subst (λ (t : VolumeTable). AreShown EXTENT_SECTORS t.records t.extents sectors volumes.volumes) by.by
+shown_by_table : (extents : ExtentLayout) (table : VolumeTable) (sectors : List Block) (volumes : VolumeMap) → ShowsBy extents table sectors volumes
+    → AreShown extents table.records table.extents sectors volumes.volumes
+shown_by_table extents table sectors volumes by = subst (λ (t : VolumeTable). AreShown extents t.records t.extents sectors volumes.volumes) by.by
     by.shows.shown
 
 pub lists_used : (table : VolumeTable) (number : ℕ) (items more : List Listed) (new : Listed) (entry : Record) → number < MOST_VOLUMES
@@ -157,7 +157,7 @@ lists_used table number items more new entry below used named as_long put so_far
     (not_again volumes.volumes entry rest distinct) put.at
     ∙ ap (λ (records : List (Option Record)). lengths_of (listed volumes.volumes records)) (sym parts)
 
-pub lists_all : (table : VolumeTable) (items : List Listed) → ListsFrom table 0 items → (extents : ℕ) (sectors : List Block) (volumes : VolumeMap)
+pub lists_all : (table : VolumeTable) (items : List Listed) → ListsFrom table 0 items → (extents : ExtentLayout) (sectors : List Block) (volumes : VolumeMap)
     → ShowsBy extents table sectors volumes
     → told items ≡ lengths_of volumes.volumes
 lists_all table items so_far extents sectors volumes by =
@@ -203,7 +203,7 @@ list_is_refused honest store going = record {
 
 -- A list that is answered is that of the volumes, and nothing is done.
 pub list_applies : (honest : Type 0) (store : StoreView) (items : List Listed) → store.ended ≡ None → (honest → IsTrueTo store.array.panel store.array.history)
-    → ((extents : ℕ) (sectors : List Block) (volumes : VolumeMap) → ShowsBy extents store.keeps sectors volumes → told items ≡ lengths_of volumes.volumes)
+    → ((extents : ExtentLayout) (sectors : List Block) (volumes : VolumeMap) → ShowsBy extents store.keeps sectors volumes → told items ≡ lengths_of volumes.volumes)
     → Applies honest (OnVolumes Names) store store (Volumes (told items))
 list_applies honest store items going true_to are =
     done_with_volumes honest Names 0 IsSame IsSame store store (Volumes (told items)) tt (omega arith) going going true_to

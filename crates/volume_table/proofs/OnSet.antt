@@ -20,12 +20,13 @@ use Rattle.superblock.specs.Tables.{state_at}
 use Rattle.array_io.specs.Believed.ArrayCalls.{KeepsTheList}
 use Rattle.array_io.specs.Believed.Moments.{HoldsNow}
 use Rattle.array_io.specs.Believed.Views.{ArrayView, EndsIt, DeviceFailed, GoesOn, HasEnded, IsEndOf, RestsAfter}
+use Rattle.extents.specs.SetExtents.{extents_in}
 use Rattle.extents.specs.declared.volume_table.VolumeTable.{VolumeTable}
 use Rattle.extents.specs.TableSpelling.{Spell}
 use Rattle.scrub.specs.Scrubbing.{AreUnsound}
 use Rattle.volume_table.specs.SetReplies.{Devices, changed_set, set_answer, set_or_same, set_refusal, settled, with_faults}
 use Rattle.volume_table.specs.Shows.{Shows}
-use Rattle.volume_table.specs.Stands.{IsSettledAfter, IsSettledOn, StandsNow, StandsThroughout, StoreView, extents_in}
+use Rattle.volume_table.specs.Stands.{IsSettledAfter, IsSettledOn, StandsNow, StandsThroughout, StoreView}
 use Rattle.volume_table.specs.StoreCalls.{Applies, AreDevicesOf, EndsStore, GoesThrough, IncarnationsStay, IsCounterFull, SetIsLeft, lost_in, set_of}
 use Rattle.volume_table.specs.VolumeStep.{Names, OnSet, OnVolumes, Refused, Reply, Scrub, Scrubbed, SetCommand, Volumes, or_refused}
 use Rattle.volume_table.specs.Volumes.{VolumeMap}

@@ -1,4 +1,5 @@
 -- Small cases that meet what opening a store promises, and what a list of volumes and a refused event of an open one promise.
+use Rattle.extents.specs.SetExtents.{extents_in, IsOfSet}
 use Rattle.extents.specs.Owners.{owner_of}
 use Rattle.std.proofs.Common.{◌≤◌, ◌≡◌, inl, inr, ℕ, zero, suc, ◌<◌, ◌||◌, nat_lt, Bool, true, false, cond, List, [], ◌∷◌, length, map, take, Option, Some}
 use Rattle.std.proofs.Common.{None, refl, sym, ◌∙◌, ap, subst, arith}
@@ -40,7 +41,7 @@ use Rattle.volume_table.specs.SetReplies.{Devices}
 use Rattle.volume_table.specs.StoreCalls.{Applies, EndsStore, GoesThrough, IsListed, SetIsLeft, extents_for_store, set_of}
 use Rattle.volume_table.specs.Shows.{Shows}
 use Rattle.volume_table.specs.ShowsLaw.{TablesHaveOneSpelling}
-use Rattle.volume_table.specs.Stands.{IsSettledAfter, IsSettledOn, StandsNow, StoreView, extents_in}
+use Rattle.volume_table.specs.Stands.{IsSettledAfter, IsSettledOn, StandsNow, StoreView}
 use Rattle.volume_table.specs.Opening.{IsNoOpening, Opened, Opens, Outcome, Returned, ShowsNothing, SpellsNoTable}
 use Rattle.volume_table.proofs.Opened.{stands_at_rest}
 use Rattle.volume_table.proofs.Scrubbed.{sound_row}
@@ -135,8 +136,8 @@ stays_settled array keeps spelled lost V volumes rests shown = record {
 
 -- Opening an array whose list spells a table gives the array itself, with that table kept.
 pub opens_at_rest : (honest : Type 0) (array : ArrayView) (keeps : VolumeTable) → Spell (list_read array) keeps
-    → ((extent : ℕ) → extents_in array.table.geometry ≤ extent → owner_of keeps.extents extent ≡ None) → Opens honest array (Opened (store_of array keeps))
-opens_at_rest honest array keeps spelled within = record {
+    → IsOfSet (extents_in array.table.geometry) keeps → Opens honest array (Opened (store_of array keeps))
+opens_at_rest honest array keeps spelled of_set = record {
   later = later_same array.panel;
   going = λ store is. opened_is (λ s. s.ended ≡ None) (store_of array keeps) store is refl;
   goes_on = λ store is. opened_is (λ s. GoesOn array s.array) (store_of array keeps) store is (array_goes_on array);
@@ -146,7 +147,7 @@ opens_at_rest honest array keeps spelled within = record {
       opened_is (λ s. IsSettledAfter lost s volumes) (store_of array keeps) store is (stays_settled array keeps spelled lost V volumes rests shown);
   spelled = λ fair lost V rests store is.
       opened_is (λ s. Spell V s.keeps) (store_of array keeps) store is (rests_spelled array keeps spelled lost V rests);
-  within = λ store is extent beyond. opened_is (λ s. owner_of s.keeps.extents extent ≡ None) (store_of array keeps) store is (within extent beyond);
+  of_set = λ store is. opened_is (λ s. IsOfSet (extents_in array.table.geometry) s.keeps) (store_of array keeps) store is of_set;
   cause = λ bank refusal is. not_returned (IsNoOpening honest array bank refusal) (store_of array keeps) bank refusal is;
 }
 
@@ -160,14 +161,14 @@ opens_none honest array none = record {
   moments = λ fair lost V volumes rests shown. here (stands_at_rest array.panel.devices array.table array.number array.history lost V volumes rests shown);
   settled = λ fair lost V volumes rests shown store is. not_opened (IsSettledAfter lost store volumes) (bank_of array) BadTable store is;
   spelled = λ fair lost V rests store is. not_opened (Spell V store.keeps) (bank_of array) BadTable store is;
-  within = λ store is extent beyond. not_opened (owner_of store.keeps.extents extent ≡ None) (bank_of array) BadTable store is;
+  of_set = λ store is. not_opened (IsOfSet (extents_in array.table.geometry) store.keeps) (bank_of array) BadTable store is;
   cause = λ bank refusal is. returned_is (λ b r. IsNoOpening honest array b r) (bank_of array) bank BadTable refusal is
       (λ fair. shows_nothing, λ fair up. none);
 }
   where
     shows_nothing : ShowsNothing array
     shows_nothing lost V volumes rests shown =
-        none shown.table (subst (λ (l : List Bytes). Spell l shown.table) (sym rests.listed) shown.spelled) shown.free_beyond
+        none shown.table (subst (λ (l : List Bytes). Spell l shown.table) (sym rests.listed) shown.spelled) shown.of_set
 
 -- ---- events that leave a store as it is
 

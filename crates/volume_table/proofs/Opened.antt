@@ -18,9 +18,10 @@ use Rattle.array_io.specs.Believed.Views.{ArrayView, RestsOn}
 use Rattle.array_io.proofs.Laws.Beginning.{holds_at_rest}
 use Rattle.volume_table.specs.Volumes.{VolumeMap}
 use Rattle.volume_table.specs.Shows.{Shows}
-use Rattle.volume_table.specs.Stands.{IsSettledAfter, IsSettledOn, StandsNow, extents_in}
+use Rattle.volume_table.specs.Stands.{IsSettledAfter, IsSettledOn, StandsNow}
 use Rattle.volume_table.specs.Runs.{Fate, GoesOver, Serving}
 use Rattle.volume_table.proofs.SafeWorlds.{IsOver, goes_over, same_slots}
+use Rattle.extents.specs.SetExtents.{extents_in}
 
 -- the slot that was lost is still lost at the end
 still_lost : (slots : ℕ) (during : Option Lost) (h : History) (l : Lost) → during ≡ Some l → IsSingleFailure slots during h → IsLostAt slots (Some l) h (Some l)

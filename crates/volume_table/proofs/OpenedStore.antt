@@ -21,9 +21,10 @@ use Rattle.superblock.specs.Cases.{Lost}
 use Rattle.array_io.specs.Believed.ArrayCalls.{Answer, Reads}
 use Rattle.array_io.specs.Believed.Views.{ArrayView, GoesOn, HasEnded, IsEndOf, RestsOn, StaysButForFailures}
 use Rattle.array_io.proofs.Calls.CallSteps.{end_of_both, refused}
+use Rattle.extents.specs.declared.extent_layout.ExtentLayout.{ExtentLayout}
+use Rattle.extents.specs.SetExtents.{extents_in, IsOfSet}
 use Rattle.extents.specs.declared.owned.Owned.{Owned}
 use Rattle.extents.specs.declared.volume_table.VolumeTable.{VolumeTable}
-use Rattle.extents.specs.Checks.{AreFreeFrom}
 use Rattle.extents.specs.ExtentMaps.{IsExtentMap, count_of}
 use Rattle.extents.specs.Owners.{IsAt, owner_of}
 use Rattle.extents.specs.TableSpelling.{Spell, first_sector, table_sectors}
@@ -37,11 +38,10 @@ use Rattle.volume_table.specs.Volumes.{VolumeMap}
 use Rattle.volume_table.specs.ListChanges.{ChangesList, HoldsForSomeNow, IsSame}
 use Rattle.volume_table.specs.Opening.{IsNoOpening, Opened, Opens, Returned, given_back, opened}
 use Rattle.volume_table.specs.Shows.{Shows}
-use Rattle.volume_table.specs.Stands.{IsSettledAfter, StandsNow, StandsThroughout, StoreView, extents_in, store_of}
+use Rattle.volume_table.specs.Stands.{IsSettledAfter, StandsNow, StandsThroughout, StoreView, store_of}
 use Rattle.volume_table.proofs.FreeLemmas.{table_is_extent_map}
 use Rattle.volume_table.proofs.ListChanges.{changes_both, changes_read, rests_long}
 use Rattle.volume_table.proofs.TableSizes.{has_table_sectors, table_long, table_short}
-use Rattle.layout_map.specs.declared.sizes.TheConstants.{MOST_EXTENTS}
 use Rattle.extents.specs.declared.volume_table.TheConstants.{TABLE_SECTORS}
 
 -- ---- the first eleven sectors
@@ -333,10 +333,10 @@ map_itself owners known = record {
   );
 }
 
-pub table_has_map : (extents : ℕ) (table : VolumeTable) → extents ≤ MOST_EXTENTS → AreFreeFrom table.extents extents → IsExtentMap (take extents table.extents)
-table_has_map extents table most free =
-    map_itself (take extents table.extents) (∥∥₁_elim table.is_table (hlevel props)
-    (λ is. ∣ table_is_extent_map extents table.version table.records table.extents most is free ∣₁))
+pub table_has_map : (extents : ExtentLayout) (table : VolumeTable) → IsOfSet extents table → IsExtentMap (take extents.count table.extents)
+table_has_map extents table of_set =
+    map_itself (take extents.count table.extents) (∥∥₁_elim table.is_table (hlevel props)
+    (λ is. ∣ table_is_extent_map extents table.version table.records table.extents is of_set.free_beyond ∣₁))
 
 -- ---- the records
 
@@ -389,7 +389,7 @@ module _ (honest : Type 0) (old new : ArrayView) where
     stays = λ store is. absurd (not_opened _ refusal store is);
     moments = moments answer changes;
     settled = λ fair lost V volumes rests shown store is. absurd (not_opened _ refusal store is);
-    within = λ store is. absurd (not_opened _ refusal store is);
+    of_set = λ store is. absurd (not_opened _ refusal store is);
     spelled = λ fair lost V rests store is. absurd (not_opened _ refusal store is);
     cause = λ bank why is. subst (λ (b : BankView). IsNoOpening honest old b why) (same_bank _ bank refusal why is)
         (subst (IsNoOpening honest old (record { panel = new.panel; history = new.history })) (same_refusal _ bank refusal why is) no_opening);
@@ -422,19 +422,19 @@ module _ (honest : Type 0) (old new : ArrayView) where
 
   -- the sectors that were read are no table of the set
   pub open_refused : (sectors : List Bytes) → ChangesList honest 0 IsSame IsSame old new (Ok tt)
-      → ((table : VolumeTable) → Spell sectors table → ¬ AreFreeFrom table.extents (extents_in old.table.geometry))
+      → ((table : VolumeTable) → Spell sectors table → ¬ IsOfSet (extents_in old.table.geometry) table)
       → (honest → (lost : Option Lost) (V : List Bytes) (table : VolumeTable) → RestsOn old lost V → Spell sectors table ↔ Spell V table)
       → (honest → NoDeviceFailed old.panel new.panel → (table : VolumeTable) → Spell (list_read old) table → Spell sectors table)
       → Opens honest old (given_back new.panel new.history BadTable)
   open_refused sectors changes no_table gives spelled = given_up (Ok tt) BadTable changes (
-    λ fair lost V volumes rests shown. no_table shown.table ((gives fair lost V shown.table rests).1 shown.spelled) shown.free_beyond,
+    λ fair lost V volumes rests shown. no_table shown.table ((gives fair lost V shown.table rests).1 shown.spelled) shown.of_set,
     λ fair none table spells. no_table table (spelled fair none table spells),
   )
 
   -- they are one
-  pub open_done : (keeps : VolumeTable) → ChangesList honest 0 IsSame IsSame old new (Ok tt) → AreFreeFrom keeps.extents (extents_in old.table.geometry)
+  pub open_done : (keeps : VolumeTable) → ChangesList honest 0 IsSame IsSame old new (Ok tt) → IsOfSet (extents_in old.table.geometry) keeps
       → (honest → (lost : Option Lost) (V : List Bytes) → RestsOn old lost V → Spell V keeps) → Opens honest old (opened (store_of new keeps None))
-  open_done keeps changes free spelled = record {
+  open_done keeps changes of_set spelled = record {
     later = changes.goes_on.later;
     going = λ store is. subst (λ (s : StoreView). s.ended ≡ None) (same_store _ store is) refl;
     goes_on = λ store is. subst (λ (s : StoreView). GoesOn old s.array) (same_store _ store is) changes.goes_on;
@@ -442,7 +442,7 @@ module _ (honest : Type 0) (old new : ArrayView) where
     moments = moments (Ok tt) changes;
     settled = λ fair lost V volumes rests shown store is. subst (λ (s : StoreView). IsSettledAfter lost s volumes) (same_store _ store is)
         (settled fair lost V volumes rests shown);
-    within = λ store is extent beyond. subst (λ (s : StoreView). owner_of s.keeps.extents extent ≡ None) (same_store _ store is) (free extent beyond);
+    of_set = λ store is. subst (λ (s : StoreView). IsOfSet (extents_in old.table.geometry) s.keeps) (same_store _ store is) of_set;
     spelled = λ fair lost V rests store is. subst (λ (s : StoreView). Spell V s.keeps) (same_store _ store is) (spelled fair lost V rests);
     cause = λ bank refusal is. absurd (not_returned _ bank refusal is);
   }

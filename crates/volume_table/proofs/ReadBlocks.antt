@@ -1,14 +1,16 @@
 -- Blocks of a volume are read one after another.
-use Rattle.std.proofs.Common.{◌≡◌, ⊎_elim, ℕ, ◌+◌, ◌/◌, ◌<◌, ◌≤◌, List, [], length, get_or, set, Option, Ok, refl, sym, ap, ◌∙◌, arith}
+use Rattle.std.proofs.Common.{◌≡◌, ⊎_elim, ℕ, ◌+◌, ◌/◌, ◌<◌, ◌≤◌, List, [], length, get_or, set, Option, Ok, refl, sym, ap, subst, ◌∙◌, arith}
 use Rattle.std.proofs.lemmas.Bool.{cases_eq}
 use Rattle.std.proofs.lemmas.List.{get_or-set_same, get_or-set_other}
 use Rattle.sector_model.specs.Bank.{IsTrueTo}
 use Rattle.sector_model.specs.History.{Bytes}
+use Rattle.extents.specs.declared.extent_layout.ExtentLayout.{ExtentLayout}
+use Rattle.extents.specs.SetExtents.{extents_in}
 use Rattle.extents.specs.declared.owned.Owned.{Owned}
-use Rattle.extents.specs.ExtentMaps.{HasPlace, IsWhere}
+use Rattle.extents.specs.ExtentMaps.{HasPlace, IsWhere, place_of, sector_of_block}
 use Rattle.extents.specs.Owners.{IsAt}
 use Rattle.extents.proofs.ExtentLawLemmas.{block_is_within}
-use Rattle.layout_map.specs.declared.format.Format.TheVariants.{One}
+use Rattle.layout_map.specs.declared.geometry.Geometry.{Geometry}
 use Rattle.layout_map.specs.Placement.{data_sectors_of}
 use Rattle.superblock.specs.declared.table.Table.{Table}
 use Rattle.superblock.specs.Cases.{Lost}
@@ -16,24 +18,22 @@ use Rattle.array_io.specs.Believed.ArrayCalls.{Answer, Reads}
 use Rattle.array_io.specs.Believed.Views.{ArrayView, RestsOn}
 use Rattle.volume_table.specs.Volumes.{Block}
 use Rattle.volume_table.specs.ListChanges.{ChangesList, IsSame}
-use Rattle.volume_table.specs.Shows.{sector_of_block}
-use Rattle.volume_table.specs.Stands.{extents_in}
 use Rattle.volume_table.proofs.ListChanges.{changes_both, changes_read}
 use Rattle.volume_table.proofs.TableSizes.{room_for}
-use Rattle.layout_map.specs.declared.sizes.TheConstants.{EXTENT_SECTORS}
 
 -- a block lies in a logical sector of the set
-pub block_of_set : (table now : Table) (owners : List (Option Owned)) (number block sector : ℕ) → now.geometry.format ≡ One
-    → length owners ≤ extents_in table.geometry → now.geometry ≡ table.geometry
-    → HasPlace owners number (block / EXTENT_SECTORS)
-    → IsWhere owners number block sector → sector < data_sectors_of now.geometry.members now.geometry.chunk now.geometry.stripes
-block_of_set table now owners number block sector one sized same place where_is =
-    let few : length owners ≤ extents_in now.geometry = rw same sized in
-    omega (
+pub block_of_set : (table now : Table) (owners : List (Option Owned)) (number block sector : ℕ)
+    → length owners ≤ (extents_in table.geometry).count → now.geometry ≡ table.geometry
+    → HasPlace owners number (place_of (extents_in table.geometry) block)
+    → IsWhere (extents_in table.geometry) owners number block sector
+    → sector < data_sectors_of now.geometry.members now.geometry.chunk now.geometry.stripes
+block_of_set table now owners number block sector sized same place where_is =
+    subst (λ (g : Geometry). sector < data_sectors_of g.members g.chunk g.stripes) (sym same)
+    (omega (
       arith,
-      room_for now (length owners) one few,
-      (block_is_within owners number block sector place where_is).1,
-    )
+      room_for table.geometry (length owners) sized,
+      (block_is_within (extents_in table.geometry) owners number block sector place where_is).1,
+    ))
 
 -- one read more
 pub read_on : (honest still : Type 0) → (honest → still) → (sector : ℕ) (old mid new : ArrayView) (to : Bytes) (answer : Answer)
@@ -53,20 +53,20 @@ read_gives honest still goes sector old mid new to so_far reads fair lost V rest
     reads.sector (goes fair) refl now.rests.lost now.logical now.rests.rests ∙ ap (λ (U : List Bytes). get_or U sector []) now.is
 
 -- the first n blocks were read
-abbrev pub AreReadBelow : List (Option Owned) → (number at n : ℕ) → (blocks sectors : List Block) → Type 0
-AreReadBelow owners number at n blocks sectors = (j extent : ℕ) → j < n → IsAt owners extent number ((at + j) / EXTENT_SECTORS)
-    → get_or blocks j [] ≡ get_or sectors (sector_of_block EXTENT_SECTORS extent (at + j)) []
+abbrev pub AreReadBelow : ExtentLayout → List (Option Owned) → (number at n : ℕ) → (blocks sectors : List Block) → Type 0
+AreReadBelow extents owners number at n blocks sectors = (j extent : ℕ) → j < n → IsAt owners extent number (place_of extents (at + j))
+    → get_or blocks j [] ≡ get_or sectors (sector_of_block extents extent (at + j)) []
 
-pub one_more_block : (owners : List (Option Owned)) (number at n sector : ℕ) (blocks V : List Block) (block : Block) → n < length blocks
-    → AreReadBelow owners number at n blocks V
-    → IsWhere owners number (at + n) sector → block ≡ get_or V sector [] → AreReadBelow owners number at (n + 1) (set blocks n block) V
-one_more_block owners number at n sector blocks V block within so_far where_is is j extent below here = ⊎_elim this other (cases_eq j n)
+pub one_more_block : (extents : ExtentLayout) (owners : List (Option Owned)) (number at n sector : ℕ) (blocks V : List Block) (block : Block) → n < length blocks
+    → AreReadBelow extents owners number at n blocks V
+    → IsWhere extents owners number (at + n) sector → block ≡ get_or V sector [] → AreReadBelow extents owners number at (n + 1) (set blocks n block) V
+one_more_block extents owners number at n sector blocks V block within so_far where_is is j extent below here = ⊎_elim this other (cases_eq j n)
   where
-    this : j ≡ n → get_or (set blocks n block) j [] ≡ get_or V (sector_of_block EXTENT_SECTORS extent (at + j)) []
+    this : j ≡ n → get_or (set blocks n block) j [] ≡ get_or V (sector_of_block extents extent (at + j)) []
     this same =
-        let here_n : IsAt owners extent number ((at + n) / EXTENT_SECTORS) = rw (← same) here in
+        let here_n : IsAt owners extent number (place_of extents (at + n)) = rw (← same) here in
         ap (λ k. get_or (set blocks n block) k []) same ∙ get_or-set_same blocks n block [] within ∙ is
-        ∙ ap (λ s. get_or V s []) (where_is extent here_n) ∙ ap (λ k. get_or V (sector_of_block EXTENT_SECTORS extent (at + k)) []) (sym same)
+        ∙ ap (λ s. get_or V s []) (where_is extent here_n) ∙ ap (λ k. get_or V (sector_of_block extents extent (at + k)) []) (sym same)
 
-    other : (j ≡ n → ⊥) → get_or (set blocks n block) j [] ≡ get_or V (sector_of_block EXTENT_SECTORS extent (at + j)) []
+    other : (j ≡ n → ⊥) → get_or (set blocks n block) j [] ≡ get_or V (sector_of_block extents extent (at + j)) []
     other apart = get_or-set_other blocks n j block [] apart ∙ so_far j extent (omega (arith, below, apart)) here

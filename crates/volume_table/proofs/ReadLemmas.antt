@@ -1,23 +1,24 @@
 -- What a list says of the names, lengths and blocks of its volumes.
-use Rattle.std.proofs.Common.{◌≡◌, ◌≢◌, ℕ, ◌+◌, ◌/◌, ◌<◌, List, [], length, take, drop, get_or, Option, Some, None, refl, sym, ap, ◌∙◌, arith}
+use Rattle.std.proofs.Common.{◌≡◌, ◌≢◌, ℕ, ◌+◌, ◌/◌, ◌<◌, List, [], length, take, drop, get_or, Option, Some, None, refl, sym, ap, subst, ◌∙◌, arith}
 use Rattle.std.proofs.lemmas.List.{length-take, length-drop, get_or-take, get_or-drop}
 use Rattle.std.specs.List.Sorted.{IsStrictlySortedBy}
 use Rattle.std.proofs.lemmas.List.Elements.{All-nil}
 use Rattle.std.proofs.lemmas.Option.{none-some, same_Some}
 use Rattle.sector_model.specs.declared.refusal.Refusal.{Refusal}
+use Rattle.extents.specs.declared.extent_layout.ExtentLayout.{ExtentLayout}
+use Rattle.extents.specs.ExtentMaps.{place_of, sector_of_block}
 use Rattle.extents.specs.declared.record.Record.{Record}
 use Rattle.extents.specs.declared.volume_table.VolumeTable.{VolumeTable}
 use Rattle.extents.specs.TableSpelling.{Spell}
-use Rattle.extents.specs.Owners.{owner_of, IsAt}
-use Rattle.extents.specs.VolumeTables.{HasRecord, record_of}
+use Rattle.extents.specs.Owners.{owner_of, HasPlaces, IsAt}
+use Rattle.extents.specs.VolumeTables.{HasRecord, extents_of, record_of}
 use Rattle.volume_table.specs.Volumes.{Block, VolumeMap, no_volumes, blocks_of, IsVolume, AreVolumes}
 use Rattle.volume_table.specs.VolumeStep.{Read, Reply, Blocks, or_refused, refusal_of, reply_to, answer, blocks_in}
 use Rattle.volume_table.specs.Law.{HasLength}
-use Rattle.volume_table.specs.Shows.{sector_of_block, IsOfVolume, Shows}
+use Rattle.volume_table.specs.Shows.{IsOfVolume, Shows}
 use Rattle.volume_table.proofs.StepLemmas.{IsWithin, is_within}
-use Rattle.layout_map.specs.declared.sizes.TheConstants.{EXTENT_SECTORS}
 
-pub absent_is_shown : (extents : ℕ) (sectors : List Block) (volumes : VolumeMap) (name : List ℕ) (shows : Shows extents sectors volumes)
+pub absent_is_shown : (extents : ExtentLayout) (sectors : List Block) (volumes : VolumeMap) (name : List ℕ) (shows : Shows extents sectors volumes)
     → ((number : ℕ) (entry : Record) → record_of shows.table.records number ≡ Some entry → entry.name.bytes.items ≢ name)
     → blocks_of name volumes.volumes ≡ None
 absent_is_shown extents sectors volumes name shows none = by_case (blocks_of name volumes.volumes) refl
@@ -27,10 +28,10 @@ absent_is_shown extents sectors volumes name shows none = by_case (blocks_of nam
     by_case (Some blocks) e = let has : HasRecord shows.table.records name =
         shows.shown.all name blocks e in absurd (none has.number has.entry has.used has.named)
 
-pub length_is_shown : (extents : ℕ) (sectors : List Block) (volumes : VolumeMap) (number : ℕ) (entry : Record) (shows : Shows extents sectors volumes)
+pub length_is_shown : (extents : ExtentLayout) (sectors : List Block) (volumes : VolumeMap) (number : ℕ) (entry : Record) (shows : Shows extents sectors volumes)
     → record_of shows.table.records number ≡ Some entry → HasLength entry.name.bytes.items entry.blocks volumes.volumes
 length_is_shown extents sectors volumes number entry shows used =
-    let was : IsOfVolume EXTENT_SECTORS shows.table.extents sectors volumes.volumes number entry = shows.shown.used number entry used in
+    let was : IsOfVolume extents shows.table.extents sectors volumes.volumes number entry = shows.shown.used number entry used in
     record { blocks = was.blocks; found = was.named; as_long = was.as_long }
 
 -- who answers blocks refused nothing
@@ -47,19 +48,19 @@ answered_blocks : (first second : List Block) → Blocks first ≡ Blocks second
 unfolding blocks_answered
 answered_blocks first second e = ap blocks_answered e
 
-pub read_is_shown : (extents : ℕ) (sectors : List Block) (volumes : VolumeMap) (number : ℕ) (entry : Record) (at count : ℕ) (blocks : List Block)
+pub read_is_shown : (extents : ExtentLayout) (sectors : List Block) (volumes : VolumeMap) (number : ℕ) (entry : Record) (at count : ℕ) (blocks : List Block)
     (shows : Shows extents sectors volumes)
     → record_of shows.table.records number ≡ Some entry → reply_to extents (Read entry.name.bytes.items at count) volumes ≡ Blocks blocks
     → (length blocks ≡ count)
-    × ((j extent : ℕ) → j < count → IsAt shows.table.extents extent number ((at + j) / EXTENT_SECTORS)
-    → get_or blocks j [] ≡ get_or sectors (sector_of_block EXTENT_SECTORS extent (at + j)) [])
+    × ((j extent : ℕ) → j < count → IsAt shows.table.extents extent number (place_of extents (at + j))
+    → get_or blocks j [] ≡ get_or sectors (sector_of_block extents extent (at + j)) [])
 read_is_shown extents sectors volumes number entry at count blocks shows used replied =
     let name = entry.name.bytes.items in
     let told = blocks_if_not_refused (refusal_of extents (Read name at count) volumes) (answer (Read name at count) volumes.volumes) blocks replied in
     let within : IsWithin name at count volumes.volumes = is_within name at count volumes.volumes told.0 in
     let old = blocks_in name volumes.volumes in
     let are : take count (drop at old) ≡ blocks = answered_blocks (take count (drop at old)) blocks told.1 in
-    let was : IsOfVolume EXTENT_SECTORS shows.table.extents sectors volumes.volumes number entry = shows.shown.used number entry used in
+    let was : IsOfVolume extents shows.table.extents sectors volumes.volumes number entry = shows.shown.used number entry used in
     let same : was.blocks ≡ old = same_Some was.blocks old (sym was.named ∙ within.found) in (
       ap length (sym are) ∙ omega (arith, length-take count (drop at old), length-drop at old, within.fits),
       λ j extent less at_extent.
@@ -69,11 +70,11 @@ read_is_shown extents sectors volumes number entry at count blocks shows used re
     )
 
 -- no volume is within any limits
-none_within : (extents : ℕ) → AreVolumes extents no_volumes
+none_within : (extents : ExtentLayout) → AreVolumes extents no_volumes
 unfolding IsStrictlySortedBy
 none_within extents = record { is_version = (omega arith, omega arith); few = omega arith; each = All-nil (IsVolume 1); rising = tt; within = omega arith }
 
-pub empty_is_shown : (extents : ℕ) (sectors : List Block) (table : VolumeTable) → Spell sectors table → table.version ≡ 1
+pub empty_is_shown : (extents : ExtentLayout) (sectors : List Block) (table : VolumeTable) → Spell sectors table → table.version ≡ 1
     → ((number : ℕ) → record_of table.records number ≡ None) → ((extent : ℕ) → owner_of table.extents extent ≡ None) → Shows extents sectors no_volumes
 empty_is_shown extents sectors table spelled first_version unused free =
     record {
@@ -81,9 +82,19 @@ empty_is_shown extents sectors table spelled first_version unused free =
       table = table;
       of_version = first_version;
       spelled = spelled;
-      free_beyond = λ extent above. free extent;
+      of_set = record {
+        free_beyond = λ extent above. free extent;
+        placed = ∣ (λ volume. subst (λ n. HasPlaces table.extents volume n) (sym (ap (extents_of extents.blocks) (unused volume))) (none_there volume)) ∣₁;
+      };
       shown = record {
         used = λ number entry used. absurd (none-some entry (sym (unused number) ∙ used));
         all = λ name blocks found. absurd (none-some blocks found);
       };
+    }
+  where
+    none_there : (volume : ℕ) → HasPlaces table.extents volume 0
+    none_there volume = record {
+      extent_at = λ place within. absurd (omega (arith, within));
+      below = λ extent place at. absurd (none-some _ (sym (free extent) ∙ at));
+      once = λ first second place one two. absurd (none-some _ (sym (free first) ∙ one));
     }

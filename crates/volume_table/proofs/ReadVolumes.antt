@@ -9,8 +9,10 @@ use Rattle.sector_model.specs.Bank.{IsTrueTo}
 use Rattle.superblock.specs.Cases.{Lost}
 use Rattle.array_io.specs.Believed.ArrayCalls.{Answer}
 use Rattle.array_io.specs.Believed.Views.{EndsIt, RestsOn}
+use Rattle.extents.specs.declared.extent_layout.ExtentLayout.{ExtentLayout}
 use Rattle.extents.specs.declared.owned.Owned.{Owned}
 use Rattle.extents.specs.declared.volume_table.VolumeTable.{VolumeTable}
+use Rattle.extents.specs.ExtentMaps.{place_of, sector_of_block}
 use Rattle.extents.specs.Owners.{IsAt}
 use Rattle.extents.specs.VolumeTables.{record_of}
 use Rattle.volume_table.specs.Admission.{AreKept, HasRecordAt, IsWithinVolume, ShowsBy}
@@ -25,13 +27,12 @@ use Rattle.volume_table.specs.VolumeStep.{Blocks, Read, blocks_in, or_refused, r
 use Rattle.volume_table.proofs.KeptMaps.{kept_owner, within_is_placed, within_record}
 use Rattle.volume_table.proofs.ReadLemmas.{read_is_shown}
 use Rattle.volume_table.proofs.StoreSteps.{done_with_volumes, ended_with_volumes, refused_at_once}
-use Rattle.layout_map.specs.declared.sizes.TheConstants.{EXTENT_SECTORS, RESERVED_SECTORS}
 
 -- the blocks that were read are the volume's
-read_is_answered : (extents : ℕ) (table : VolumeTable) (owners : List (Option Owned)) (name : List ℕ) (number at count : ℕ) (blocks V : List Block)
+read_is_answered : (extents : ExtentLayout) (table : VolumeTable) (owners : List (Option Owned)) (name : List ℕ) (number at count : ℕ) (blocks V : List Block)
     (volumes : VolumeMap) → AreKept extents table owners
-    → HasRecordAt table.records name number → AllPlaced EXTENT_SECTORS owners number at (at + count) → length blocks ≡ count → ShowsBy extents table V volumes
-    → None ≡ refusal_of extents (Read name at count) volumes → AreReadFrom EXTENT_SECTORS owners number at blocks V
+    → HasRecordAt table.records name number → AllPlaced extents owners number at (at + count) → length blocks ≡ count → ShowsBy extents table V volumes
+    → None ≡ refusal_of extents (Read name at count) volumes → AreReadFrom extents owners number at blocks V
     → blocks ≡ take count (drop at (blocks_in name volumes.volumes))
 read_is_answered extents table owners name number at count blocks V volumes kept found placed long shown admitted read =
     ext_get_or [] blocks wanted (long ∙ sym told.0) each
@@ -43,8 +44,8 @@ read_is_answered extents table owners name number at count blocks V volumes kept
     replied = ap (λ o. or_refused o (Blocks wanted)) (sym admitted)
 
     told : (length wanted ≡ count)
-        × ((j extent : ℕ) → j < count → IsAt shown.shows.table.extents extent number ((at + j) / EXTENT_SECTORS)
-        → get_or wanted j [] ≡ get_or V (RESERVED_SECTORS + EXTENT_SECTORS * extent + (at + j) % EXTENT_SECTORS) [])
+        × ((j extent : ℕ) → j < count → IsAt shown.shows.table.extents extent number (place_of extents (at + j))
+        → get_or wanted j [] ≡ get_or V (sector_of_block extents extent (at + j)) [])
     told =
         read_is_shown extents V volumes number found.entry at count wanted shown.shows
         (ap (λ (t : VolumeTable). record_of t.records number) shown.by ∙ found.used)
@@ -54,18 +55,18 @@ read_is_answered extents table owners name number at count blocks V volumes kept
     each j within =
         let below : j < count = omega (arith, within, long) in
         let place = placed (at + j) (omega arith) (omega (arith, below)) in
-        let in_table : IsAt table.extents place.0 number ((at + j) / EXTENT_SECTORS) = sym (kept_owner extents table owners kept place.0) ∙ place.1 in
+        let in_table : IsAt table.extents place.0 number (place_of extents (at + j)) = sym (kept_owner extents table owners kept place.0) ∙ place.1 in
         read j place.0 within place.1 ∙ sym (told.1 j place.0 below
-        (subst (λ (t : VolumeTable). IsAt t.extents place.0 number ((at + j) / EXTENT_SECTORS)) (sym shown.by) in_table))
+        (subst (λ (t : VolumeTable). IsAt t.extents place.0 number (place_of extents (at + j))) (sym shown.by) in_table))
 
 -- A read that is admitted, by its calls.
 pub read_applies : (honest : Type 0) (name : List ℕ) (at : ℕ) (before blocks : List Block) (old new : StoreView) (owners : List (Option Owned)) (number : ℕ)
     (result : Answer)
     → old.ended ≡ None → AreKept (extents_for_store old) old.keeps owners → ∥ IsWithinVolume old.keeps.records name number at (length before) ∥₁
-    → ((extents : ℕ) (sectors : List Block) (volumes : VolumeMap) → ShowsBy extents old.keeps sectors volumes
+    → ((extents : ExtentLayout) (sectors : List Block) (volumes : VolumeMap) → ShowsBy extents old.keeps sectors volumes
     → None ≡ refusal_of extents (Read name at (length before)) volumes)
     → (honest → IsTrueTo new.array.panel new.array.history) → ChangesList honest 0 IsSame IsSame old.array new.array result → length blocks ≡ length before
-    → (honest → OnOk result ((lost : Option Lost) (V : List Block) → RestsOn old.array lost V → AreReadFrom EXTENT_SECTORS owners number at blocks V))
+    → (honest → OnOk result ((lost : Option Lost) (V : List Block) → RestsOn old.array lost V → AreReadFrom (extents_for_store old) owners number at blocks V))
     → new.keeps ≡ old.keeps → (result ≡ Ok tt → new.ended ≡ None) → ((refusal : Refusal) → result ≡ Err refusal → new.ended ≡ Some refusal)
     → ReadsBlocks honest name at before blocks old new result
 read_applies honest name at before blocks old new owners number result going kept within admitted true_to changes long gives keeps goes ends =
@@ -83,7 +84,7 @@ read_applies honest name at before blocks old new owners number result going kep
     left V W volumes shown same = rw (keeps, same) shown
 
     by_result : (result : Answer) → ChangesList honest 0 IsSame IsSame old.array new.array result
-        → (honest → OnOk result ((lost : Option Lost) (V : List Block) → RestsOn old.array lost V → AreReadFrom EXTENT_SECTORS owners number at blocks V))
+        → (honest → OnOk result ((lost : Option Lost) (V : List Block) → RestsOn old.array lost V → AreReadFrom (extents_for_store old) owners number at blocks V))
         → (result ≡ Ok tt → new.ended ≡ None) → ((refusal : Refusal) → result ≡ Err refusal → new.ended ≡ Some refusal)
         → ReadsBlocks honest name at before blocks old new result
     by_result (Ok done) changes gives goes ends =
@@ -107,7 +108,7 @@ not_ended refusal (suc (suc (suc k)), below, is) ends = absurd (omega (arith, be
 
 pub read_is_refused : (honest : Type 0) (name : List ℕ) (at : ℕ) (before blocks : List Block) (store : StoreView) (refusal : Refusal) → store.ended ≡ None
     → Contains (NoVolume ∷ BadCount ∷ OutOfRange ∷ []) refusal
-    → ((extents : ℕ) (sectors : List Block) (volumes : VolumeMap) → ShowsBy extents store.keeps sectors volumes
+    → ((extents : ExtentLayout) (sectors : List Block) (volumes : VolumeMap) → ShowsBy extents store.keeps sectors volumes
     → Some refusal ≡ refusal_of extents (Read name at (length before)) volumes)
     → ReadsBlocks honest name at before blocks store store (Err refusal)
 read_is_refused honest name at before blocks store refusal going among refuses =

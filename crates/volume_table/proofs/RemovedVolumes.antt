@@ -11,6 +11,9 @@ use Rattle.sector_model.specs.Bank.{IsTrueTo}
 use Rattle.layout_map.specs.declared.geometry.Geometry.{Geometry}
 use Rattle.array_io.specs.Believed.ArrayCalls.{Answer}
 use Rattle.array_io.specs.Believed.Views.{EndsIt}
+use Rattle.extents.specs.declared.extent_layout.ExtentLayout.{ExtentLayout}
+use Rattle.extents.specs.ExtentMaps.{sector_of_block}
+use Rattle.extents.specs.SetExtents.{extents_in}
 use Rattle.extents.specs.declared.owned.Owned.{Owned}
 use Rattle.extents.specs.declared.record.Record.{Record}
 use Rattle.extents.specs.declared.volume_table.VolumeTable.{VolumeTable}
@@ -24,7 +27,7 @@ use Rattle.extents.proofs.TableLaws.{one_table}
 use Rattle.volume_table.specs.Volumes.{Block, VolumeMap}
 use Rattle.volume_table.specs.VolumeStep.{Done, Remove, done, or_refused, refusal_of, reply_to, volumes_after}
 use Rattle.volume_table.specs.Shows.{ChangesOneRecord, Shows}
-use Rattle.volume_table.specs.Stands.{StoreView, extents_in}
+use Rattle.volume_table.specs.Stands.{StoreView}
 use Rattle.volume_table.specs.StoreCalls.{extents_for_store}
 use Rattle.volume_table.specs.StoreChanges.{HasTable, MayPutTable, PutsTable}
 use Rattle.volume_table.specs.StoreFunctions.{RemovesVolume}
@@ -34,7 +37,6 @@ use Rattle.volume_table.proofs.KeptMaps.{found_record, kept_owner}
 use Rattle.volume_table.proofs.StepLemmas.{changed_if_done}
 use Rattle.volume_table.proofs.StoreSteps.{done_with_volumes, ended_with_volumes, refused_at_once}
 use Rattle.volume_table.proofs.TableLemmas.{remove_is_shown}
-use Rattle.layout_map.specs.declared.sizes.TheConstants.{EXTENT_SECTORS, RESERVED_SECTORS}
 
 -- an extent that another volume has after one gave its own back was that volume's before
 was_at : (owners left : List (Option Owned)) (number other extent place : ℕ) → IsGivenBack owners left number → IsAt left extent other place
@@ -50,22 +52,22 @@ was_at owners left number other extent place given there = by_owner (owner_of ow
     ]
 
 -- all other records stay, with the extents and the blocks of their volumes
-others_stay : (extents : ℕ) (old new : VolumeTable) (owners left : List (Option Owned)) (number : ℕ) (before now : List Block) → AreKept extents old owners
+others_stay : (extents : ExtentLayout) (old new : VolumeTable) (owners left : List (Option Owned)) (number : ℕ) (before now : List Block) → AreKept extents old owners
     → AreKept extents new left
     → new.records ≡ slice_set old.records number None → IsGivenBack owners left number → HasTable new before now
-    → ChangesOneRecord EXTENT_SECTORS old.records new.records old.extents new.extents before now number
+    → ChangesOneRecord extents old.records new.records old.extents new.extents before now number
 others_stay extents old new owners left number before now kept kept_then records given has = record {
   same_records = λ other apart. ap (λ (those : List (Option Record)). record_of those other) records
       ∙ get_or-set_other old.records number other None None apart;
   same_extents = λ other extent place apart there.
       sym (kept_owner extents old owners kept extent) ∙ was_at owners left number other extent place given
       (kept_owner extents new left kept_then extent ∙ there);
-  same_blocks = λ other entry apart used j extent below there. has.beyond (RESERVED_SECTORS + EXTENT_SECTORS * extent + j % EXTENT_SECTORS)
+  same_blocks = λ other entry apart used j extent below there. has.beyond (sector_of_block extents extent j)
       (omega (arith, table_length_most new.version));
 }
 
 -- so the list with the new table shows the volumes but the one that is removed
-removal_shows : (extents : ℕ) (old new : VolumeTable) (owners left : List (Option Owned)) (name : List ℕ) (number : ℕ) (before now : List Block)
+removal_shows : (extents : ExtentLayout) (old new : VolumeTable) (owners left : List (Option Owned)) (name : List ℕ) (number : ℕ) (before now : List Block)
     (volumes : VolumeMap) → AreKept extents old owners
     → AreKept extents new left → new.version ≡ old.version → HasRecordAt old.records name number → new.records ≡ slice_set old.records number None
     → IsGivenBack owners left number → ShowsBy extents old before volumes
@@ -89,8 +91,8 @@ removal_shows extents old new owners left name number before now volumes kept ke
         (remove_is_shown extents before now volumes new number found.entry shown.shows
         (ap (λ (t : VolumeTable). record_of t.records number) shown.by ∙ found.used)
         (subst (λ (n : List ℕ). reply_to extents (Remove n) volumes ≡ Done) (sym found.named) is_done) has.spelled
-        (version ∙ ap (λ (t : VolumeTable). t.version) (sym shown.by) ∙ shown.shows.of_version) kept_then.free_beyond
-        (subst (λ (t : VolumeTable). ChangesOneRecord EXTENT_SECTORS t.records new.records t.extents new.extents before now number) (sym shown.by)
+        (version ∙ ap (λ (t : VolumeTable). t.version) (sym shown.by) ∙ shown.shows.of_version) kept_then.of_set
+        (subst (λ (t : VolumeTable). ChangesOneRecord extents t.records new.records t.extents new.extents before now number) (sym shown.by)
         (others_stay extents old new owners left number before now kept kept_then records given has)) gone))
 
 -- A removal that is admitted, by its one call.
@@ -99,7 +101,7 @@ pub remove_applies : (honest : Type 0) (name : List ℕ) (old new : StoreView) (
     → AreKept (extents_for_store old) old.keeps owners → AreKept (extents_for_store new) new.keeps left → new.keeps.version ≡ old.keeps.version
     → ∥ HasRecordAt old.keeps.records name number ∥₁
     → new.keeps.records ≡ slice_set old.keeps.records number None → IsGivenBack owners left number
-    → ((extents : ℕ) (sectors : List Block) (volumes : VolumeMap) → ShowsBy extents old.keeps sectors volumes → None ≡ refusal_of extents (Remove name) volumes)
+    → ((extents : ExtentLayout) (sectors : List Block) (volumes : VolumeMap) → ShowsBy extents old.keeps sectors volumes → None ≡ refusal_of extents (Remove name) volumes)
     → (honest → IsTrueTo new.array.panel new.array.history)
     → ChangesList honest 1 (MayPutTable old.keeps new.keeps) (PutsTable old.keeps new.keeps) old.array new.array result
     → (result ≡ Ok tt → new.ended ≡ None) → ((refusal : Refusal) → result ≡ Err refusal → new.ended ≡ Some refusal) → RemovesVolume honest name old new result
@@ -141,7 +143,7 @@ remove_applies honest name old new owners left number result going kept kept_the
 
 -- What a removal is refused with at once does not end the store.
 pub remove_is_refused : (honest : Type 0) (name : List ℕ) (store : StoreView) (refusal : Refusal) → store.ended ≡ None → refusal ≡ NoVolume
-    → ((extents : ℕ) (sectors : List Block) (volumes : VolumeMap) → ShowsBy extents store.keeps sectors volumes
+    → ((extents : ExtentLayout) (sectors : List Block) (volumes : VolumeMap) → ShowsBy extents store.keeps sectors volumes
     → Some refusal ≡ refusal_of extents (Remove name) volumes)
     → RemovesVolume honest name store store (Err refusal)
 remove_is_refused honest name store refusal going is refuses =

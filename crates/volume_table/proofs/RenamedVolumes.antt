@@ -8,6 +8,8 @@ use Rattle.sector_model.specs.Bank.{IsTrueTo}
 use Rattle.layout_map.specs.declared.geometry.Geometry.{Geometry}
 use Rattle.array_io.specs.Believed.ArrayCalls.{Answer}
 use Rattle.array_io.specs.Believed.Views.{EndsIt}
+use Rattle.extents.specs.declared.extent_layout.ExtentLayout.{ExtentLayout}
+use Rattle.extents.specs.SetExtents.{extents_in}
 use Rattle.extents.specs.declared.owned.Owned.{Owned}
 use Rattle.extents.specs.declared.record.Record.{Record}
 use Rattle.extents.specs.declared.volume_table.VolumeTable.{VolumeTable}
@@ -20,7 +22,7 @@ use Rattle.extents.proofs.TableLaws.{one_table}
 use Rattle.volume_table.specs.Volumes.{Block, VolumeMap}
 use Rattle.volume_table.specs.VolumeStep.{Done, Rename, done, or_refused, refusal_of, reply_to, volumes_after}
 use Rattle.volume_table.specs.Shows.{ChangesName, Shows}
-use Rattle.volume_table.specs.Stands.{StoreView, extents_in}
+use Rattle.volume_table.specs.Stands.{StoreView}
 use Rattle.volume_table.specs.StoreCalls.{extents_for_store}
 use Rattle.volume_table.specs.StoreChanges.{HasTable, MayPutTable, PutsTable}
 use Rattle.volume_table.specs.StoreFunctions.{RenamesVolume}
@@ -35,7 +37,7 @@ use Rattle.volume_table.proofs.TableLemmas.{rename_is_shown}
 use Rattle.std.proofs.lemmas.List.{get_or-set_other}
 
 -- a table in which the record of a name has another, with the map of extents that it had
-pub record IsRenamed (extents : ℕ) (old new : VolumeTable) (owners : List (Option Owned)) (name name_after : List ℕ) (number : ℕ) (entry : Record) : Type 0
+pub record IsRenamed (extents : ExtentLayout) (old new : VolumeTable) (owners : List (Option Owned)) (name name_after : List ℕ) (number : ℕ) (entry : Record) : Type 0
   where
     pub kept : AreKept extents old owners
     pub kept_then : AreKept extents new owners
@@ -46,7 +48,7 @@ pub record IsRenamed (extents : ℕ) (old new : VolumeTable) (owners : List (Opt
     pub records : new.records ≡ slice_set old.records number (Some entry)
 
 -- one record has another name, and all else is as it was
-changes_name : (extents : ℕ) (old new : VolumeTable) (owners : List (Option Owned)) (name name_after : List ℕ) (number : ℕ) (entry : Record)
+changes_name : (extents : ExtentLayout) (old new : VolumeTable) (owners : List (Option Owned)) (name name_after : List ℕ) (number : ℕ) (entry : Record)
     (is : IsRenamed extents old new owners name name_after number entry)
     → ChangesName old.records new.records number is.found.entry name_after
 changes_name extents old new owners name name_after number entry is = record {
@@ -61,7 +63,7 @@ changes_name extents old new owners name name_after number entry is = record {
 }
 
 -- so the list with the new table shows the volume by its new name
-renaming_shows : (extents : ℕ) (old new : VolumeTable) (owners : List (Option Owned)) (name name_after : List ℕ) (number : ℕ) (entry : Record)
+renaming_shows : (extents : ExtentLayout) (old new : VolumeTable) (owners : List (Option Owned)) (name name_after : List ℕ) (number : ℕ) (entry : Record)
     (before now : List Block) (volumes : VolumeMap)
     → IsRenamed extents old new owners name name_after number entry → ShowsBy extents old before volumes
     → None ≡ refusal_of extents (Rename name name_after) volumes → HasTable new before now
@@ -101,7 +103,7 @@ pub rename_applies : (honest : Type 0) (name name_after : List ℕ) (old new : S
     → ∥ HasRecordAt old.keeps.records name number ∥₁
     → MayRename old.keeps.version old.keeps.records number entry → entry.name.bytes.items ≡ name_after
     → new.keeps.records ≡ slice_set old.keeps.records number (Some entry)
-    → ((extents : ℕ) (sectors : List Block) (volumes : VolumeMap) → ShowsBy extents old.keeps sectors volumes
+    → ((extents : ExtentLayout) (sectors : List Block) (volumes : VolumeMap) → ShowsBy extents old.keeps sectors volumes
     → None ≡ refusal_of extents (Rename name name_after) volumes)
     → (honest → IsTrueTo new.array.panel new.array.history)
     → ChangesList honest 1 (MayPutTable old.keeps new.keeps) (PutsTable old.keeps new.keeps) old.array new.array result
@@ -195,7 +197,7 @@ not_ended refusal (suc (suc (suc k)), below, is) ends = absurd (omega (arith, be
 
 pub rename_is_refused : (honest : Type 0) (name name_after : List ℕ) (store : StoreView) (refusal : Refusal) → store.ended ≡ None
     → Contains (NoVolume ∷ BadName ∷ Exists ∷ []) refusal
-    → ((extents : ℕ) (sectors : List Block) (volumes : VolumeMap) → ShowsBy extents store.keeps sectors volumes
+    → ((extents : ExtentLayout) (sectors : List Block) (volumes : VolumeMap) → ShowsBy extents store.keeps sectors volumes
     → Some refusal ≡ refusal_of extents (Rename name name_after) volumes)
     → RenamesVolume honest name name_after store store (Err refusal)
 rename_is_refused honest name name_after store refusal going among refuses =

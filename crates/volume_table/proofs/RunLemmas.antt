@@ -3,10 +3,12 @@ use Rattle.std.proofs.Common.{◌≡◌, ℕ, suc, List, [], ◌∷◌, ◌++◌
 use Rattle.superblock.specs.Cases.{Lost}
 use Rattle.volume_table.specs.Volumes.{VolumeMap}
 use Rattle.volume_table.specs.VolumeStep.{Event, Reply, after, left_by}
-use Rattle.volume_table.specs.Stands.{IsSettledAfter, IsSettledOn, StandsThroughout, StoreView, extents_in}
+use Rattle.volume_table.specs.Stands.{IsSettledAfter, IsSettledOn, StandsThroughout, StoreView}
 use Rattle.volume_table.specs.StoreCalls.{Applies, GoesThrough, extents_for_store, lost_in}
 use Rattle.volume_table.specs.StoreFunctions.{Chain, none_done, then_done}
 use Rattle.volume_table.specs.RunLaw.{IsSettledAfterEvents, StandsInEvent, StandsOneMore}
+use Rattle.extents.specs.declared.extent_layout.ExtentLayout.{ExtentLayout}
+use Rattle.extents.specs.SetExtents.{extents_in}
 
 pub chain_keeps_volumes : (events : List Event) (acks : List ℕ) (old new : StoreView) → (chain : Chain (Unit {0}) events acks old new)
     → (lost : Option Lost) (volumes : VolumeMap) → IsSettledOn old lost volumes
@@ -20,7 +22,7 @@ chain_keeps_volumes (_ ∷ events) (_ ∷ acks) old new (then_done mid event rep
     through.settled tt goes lost volumes rests in
     let later = chain_keeps_volumes events acks mid new chain left.lost (left_by (extents_for_store old) event volumes) left.settled in
     let same : extents_for_store mid ≡ extents_for_store old = ap extents_in through.goes_on.not_older.same_geometry in
-    let rest = subst (λ (extents : ℕ). IsSettledAfterEvents extents chain left.lost (left_by (extents_for_store old) event volumes)) same later.1 in (
+    let rest = subst (λ (extents : ExtentLayout). IsSettledAfterEvents extents chain left.lost (left_by (extents_for_store old) event volumes)) same later.1 in (
       ap suc later.0,
       record { lost = rest.lost; is_lost = (left.lost, left.is_lost, rest.is_lost); settled = rest.settled },
     )
@@ -83,7 +85,7 @@ pub last_event_stands : (done : List Event) (event : Event) (acks : List ℕ) (o
 last_event_stands done event acks old mid new reply chain applies lost volumes rests there =
     let through : GoesThrough (Unit {0}) event mid new reply = applies.going there.settled.going in
     subst
-    (λ (extents : ℕ). StandsThroughout mid.array.table mid.array.panel.devices (lost_in event mid.array.table there.lost)
+    (λ (extents : ExtentLayout). StandsThroughout mid.array.table mid.array.panel.devices (lost_in event mid.array.table there.lost)
     (after (extents_for_store old) done volumes (length done) ∷ left_by extents event (after (extents_for_store old) done volumes (length done)) ∷ [])
     mid.array.history new.array.history)
     (same_extents done acks old mid chain rests.going)

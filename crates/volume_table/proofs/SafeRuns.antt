@@ -28,7 +28,7 @@ use Rattle.recovery.specs.Making.{IsQuietBeyond, Makes}
 use Rattle.volume_table.specs.Volumes.{VolumeMap, no_volumes}
 use Rattle.volume_table.specs.VolumeStep.{Event, Fail, OnSet, OnVolumes, RebuildStep, Replace, Reply, Scrub, after, left_by}
 use Rattle.volume_table.specs.Shows.{Shows}
-use Rattle.volume_table.specs.Stands.{StandsNow, StandsThroughout, StoreView, extents_in}
+use Rattle.volume_table.specs.Stands.{StandsNow, StandsThroughout, StoreView}
 use Rattle.volume_table.specs.StoreCalls.{GoesThrough, lost_in}
 use Rattle.volume_table.specs.Opening.{IsNoOpening, Opened, Opens, Outcome, Returned, bank_after}
 use Rattle.volume_table.specs.Runs.{Does, Fate, IsAssembled, IsDone, IsServing, Run, Runs, Serving, Session, World, assembled, between_events, in_assembling}
@@ -41,6 +41,8 @@ use Rattle.volume_table.proofs.FreshLemmas.{fresh_set_shows_none}
 use Rattle.volume_table.proofs.Opened.{IsSafeArray, IsSafeStore, holds_readable, rests_on, stands_at_rest, store_after}
 use Rattle.volume_table.proofs.SafeWorlds.{IsSafe, begins_safe, goes_over, same_slots, crashes_safe}
 use Rattle.volume_table.proofs.Scrubbed.{scrub_finds_none}
+use Rattle.extents.specs.declared.extent_layout.ExtentLayout.{ExtentLayout}
+use Rattle.extents.specs.SetExtents.{extents_in}
 
 same_extents : (old new : Table) → IsNotOlder old new → extents_in new.geometry ≡ extents_in old.geometry
 same_extents old new later = ap extents_in later.same_geometry
@@ -59,7 +61,7 @@ safe_after made devices event reply old new volumes safe done =
     let moments = subst (λ (d : ℕ). StandsThroughout old.store.array.table d (lost_in event old.store.array.table old.fate.lost)
     (volumes ∷ left_by (extents_in old.store.array.table.geometry) event volumes ∷ []) old.store.array.history new.store.array.history) safe.of_bank
     (goes.moments tt old.fate.lost volumes safe.settled) in
-    subst (λ (e : ℕ). IsSafeStore made devices new (left_by e event volumes)) (same_extents made old.store.array.table safe.not_older)
+    subst (λ (e : ExtentLayout). IsSafeStore made devices new (left_by e event volumes)) (same_extents made old.store.array.table safe.not_older)
     (store_after made devices old.store.array.table (lost_in event old.store.array.table old.fate.lost)
     (volumes ∷ left_by (extents_in old.store.array.table.geometry) event volumes ∷ []) old.fate new
     (left_by (extents_in old.store.array.table.geometry) event volumes)
@@ -72,7 +74,7 @@ right_answer : (made : Table) (devices : ℕ) (event : Event) (reply : Reply) (o
     → IsDone (slots_of made) event reply old new → IsRight (extents_in made.geometry) volumes event new.store reply
 right_answer made devices (OnVolumes command) reply old new volumes safe done =
     let goes = goes_through made devices (slots_of made) (OnVolumes command) reply old new volumes safe done in
-    subst (λ (e : ℕ). IsRight e volumes (OnVolumes command) new.store reply) (same_extents made old.store.array.table safe.not_older)
+    subst (λ (e : ExtentLayout). IsRight e volumes (OnVolumes command) new.store reply) (same_extents made old.store.array.table safe.not_older)
     (goes.answered tt done.goes old.fate.lost volumes safe.settled)
 right_answer made devices (OnSet (Fail slot)) reply old new volumes safe done = tt
 right_answer made devices (OnSet (Replace slot)) reply old new volumes safe done = tt
@@ -85,7 +87,7 @@ right_answer made devices (OnSet Scrub) reply old new volumes safe done = λ com
     complete (safe_after made devices (OnSet Scrub) reply old new volumes safe done).settled.rests.sound
 
 -- the volumes after some events
-abbrev pub left_by_all : ℕ → List Event → VolumeMap → VolumeMap
+abbrev pub left_by_all : ExtentLayout → List Event → VolumeMap → VolumeMap
 left_by_all extents events volumes = fold (λ left event. left_by extents event left) volumes events
 
 -- events that are done leave a safe store, and were answered rightly
@@ -103,14 +105,14 @@ all_done made devices (then_done {old = old} mid event reply done rest) volumes 
     record { safe = then.safe; right = (right_answer made devices event reply old mid volumes safe done, then.right) }
 
 -- the volumes after all events, and after one more
-all_are : (extents : ℕ) (volumes : VolumeMap) (events : List Event) → left_by_all extents events volumes ≡ after extents events volumes (length events)
+all_are : (extents : ExtentLayout) (volumes : VolumeMap) (events : List Event) → left_by_all extents events volumes ≡ after extents events volumes (length events)
 all_are extents volumes events = ap (λ (l : List Event). left_by_all extents l volumes) (sym (take-length events))
 
-but_last : (extents : ℕ) (volumes : VolumeMap) (events : List Event) (event : Event)
+but_last : (extents : ExtentLayout) (volumes : VolumeMap) (events : List Event) (event : Event)
     → left_by_all extents events volumes ≡ after extents (events ++ event ∷ []) volumes (length events)
 but_last extents volumes events event = ap (λ (l : List Event). left_by_all extents l volumes) (sym (take-append_seam events (event ∷ [])))
 
-with_last : (extents : ℕ) (volumes : VolumeMap) (events : List Event) (event : Event)
+with_last : (extents : ExtentLayout) (volumes : VolumeMap) (events : List Event) (event : Event)
     → left_by extents event (left_by_all extents events volumes) ≡ after extents (events ++ event ∷ []) volumes (length (events ++ event ∷ []))
 with_last extents volumes events event =
     sym (fold-append (λ (left : VolumeMap) (e : Event). left_by extents e left) volumes events (event ∷ [])) ∙ all_are extents volumes (events ++ event ∷ [])
@@ -121,7 +123,7 @@ no_map volumes (k, below, is) = omega (arith, below)
 one_of_one : (only volumes : VolumeMap) → Contains (only ∷ []) volumes → only ≡ volumes
 one_of_one only volumes among = elim (Contains-push_cases [] only volumes among) [ inl none ↦ absurd (no_map volumes none) | inr is ↦ is ]
 
-prefix_of_all : (extents : ℕ) (volumes : VolumeMap) (events : List Event) (left : VolumeMap) → Contains (left_by_all extents events volumes ∷ []) left
+prefix_of_all : (extents : ExtentLayout) (volumes : VolumeMap) (events : List Event) (left : VolumeMap) → Contains (left_by_all extents events volumes ∷ []) left
     → IsAfterPrefix extents record { volumes = volumes; events = events; acknowledged = length events } left
 prefix_of_all extents volumes events left among = record {
   n = length events;
@@ -130,7 +132,7 @@ prefix_of_all extents volumes events left among = record {
   is = sym (one_of_one (left_by_all extents events volumes) left among) ∙ all_are extents volumes events;
 }
 
-prefix_with_last : (extents : ℕ) (volumes : VolumeMap) (events : List Event) (event : Event) (left : VolumeMap)
+prefix_with_last : (extents : ExtentLayout) (volumes : VolumeMap) (events : List Event) (event : Event) (left : VolumeMap)
     → Contains (left_by_all extents events volumes ∷ left_by extents event (left_by_all extents events volumes) ∷ []) left
     → IsAfterPrefix extents record { volumes = volumes; events = events ++ event ∷ []; acknowledged = length events } left
 prefix_with_last extents volumes events event left among =
@@ -208,7 +210,7 @@ stands_in_event : (made : Table) (devices : ℕ) (event : Event) (store : StoreV
     (volumes ∷ left_by (extents_in made.geometry) event volumes ∷ []))
     serving.store.array.history store.array.history
 stands_in_event made devices event store reply serving volumes safe goes =
-    subst₂ (λ (d e : ℕ). StandsThroughout serving.store.array.table d (lost_in event serving.store.array.table serving.fate.lost)
+    subst₂ (λ (d : ℕ) (e : ExtentLayout). StandsThroughout serving.store.array.table d (lost_in event serving.store.array.table serving.fate.lost)
     (volumes ∷ left_by e event volumes ∷ [])
     serving.store.array.history store.array.history) safe.of_bank (same_extents made serving.store.array.table safe.not_older)
     (goes.moments tt serving.fate.lost volumes safe.settled)
@@ -293,7 +295,7 @@ safe_assembly made devices maps world panel array fate of_bank safe is =
             (subst (λ (d : ℕ). IsSettled d array.table array.number array.history opens.rests.lost opens.logical) bank opens.rests.rests)
             (holds_readable (slots_of made) devices safe.base world.fate.lost maps array.history same (throughout_last array.history moments)
             is.goes_over.single_failure);
-        shown = subst (λ (e : ℕ). Shows e opens.logical shows.volumes) (sym (same_extents safe.base array.table opens.not_older)) shows.shown;
+        shown = subst (λ (e : ExtentLayout). Shows e opens.logical shows.volumes) (sym (same_extents safe.base array.table opens.not_older)) shows.shown;
       };
     }
 

@@ -8,23 +8,26 @@ use Rattle.std.proofs.lemmas.Bool.{and_parts, and_from, ltb-true, lt-ltb, or_lef
 use Rattle.std.proofs.lemmas.List.{same_lists, get_or_default}
 use Rattle.std.proofs.lemmas.List.Sums.{AllPass-from_list_all, list_all-from_AllPass}
 use Rattle.std.proofs.lemmas.Option.{same_Some}
+use Rattle.extents.specs.declared.extent_layout.ExtentLayout.{ExtentLayout}
+use Rattle.extents.specs.ExtentMaps.{place_of, sector_of_block}
 use Rattle.extents.specs.declared.owned.Owned.{Owned}
 use Rattle.extents.specs.declared.record.Record.{Record}
 use Rattle.extents.specs.declared.volume_table.VolumeTable.{VolumeTable}
 use Rattle.extents.specs.Names.{is_letter, is_digit, is_name_byte, IsGoodName}
 use Rattle.extents.specs.Owners.{owner_of, IsAt, HasPlaces}
 use Rattle.extents.specs.Versions.{most_name_bytes, table_length}
-use Rattle.extents.specs.VolumeTables.{AreDistinct, HasRecord, IsVolumeTable, extents_for, extents_of, record_of}
+use Rattle.extents.specs.VolumeTables.{AreDistinct, HasRecord, HaveTheirPlaces, IsVolumeTable, extents_for, extents_of, record_of}
+use Rattle.extents.proofs.Blocks.{block_is_one, place_is_below, sector_is_of_one}
+use Rattle.extents.proofs.OwnerLemmas.{owner_is_one}
 use Rattle.volume_table.specs.Names.{is_same_name, is_good_name}
 use Rattle.volume_table.specs.Volumes.{Block, IsBlock, VolumeList, VolumeMap, blocks_of, AreVolumes}
 use Rattle.volume_table.specs.VolumeStep.{Write, Done, refusal_of, reply_to, volumes_after}
 use Rattle.volume_table.specs.Law.{IsWritten, LeavesWritten}
-use Rattle.volume_table.specs.Shows.{sector_of_block, AreBlocksIn, IsOfVolume, AreShown, Shows, HasWritten}
+use Rattle.volume_table.specs.Shows.{AreBlocksIn, IsOfVolume, AreShown, Shows, HasWritten}
 use Rattle.volume_table.specs.ShowsLaw.{TablesHaveOneSpelling}
 use Rattle.volume_table.proofs.VolumeLemmas.{same_name_is, same_name_itself, known_by_blocks}
 use Rattle.volume_table.proofs.StepLemmas.{step_keeps, changed_if_done, done_if_not_refused, not_the_one, others_stay, write_changes_its_blocks}
 use Rattle.volume_table.proofs.TableSizes.{same_first, same_map, short_names, table_short}
-use Rattle.layout_map.specs.declared.sizes.TheConstants.{EXTENT_SECTORS}
 
 -- the test of a name
 good_forward : (version : ℕ) (name : List ℕ) → is_good_name version name ≡ true → IsGoodName name × (length name ≤ most_name_bytes version)
@@ -66,42 +69,41 @@ pub good_names : (version : ℕ) (name : List ℕ) → IsTrue (is_good_name vers
 good_names version name = (good_forward version name, λ both. good_backward version name both.0 both.1)
 
 -- blocks of different places lie in different sectors
-same_sector : (owners : List (Option Owned)) (number other i j extent extent' : ℕ) → IsAt owners extent number (i / EXTENT_SECTORS)
-    → IsAt owners extent' other (j / EXTENT_SECTORS) → sector_of_block EXTENT_SECTORS extent i ≡ sector_of_block EXTENT_SECTORS extent' j
+same_sector : (extents : ExtentLayout) (owners : List (Option Owned)) (number other i j extent extent' : ℕ) → IsAt owners extent number (place_of extents i)
+    → IsAt owners extent' other (place_of extents j) → sector_of_block extents extent i ≡ sector_of_block extents extent' j
     → (number ≡ other) × (i ≡ j)
-same_sector owners number other i j extent extent' here there same =
-    let one_extent : extent ≡ extent' = omega arith in
-    let one_offset : i % EXTENT_SECTORS ≡ j % EXTENT_SECTORS = omega arith in
-    let first : Owned = record { volume = number; place = i / EXTENT_SECTORS } in
-    let second : Owned = record { volume = other; place = j / EXTENT_SECTORS } in
-    let one_owner : first ≡ second = same_Some first second (sym here ∙ ap (owner_of owners) one_extent ∙ there) in
-    let one_place : i / EXTENT_SECTORS ≡ j / EXTENT_SECTORS = ap (λ (o : Owned). o.place) one_owner in
-    (ap (λ (o : Owned). o.volume) one_owner, omega (arith, one_place, one_offset))
+same_sector extents owners number other i j extent extent' here there same =
+    let parts = sector_is_of_one extents extent extent' i j same in
+    let owner = owner_is_one owners extent' number (place_of extents i) other (place_of extents j)
+    (subst (λ e. IsAt owners e number (place_of extents i)) parts.0 here) there in
+    (owner.0, block_is_one extents.blocks i j owner.1 parts.1)
 
 -- two volumes of one record have the same blocks
-same_blocks : (records : List (Option Record)) (owners : List (Option Owned)) (sectors : List Block) (number : ℕ) (entry : Record) (first second : List Block)
-    (version : ℕ) → IsVolumeTable version records owners → record_of records number ≡ Some entry
-    → length first ≡ entry.blocks → length second ≡ entry.blocks → AreBlocksIn EXTENT_SECTORS sectors owners number first
-    → AreBlocksIn EXTENT_SECTORS sectors owners number second → first ≡ second
-same_blocks records owners sectors number entry first second version table used one_long two_long one two =
+same_blocks : (extents : ExtentLayout) (records : List (Option Record)) (owners : List (Option Owned)) (sectors : List Block) (number : ℕ) (entry : Record)
+    (first second : List Block) → HaveTheirPlaces extents.blocks records owners → record_of records number ≡ Some entry
+    → length first ≡ entry.blocks → length second ≡ entry.blocks → AreBlocksIn extents sectors owners number first
+    → AreBlocksIn extents sectors owners number second → first ≡ second
+same_blocks extents records owners sectors number entry first second placed used one_long two_long one two =
     same_lists first second (one_long ∙ sym two_long) (λ k d within.
-    let has : HasPlaces owners number (extents_of EXTENT_SECTORS (record_of records number)) = table.places number in
-    let count : extents_of EXTENT_SECTORS (record_of records number) ≡ extents_for EXTENT_SECTORS entry.blocks = ap (extents_of EXTENT_SECTORS) used in
-    let at = has.extent_at (k / EXTENT_SECTORS) (omega (arith, count, one_long)) in
+    let each = extents.blocks in
+    let has : HasPlaces owners number (extents_of each (record_of records number)) = placed number in
+    let count : extents_of each (record_of records number) ≡ extents_for each entry.blocks = ap (extents_of each) used in
+    let below = place_is_below each entry.blocks k extents.limits.some (omega (arith, within, one_long)) in
+    let at = has.extent_at (place_of extents k) (omega (arith, count, below)) in
     let within_second : k < length second = omega (arith, one_long, two_long) in
     get_or_default first k d [] within ∙ sym (one k at.0 within at.1) ∙ two k at.0 within_second at.1 ∙ sym (get_or_default second k d [] within_second))
 
 -- what one map has, the other has
-also_there : (records : List (Option Record)) (owners : List (Option Owned)) (sectors : List Block) (first second : VolumeList) (version : ℕ)
-    → IsVolumeTable version records owners → AreShown EXTENT_SECTORS records owners sectors first → AreShown EXTENT_SECTORS records owners sectors second
+also_there : {extents : ExtentLayout} (records : List (Option Record)) (owners : List (Option Owned)) (sectors : List Block) (first second : VolumeList)
+    → HaveTheirPlaces extents.blocks records owners → AreShown extents records owners sectors first → AreShown extents records owners sectors second
     → (name : List ℕ) (blocks : List Block) → blocks_of name first ≡ Some blocks → blocks_of name second ≡ Some blocks
-also_there records owners sectors first second version table one two name blocks found =
+also_there {extents} records owners sectors first second placed one two name blocks found =
     let has : HasRecord records name = one.all name blocks found in
-    let here : IsOfVolume EXTENT_SECTORS owners sectors first has.number has.entry = one.used has.number has.entry has.used in
-    let there : IsOfVolume EXTENT_SECTORS owners sectors second has.number has.entry = two.used has.number has.entry has.used in
+    let here : IsOfVolume extents owners sectors first has.number has.entry = one.used has.number has.entry has.used in
+    let there : IsOfVolume extents owners sectors second has.number has.entry = two.used has.number has.entry has.used in
     let same : blocks ≡ here.blocks = same_Some blocks here.blocks (sym found ∙ ap (λ n. blocks_of n first) (sym has.named) ∙ here.named) in
     ap (λ n. blocks_of n second) (sym has.named) ∙ there.named
-    ∙ ap Some (same_blocks records owners sectors has.number has.entry there.blocks here.blocks version table has.used there.as_long here.as_long there.stand
+    ∙ ap Some (same_blocks extents records owners sectors has.number has.entry there.blocks here.blocks placed has.used there.as_long here.as_long there.stand
     here.stand ∙ sym same)
 
 pub same_found : (o p : Option (List Block)) → ((blocks : List Block) → o ≡ Some blocks → p ≡ Some blocks)
@@ -111,24 +113,24 @@ same_found None (Some blocks) f g = g blocks refl
 same_found (Some blocks) p f g = sym (f blocks refl)
 
 -- where the table is known, the lists of both are one
-same_volumes : (extents : ℕ) (records : List (Option Record)) (owners : List (Option Owned)) (sectors : List Block) (version : ℕ) (first second : VolumeMap)
-    → IsVolumeTable version records owners
-    → AreVolumes extents first → AreVolumes extents second → AreShown EXTENT_SECTORS records owners sectors first.volumes
-    → AreShown EXTENT_SECTORS records owners sectors second.volumes → first.volumes ≡ second.volumes
-same_volumes extents records owners sectors version first second table one_limits two_limits one two =
+same_volumes : (extents : ExtentLayout) (records : List (Option Record)) (owners : List (Option Owned)) (sectors : List Block) (first second : VolumeMap)
+    → HaveTheirPlaces extents.blocks records owners
+    → AreVolumes extents first → AreVolumes extents second → AreShown extents records owners sectors first.volumes
+    → AreShown extents records owners sectors second.volumes → first.volumes ≡ second.volumes
+same_volumes extents records owners sectors first second placed one_limits two_limits one two =
     known_by_blocks first.volumes second.volumes one_limits.rising two_limits.rising (λ name.
     same_found (blocks_of name first.volumes) (blocks_of name second.volumes)
-    (also_there records owners sectors first.volumes second.volumes version table one two name)
-    (also_there records owners sectors second.volumes first.volumes version table two one name))
+    (also_there records owners sectors first.volumes second.volumes placed one two name)
+    (also_there records owners sectors second.volumes first.volumes placed two one name))
 
-pub shown_are_one : (extents : ℕ) (records : List (Option Record)) (owners : List (Option Owned)) (sectors : List Block) (version : ℕ)
-    (first second : VolumeMap) → ∥ IsVolumeTable version records owners ∥₁
+pub shown_are_one : (extents : ExtentLayout) (records : List (Option Record)) (owners : List (Option Owned)) (sectors : List Block) (version : ℕ)
+    (first second : VolumeMap) → ∥ HaveTheirPlaces extents.blocks records owners ∥₁
     → first.version ≡ version → second.version ≡ version
-    → AreVolumes extents first → AreVolumes extents second → AreShown EXTENT_SECTORS records owners sectors first.volumes
-    → AreShown EXTENT_SECTORS records owners sectors second.volumes → first ≡ second
-shown_are_one extents records owners sectors version first second table first_is second_is one_limits two_limits one two =
-    ∥∥₁_elim table (hlevel props) (λ is_table.
-    same_map first second (first_is ∙ sym second_is) (same_volumes extents records owners sectors version first second is_table one_limits two_limits one two))
+    → AreVolumes extents first → AreVolumes extents second → AreShown extents records owners sectors first.volumes
+    → AreShown extents records owners sectors second.volumes → first ≡ second
+shown_are_one extents records owners sectors version first second places first_is second_is one_limits two_limits one two =
+    ∥∥₁_elim places (hlevel props) (λ placed.
+    same_map first second (first_is ∙ sym second_is) (same_volumes extents records owners sectors first second placed one_limits two_limits one two))
 
 -- the names of a table are distinct
 pub distinct_names : (version : ℕ) (records : List (Option Record)) (owners : List (Option Owned)) → ∥ IsVolumeTable version records owners ∥₁
@@ -137,54 +139,54 @@ distinct_names version records owners table i j first second one two same =
     ∥∥₁_elim table (hlevel props) (λ is_table. is_table.distinct i j first second one two same)
 
 -- the volume that was written
-written_volume : (owners : List (Option Owned)) (before left : List Block) (number at : ℕ) (written old new : List Block)
-    → AreBlocksIn EXTENT_SECTORS before owners number old → IsWritten old new at written → HasWritten EXTENT_SECTORS owners number at written before left
-    → AreBlocksIn EXTENT_SECTORS left owners number new
-written_volume owners before left number at written old new stand changes has j extent within at_extent =
+written_volume : {extents : ExtentLayout} (owners : List (Option Owned)) (before left : List Block) (number at : ℕ) (written old new : List Block)
+    → AreBlocksIn extents before owners number old → IsWritten old new at written → HasWritten extents owners number at written before left
+    → AreBlocksIn extents left owners number new
+written_volume {extents} owners before left number at written old new stand changes has j extent within at_extent =
     ⊎_elim below (⊎_elim above inside) (which j)
   where
     which : (k : ℕ) → (k < at) ⊎ ((at + length written ≤ k) ⊎ ((at ≤ k) × (k < at + length written)))
     which k = grind arith
 
-    apart : (j < at) ⊎ (at + length written ≤ j) → (i extent' : ℕ) → i < length written → IsAt owners extent' number ((at + i) / EXTENT_SECTORS)
-        → sector_of_block EXTENT_SECTORS extent j ≢ sector_of_block EXTENT_SECTORS extent' (at + i)
+    apart : (j < at) ⊎ (at + length written ≤ j) → (i extent' : ℕ) → i < length written → IsAt owners extent' number (place_of extents (at + i))
+        → sector_of_block extents extent j ≢ sector_of_block extents extent' (at + i)
     apart off i extent' less there same =
-        let one : j ≡ at + i = (same_sector owners number number j (at + i) extent extent' at_extent there same).1 in
+        let one : j ≡ at + i = (same_sector extents owners number number j (at + i) extent extent' at_extent there same).1 in
         ⊎_elim (λ low. absurd (omega (arith, one, low, less))) (λ high. absurd (omega (arith, one, high, less))) off
 
     old_within : j < length old
     old_within = omega (arith, within, changes.as_long)
 
-    below : j < at → get_or left (sector_of_block EXTENT_SECTORS extent j) [] ≡ get_or new j []
-    below low = has.outside (sector_of_block EXTENT_SECTORS extent j) (apart (inl low)) ∙ stand j extent old_within at_extent ∙ sym (changes.below j [] low)
+    below : j < at → get_or left (sector_of_block extents extent j) [] ≡ get_or new j []
+    below low = has.outside (sector_of_block extents extent j) (apart (inl low)) ∙ stand j extent old_within at_extent ∙ sym (changes.below j [] low)
 
-    above : at + length written ≤ j → get_or left (sector_of_block EXTENT_SECTORS extent j) [] ≡ get_or new j []
-    above high = has.outside (sector_of_block EXTENT_SECTORS extent j) (apart (inr high)) ∙ stand j extent old_within at_extent ∙ sym (changes.above j [] high)
+    above : at + length written ≤ j → get_or left (sector_of_block extents extent j) [] ≡ get_or new j []
+    above high = has.outside (sector_of_block extents extent j) (apart (inr high)) ∙ stand j extent old_within at_extent ∙ sym (changes.above j [] high)
 
-    inside : (at ≤ j) × (j < at + length written) → get_or left (sector_of_block EXTENT_SECTORS extent j) [] ≡ get_or new j []
+    inside : (at ≤ j) × (j < at + length written) → get_or left (sector_of_block extents extent j) [] ≡ get_or new j []
     inside range =
         let k = j - at in
         let there : at + k ≡ j = omega (arith, range.0) in
         let less : k < length written = omega (arith, range.0, range.1) in
-        ap (λ n. get_or left (sector_of_block EXTENT_SECTORS extent n) []) (sym there)
-        ∙ has.inside k extent less (subst (λ n. IsAt owners extent number (n / EXTENT_SECTORS)) (sym there) at_extent)
+        ap (λ n. get_or left (sector_of_block extents extent n) []) (sym there)
+        ∙ has.inside k extent less (subst (λ n. IsAt owners extent number (place_of extents n)) (sym there) at_extent)
         ∙ sym (changes.inside k [] less) ∙ ap (λ n. get_or new n []) there
 
 -- the others
-other_volume : (owners : List (Option Owned)) (before left : List Block) (number other at : ℕ) (written blocks : List Block) → other ≢ number
-    → AreBlocksIn EXTENT_SECTORS before owners other blocks → HasWritten EXTENT_SECTORS owners number at written before left
-    → AreBlocksIn EXTENT_SECTORS left owners other blocks
-other_volume owners before left number other at written blocks differ stand has j extent within at_extent =
-    has.outside (sector_of_block EXTENT_SECTORS extent j)
-    (λ i extent' less there same. differ (same_sector owners other number j (at + i) extent extent' at_extent there same).0)
+other_volume : {extents : ExtentLayout} (owners : List (Option Owned)) (before left : List Block) (number other at : ℕ) (written blocks : List Block) → other ≢ number
+    → AreBlocksIn extents before owners other blocks → HasWritten extents owners number at written before left
+    → AreBlocksIn extents left owners other blocks
+other_volume {extents} owners before left number other at written blocks differ stand has j extent within at_extent =
+    has.outside (sector_of_block extents extent j)
+    (λ i extent' less there same. differ (same_sector extents owners other number j (at + i) extent extent' at_extent there same).0)
     ∙ stand j extent within at_extent
 
 -- the record of another name is another record
-write_is_shown_by : (extents : ℕ) (records : List (Option Record)) (owners : List (Option Owned)) (before left : List Block) (volumes : VolumeMap) (number : ℕ)
+write_is_shown_by : (extents : ExtentLayout) (records : List (Option Record)) (owners : List (Option Owned)) (before left : List Block) (volumes : VolumeMap) (number : ℕ)
     (entry : Record) (at : ℕ) (written : List Block)
-    → AreDistinct records → AreShown EXTENT_SECTORS records owners before volumes.volumes → record_of records number ≡ Some entry
-    → reply_to extents (Write entry.name.bytes.items at written) volumes ≡ Done → HasWritten EXTENT_SECTORS owners number at written before left
-    → AreShown EXTENT_SECTORS records owners left (volumes_after extents (Write entry.name.bytes.items at written) volumes).volumes
+    → AreDistinct records → AreShown extents records owners before volumes.volumes → record_of records number ≡ Some entry
+    → reply_to extents (Write entry.name.bytes.items at written) volumes ≡ Done → HasWritten extents owners number at written before left
+    → AreShown extents records owners left (volumes_after extents (Write entry.name.bytes.items at written) volumes).volumes
 write_is_shown_by extents records owners before left volumes number entry at written distinct shown used done has =
     record {
       used = λ other other_entry other_used. by_name other other_entry other_used (is_same_name other_entry.name.bytes.items name) refl;
@@ -205,25 +207,25 @@ write_is_shown_by extents records owners before left volumes number entry at wri
         (not_the_one name other (λ same. true≢false (sym (same_name_itself name) ∙ ap (λ n. is_same_name n name) (sym same) ∙ differ)))
 
     by_name : (other : ℕ) (other_entry : Record) → record_of records other ≡ Some other_entry → (b : Bool) → is_same_name other_entry.name.bytes.items name ≡ b
-        → IsOfVolume EXTENT_SECTORS owners left after_it other other_entry
+        → IsOfVolume extents owners left after_it other other_entry
     by_name other other_entry other_used true e =
         let same_name : other_entry.name.bytes.items ≡ name = same_name_is other_entry.name.bytes.items name e in
         let same : other ≡ number = distinct other number other_entry entry other_used used same_name in
-        let was : IsOfVolume EXTENT_SECTORS owners before volumes.volumes other other_entry = shown.used other other_entry other_used in
+        let was : IsOfVolume extents owners before volumes.volumes other other_entry = shown.used other other_entry other_used in
         let same_old : was.blocks ≡ leaves.before = same_Some was.blocks leaves.before
         (sym was.named ∙ ap (λ n. blocks_of n volumes.volumes) same_name ∙ leaves.was) in
-        let stand : AreBlocksIn EXTENT_SECTORS before owners number leaves.before =
-        subst (λ n. AreBlocksIn EXTENT_SECTORS before owners n leaves.before) same
-        (subst (λ blocks. AreBlocksIn EXTENT_SECTORS before owners other blocks) same_old was.stand) in
+        let stand : AreBlocksIn extents before owners number leaves.before =
+        subst (λ n. AreBlocksIn extents before owners n leaves.before) same
+        (subst (λ blocks. AreBlocksIn extents before owners other blocks) same_old was.stand) in
         record {
           blocks = leaves.left;
           named = ap (λ n. blocks_of n after_it) same_name ∙ leaves.is_left;
           as_long = leaves.changes.as_long ∙ ap length (sym same_old) ∙ was.as_long;
-          stand = subst (λ n. AreBlocksIn EXTENT_SECTORS left owners n leaves.left) (sym same)
+          stand = subst (λ n. AreBlocksIn extents left owners n leaves.left) (sym same)
               (written_volume owners before left number at written leaves.before leaves.left stand leaves.changes has);
         }
     by_name other other_entry other_used false e =
-        let was : IsOfVolume EXTENT_SECTORS owners before volumes.volumes other other_entry = shown.used other other_entry other_used in
+        let was : IsOfVolume extents owners before volumes.volumes other other_entry = shown.used other other_entry other_used in
         let differ : other ≢ number = λ same.
         let one : other_entry ≡ entry = same_Some other_entry entry (sym other_used ∙ ap (record_of records) same ∙ used) in
         true≢false (sym (same_name_itself name) ∙ ap (λ (r : Record). is_same_name r.name.bytes.items name) (sym one) ∙ e) in
@@ -240,25 +242,25 @@ write_is_shown_by extents records owners before left volumes number entry at wri
     by_other other blocks found false e = shown.all other blocks (sym (stays other e) ∙ found)
 
 -- the table stands below all blocks
-table_stays : (version : ℕ) (before left : List Block) (owners : List (Option Owned)) (number at : ℕ) (written : List Block) → length left ≡ length before
-    → HasWritten EXTENT_SECTORS owners number at written before left
+table_stays : {extents : ExtentLayout} (version : ℕ) (before left : List Block) (owners : List (Option Owned)) (number at : ℕ) (written : List Block) → length left ≡ length before
+    → HasWritten extents owners number at written before left
     → take (table_length version) left ≡ take (table_length version) before
-table_stays version before left owners number at written as_long has =
+table_stays {extents} version before left owners number at written as_long has =
     same_first (table_length version) before left as_long (λ k less.
-    has.outside k (λ j extent below there same. absurd (omega (arith, less, table_short version, same))))
+    has.outside k (λ j extent below there same. absurd (omega (arith, less, table_short version, extents.limits.above, same))))
 
 -- a write leaves the version
-write_keeps_version : (extents : ℕ) (name : List ℕ) (at : ℕ) (written : List Block) (volumes : VolumeMap)
+write_keeps_version : (extents : ExtentLayout) (name : List ℕ) (at : ℕ) (written : List Block) (volumes : VolumeMap)
     → reply_to extents (Write name at written) volumes ≡ Done
     → (volumes_after extents (Write name at written) volumes).version ≡ volumes.version
 write_keeps_version extents name at written volumes replied =
     ap (λ (map : VolumeMap). map.version)
     (changed_if_done extents (Write name at written) volumes (done_if_not_refused (refusal_of extents (Write name at written) volumes) Done replied))
 
-pub write_is_shown : (extents : ℕ) (before left : List Block) (volumes : VolumeMap) (number : ℕ) (entry : Record) (at : ℕ) (written : List Block)
+pub write_is_shown : (extents : ExtentLayout) (before left : List Block) (volumes : VolumeMap) (number : ℕ) (entry : Record) (at : ℕ) (written : List Block)
     (shows : Shows extents before volumes)
     → record_of shows.table.records number ≡ Some entry → All IsBlock written → reply_to extents (Write entry.name.bytes.items at written) volumes ≡ Done
-    → length left ≡ length before → HasWritten EXTENT_SECTORS shows.table.extents number at written before left
+    → length left ≡ length before → HasWritten extents shows.table.extents number at written before left
     → Shows extents left (volumes_after extents (Write entry.name.bytes.items at written) volumes)
 write_is_shown extents before left volumes number entry at written shows used whole replied as_long has =
     let table = shows.table in
@@ -267,17 +269,17 @@ write_is_shown extents before left volumes number entry at written shows used wh
       table = table;
       of_version = shows.of_version ∙ sym (write_keeps_version extents entry.name.bytes.items at written volumes replied);
       spelled = table_stays table.version before left table.extents number at written as_long has ∙ shows.spelled;
-      free_beyond = shows.free_beyond;
+      of_set = shows.of_set;
       shown = write_is_shown_by extents table.records table.extents before left volumes number entry at written
           (distinct_names table.version table.records table.extents table.is_table) shows.shown used replied has;
     }
 
 -- one list, one map of volumes
-pub list_shows_one : TablesHaveOneSpelling → (extents : ℕ) (sectors : List Block) (first second : VolumeMap) → Shows extents sectors first
+pub list_shows_one : TablesHaveOneSpelling → (extents : ExtentLayout) (sectors : List Block) (first second : VolumeMap) → Shows extents sectors first
     → Shows extents sectors second → first ≡ second
 list_shows_one spelling extents sectors first second one two =
     let same : one.table ≡ two.table = spelling sectors one.table two.table one.spelled two.spelled in
-    let shown : AreShown EXTENT_SECTORS one.table.records one.table.extents sectors second.volumes =
-    subst (λ (t : VolumeTable). AreShown EXTENT_SECTORS t.records t.extents sectors second.volumes) (sym same) two.shown in
-    shown_are_one extents one.table.records one.table.extents sectors one.table.version first second one.table.is_table
+    let shown : AreShown extents one.table.records one.table.extents sectors second.volumes =
+    subst (λ (t : VolumeTable). AreShown extents t.records t.extents sectors second.volumes) (sym same) two.shown in
+    shown_are_one extents one.table.records one.table.extents sectors one.table.version first second one.of_set.placed
     (sym one.of_version) (sym two.of_version ∙ ap (λ (t : VolumeTable). t.version) (sym same)) one.limits two.limits one.shown shown

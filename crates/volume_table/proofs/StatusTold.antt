@@ -5,6 +5,7 @@ use Rattle.std.proofs.lemmas.List.Recursion.{is_count_by}
 use Rattle.std.proofs.lemmas.Option.{none-some}
 use Rattle.superblock.specs.Cases.{Lost}
 use Rattle.array_io.specs.Believed.Holds.{row_count}
+use Rattle.extents.specs.declared.extent_layout.ExtentLayout.{ExtentLayout}
 use Rattle.extents.specs.declared.owned.Owned.{Owned}
 use Rattle.extents.specs.declared.record.Record.{Record}
 use Rattle.extents.specs.declared.volume_table.VolumeTable.{VolumeTable}
@@ -18,7 +19,6 @@ use Rattle.volume_table.specs.StoreCalls.{extents_for_store}
 use Rattle.volume_table.specs.StoreFunctions.{StatusView, TellsStatus}
 use Rattle.volume_table.proofs.CountLemmas.{records_are_counted}
 use Rattle.volume_table.proofs.FreeLemmas.{free_is_not_needed}
-use Rattle.layout_map.specs.declared.sizes.TheConstants.{EXTENT_SECTORS, MOST_EXTENTS}
 
 -- the used records are those that a test finds
 pub used_are_counted : (records : List (Option Record)) → used_records records ≡ count_by is_some records
@@ -49,8 +49,8 @@ status_by store rows extents free volumes version = record {
 
 -- it is the status of a store that goes on, where the rows and the counts are right
 pub counts_told : (store : StoreView) (rows extents free volumes version : ℕ) → store.ended ≡ None → rows ≡ row_count store.array.table
-    → extents ≡ extents_for_store store
-    → ((lost : Option Lost) (those : VolumeMap) → IsSettledOn store lost those → (free ≡ extents_for_store store - need EXTENT_SECTORS those.volumes)
+    → extents ≡ (extents_for_store store).count
+    → ((lost : Option Lost) (those : VolumeMap) → IsSettledOn store lost those → (free ≡ (extents_for_store store).count - need (extents_for_store store).blocks those.volumes)
     × (volumes ≡ length those.volumes) × (version ≡ those.version))
     → TellsStatus store (Ok (status_by store rows extents free volumes version))
 counts_told store rows extents free volumes version goes of_rows of_extents counted = record {
@@ -75,7 +75,7 @@ counts_told store rows extents free volumes version goes of_rows of_extents coun
 -- so they are by the map of extents that it keeps
 pub status_told : (store : StoreView) (owners : List (Option Owned)) (rows extents free volumes version : ℕ) → store.ended ≡ None
     → AreKept (extents_for_store store) store.keeps owners
-    → rows ≡ row_count store.array.table → extents ≡ extents_for_store store → free ≡ free_of owners → volumes ≡ used_records store.keeps.records
+    → rows ≡ row_count store.array.table → extents ≡ (extents_for_store store).count → free ≡ free_of owners → volumes ≡ used_records store.keeps.records
     → version ≡ store.keeps.version
     → TellsStatus store (Ok (status_by store rows extents free volumes version))
 status_told store owners rows extents free volumes version goes kept of_rows of_extents of_free of_volumes of_version =
@@ -85,13 +85,13 @@ status_told store owners rows extents free volumes version goes kept of_rows of_
     its_table lost those rests = one_table rests.logical rests.shown.table store.keeps rests.shown.spelled rests.spelled
 
     counted : (lost : Option Lost) (those : VolumeMap) → IsSettledOn store lost those
-        → (free ≡ extents_for_store store - need EXTENT_SECTORS those.volumes) × (volumes ≡ length those.volumes) × (version ≡ those.version)
+        → (free ≡ (extents_for_store store).count - need (extents_for_store store).blocks those.volumes) × (volumes ≡ length those.volumes) × (version ≡ those.version)
     counted lost those rests =
-        let most : extents_for_store store ≤ MOST_EXTENTS = omega arith in
-        let all : free_of (take (extents_for_store store) rests.shown.table.extents) + need EXTENT_SECTORS those.volumes ≡ extents_for_store store =
-        free_is_not_needed (extents_for_store store) rests.logical those rests.shown most in
-        let same : free_of (take (extents_for_store store) rests.shown.table.extents) ≡ free =
-        ap (λ (t : VolumeTable). free_of (take (extents_for_store store) t.extents)) (its_table lost those rests) ∙ sym (of_free ∙ ap free_of kept.same) in (
+        let its : ExtentLayout = extents_for_store store in
+        let all : free_of (take its.count rests.shown.table.extents) + need its.blocks those.volumes ≡ its.count =
+        free_is_not_needed its rests.logical those rests.shown in
+        let same : free_of (take its.count rests.shown.table.extents) ≡ free =
+        ap (λ (t : VolumeTable). free_of (take its.count t.extents)) (its_table lost those rests) ∙ sym (of_free ∙ ap free_of kept.same) in (
           omega (arith, all, same),
           of_volumes ∙ ap (λ (t : VolumeTable). used_records t.records) (sym (its_table lost those rests))
               ∙ sym (records_are_counted (extents_for_store store) rests.logical those rests.shown).0,

@@ -12,6 +12,7 @@ use Rattle.std.proofs.lemmas.Option.{none-some, same_Some}
 use Rattle.sector_model.specs.declared.refusal.Refusal.{Refusal}
 use Rattle.sector_model.specs.declared.refusal.Refusal.TheVariants.{BadCount, OutOfRange, NoVolume}
 use Rattle.volume_table.specs.Names.{name_order, is_same_name, is_good_name}
+use Rattle.extents.specs.declared.extent_layout.ExtentLayout.{ExtentLayout}
 use Rattle.extents.specs.VolumeTables.{extents_for}
 use Rattle.extents.specs.Names.{is_letter, is_name_byte}
 use Rattle.extents.specs.Versions.{most_name_bytes, most_volumes}
@@ -26,7 +27,6 @@ use Rattle.volume_table.proofs.VolumeLemmas.{length-with_new, need-with_new, len
 use Rattle.volume_table.proofs.VolumeLemmas.{found_has, length-without, need-without, gone_without, length-without_one, need-without_one, others_without}
 use Rattle.volume_table.proofs.VolumeLemmas.{same_name_is}
 use Rattle.extents.specs.declared.record.TheConstants.{MOST_BLOCKS}
-use Rattle.layout_map.specs.declared.sizes.TheConstants.{EXTENT_SECTORS}
 
 -- where nothing is refused, the first check does not apply, and the others refuse nothing
 none_applies : (applies : Bool) (refusal : Refusal) (rest : Option Refusal) → cond applies (Some refusal) rest ≡ None → (applies ≡ false) × (rest ≡ None)
@@ -60,15 +60,15 @@ zero_blocks_whole : (count : ℕ) → All IsBlock (zero_blocks count)
 zero_blocks_whole count = All-replicate IsBlock count zero_block length-zero_block
 
 -- the facts under which a command is done
-pub record MayCreate (extents version : ℕ) (new : List ℕ) (count : ℕ) (volumes : VolumeList) : Type 0 where
+pub record MayCreate (extents : ExtentLayout) (version : ℕ) (new : List ℕ) (count : ℕ) (volumes : VolumeList) : Type 0 where
   pub good : IsTrue (is_good_name version new)
   pub least : 1 ≤ count
   pub most : count ≤ MOST_BLOCKS
   pub no_such : blocks_of new volumes ≡ None
   pub fewer : length volumes < most_volumes version
-  pub fits : need EXTENT_SECTORS volumes + extents_for EXTENT_SECTORS count ≤ extents
+  pub fits : need extents.blocks volumes + extents_for extents.blocks count ≤ extents.count
 
-pub may_create : (extents : ℕ) (name : List ℕ) (count : ℕ) (volumes : VolumeMap) → refusal_of extents (Create name count) volumes ≡ None
+pub may_create : (extents : ExtentLayout) (name : List ℕ) (count : ℕ) (volumes : VolumeMap) → refusal_of extents (Create name count) volumes ≡ None
     → MayCreate extents volumes.version name count volumes.volumes
 may_create extents name count volumes none =
     let one = none_applies _ _ _ none in
@@ -83,16 +83,16 @@ may_create extents name count volumes none =
       most = size.1;
       no_such = not_there (blocks_of name volumes.volumes) three.0;
       fewer = leb-false (most_volumes volumes.version) (length volumes.volumes) four.0;
-      fits = ltb-false extents (need EXTENT_SECTORS volumes.volumes + extents_for EXTENT_SECTORS count) five.0;
+      fits = ltb-false extents.count (need extents.blocks volumes.volumes + extents_for extents.blocks count) five.0;
     }
 
-pub record MayExtend (extents : ℕ) (old : List ℕ) (growth : ℕ) (volumes : VolumeList) : Type 0 where
+pub record MayExtend (extents : ExtentLayout) (old : List ℕ) (growth : ℕ) (volumes : VolumeList) : Type 0 where
   pub found : blocks_of old volumes ≡ Some (blocks_in old volumes)
   pub grows : 1 ≤ growth
   pub most : length (blocks_in old volumes) + growth ≤ MOST_BLOCKS
-  pub fits : need EXTENT_SECTORS (changed (Extend old growth) volumes) ≤ extents
+  pub fits : need extents.blocks (changed (Extend old growth) volumes) ≤ extents.count
 
-pub may_extend : (extents : ℕ) (name : List ℕ) (growth : ℕ) (volumes : VolumeMap) → refusal_of extents (Extend name growth) volumes ≡ None
+pub may_extend : (extents : ExtentLayout) (name : List ℕ) (growth : ℕ) (volumes : VolumeMap) → refusal_of extents (Extend name growth) volumes ≡ None
     → MayExtend extents name growth volumes.volumes
 may_extend extents name growth volumes none =
     let one = none_applies _ _ _ none in
@@ -104,7 +104,7 @@ may_extend extents name growth volumes none =
       found = there (blocks_of name volumes.volumes) one.0;
       grows = omega (arith, eqb-false growth 0 parts.0);
       most = ltb-false MOST_BLOCKS long parts.1;
-      fits = ltb-false extents (need EXTENT_SECTORS (changed (Extend name growth) volumes.volumes)) three.0;
+      fits = ltb-false extents.count (need extents.blocks (changed (Extend name growth) volumes.volumes)) three.0;
     }
 
 pub record IsWithin (old : List ℕ) (at count : ℕ) (volumes : VolumeList) : Type 0 where
@@ -130,7 +130,7 @@ pub record MayBeRenamed (version : ℕ) (old new : List ℕ) (volumes : VolumeLi
   pub no_such : blocks_of new volumes ≡ None
   pub apart : new ≢ old
 
-pub may_be_renamed : (extents : ℕ) (old new : List ℕ) (volumes : VolumeMap) → refusal_of extents (Rename old new) volumes ≡ None
+pub may_be_renamed : (extents : ExtentLayout) (old new : List ℕ) (volumes : VolumeMap) → refusal_of extents (Rename old new) volumes ≡ None
     → MayBeRenamed volumes.version old new volumes.volumes
 may_be_renamed extents old new volumes none =
     let one = none_applies _ _ _ none in
@@ -197,7 +197,7 @@ is_written blocks at written within =
           ∙ ap (λ n. get_or blocks n d) (omega (arith, front_long));
     }
 
-create_keeps : (extents : ℕ) (name : List ℕ) (count : ℕ) (volumes : VolumeMap) → MayCreate extents volumes.version name count volumes.volumes
+create_keeps : (extents : ExtentLayout) (name : List ℕ) (count : ℕ) (volumes : VolumeMap) → MayCreate extents volumes.version name count volumes.volumes
     → AreVolumes extents volumes → AreVolumes extents (done (Create name count) volumes)
 create_keeps extents name count volumes may are =
     let new : Volume = record { name = name; blocks = zero_blocks count } in
@@ -209,16 +209,16 @@ create_keeps extents name count volumes may are =
       whole =
           zero_blocks_whole count;
     } in
-    let same : extents_for EXTENT_SECTORS (length (zero_blocks count)) ≡ extents_for EXTENT_SECTORS count = ap (extents_for EXTENT_SECTORS) long in
+    let same : extents_for extents.blocks (length (zero_blocks count)) ≡ extents_for extents.blocks count = ap (extents_for extents.blocks) long in
     record {
       is_version = are.is_version;
       few = omega (arith, length-with_new new volumes.volumes are.rising may.no_such, may.fewer);
       each = All-with_volume (IsVolume volumes.version) new volumes.volumes one are.each;
       rising = rising_with_volume new volumes.volumes are.rising;
-      within = omega (arith, need-with_new new volumes.volumes are.rising may.no_such, same, may.fits);
+      within = omega (arith, need-with_new extents.blocks new volumes.volumes are.rising may.no_such, same, may.fits);
     }
 
-extend_keeps : (extents : ℕ) (name : List ℕ) (growth : ℕ) (volumes : VolumeMap) → MayExtend extents name growth volumes.volumes → AreVolumes extents volumes
+extend_keeps : (extents : ExtentLayout) (name : List ℕ) (growth : ℕ) (volumes : VolumeMap) → MayExtend extents name growth volumes.volumes → AreVolumes extents volumes
     → AreVolumes extents (done (Extend name growth) volumes)
 extend_keeps extents name growth volumes may are =
     let old = blocks_in name volumes.volumes in
@@ -242,17 +242,17 @@ extend_keeps extents name growth volumes may are =
       within = may.fits;
     }
 
-remove_keeps : (extents : ℕ) (name : List ℕ) (volumes : VolumeMap) → AreVolumes extents volumes → AreVolumes extents (done (Remove name) volumes)
+remove_keeps : (extents : ExtentLayout) (name : List ℕ) (volumes : VolumeMap) → AreVolumes extents volumes → AreVolumes extents (done (Remove name) volumes)
 remove_keeps extents name volumes are =
     record {
       is_version = are.is_version;
       few = omega (arith, length-without name volumes.volumes, are.few);
       each = All-filter (λ volume. not (is_same_name name volume.name)) (IsVolume volumes.version) volumes.volumes are.each;
       rising = rising_without name volumes.volumes are.rising;
-      within = omega (arith, need-without name volumes.volumes, are.within);
+      within = omega (arith, need-without extents.blocks name volumes.volumes, are.within);
     }
 
-write_keeps : (extents : ℕ) (name : List ℕ) (at : ℕ) (written : List Block) (volumes : VolumeMap) → All IsBlock written
+write_keeps : (extents : ExtentLayout) (name : List ℕ) (at : ℕ) (written : List Block) (volumes : VolumeMap) → All IsBlock written
     → IsWithin name at (length written) volumes.volumes → AreVolumes extents volumes
     → AreVolumes extents (done (Write name at written) volumes)
 write_keeps extents name at written volumes whole within are =
@@ -268,17 +268,17 @@ write_keeps extents name at written volumes whole within are =
       whole =
           overwritten_whole old at written was.whole whole;
     } in
-    let same : extents_for EXTENT_SECTORS (length (overwritten old at written)) ≡ extents_for EXTENT_SECTORS (length old) =
-    ap (extents_for EXTENT_SECTORS) long in
+    let same : extents_for extents.blocks (length (overwritten old at written)) ≡ extents_for extents.blocks (length old) =
+    ap (extents_for extents.blocks) long in
     record {
       is_version = are.is_version;
       few = omega (arith, length-with_other new volumes.volumes old are.rising within.found, are.few);
       each = All-with_volume (IsVolume volumes.version) new volumes.volumes one are.each;
       rising = rising_with_volume new volumes.volumes are.rising;
-      within = omega (arith, need-with_other new volumes.volumes old are.rising within.found, same, are.within);
+      within = omega (arith, need-with_other extents.blocks new volumes.volumes old are.rising within.found, same, are.within);
     }
 
-rename_keeps : (extents : ℕ) (old new : List ℕ) (volumes : VolumeMap) → MayBeRenamed volumes.version old new volumes.volumes → AreVolumes extents volumes
+rename_keeps : (extents : ExtentLayout) (old new : List ℕ) (volumes : VolumeMap) → MayBeRenamed volumes.version old new volumes.volumes → AreVolumes extents volumes
     → AreVolumes extents (done (Rename old new) volumes)
 rename_keeps extents old new volumes may are =
     let blocks = blocks_in old volumes.volumes in
@@ -295,7 +295,7 @@ rename_keeps extents old new volumes may are =
       each = All-with_volume (IsVolume volumes.version) named others one
           (All-filter (λ volume. not (is_same_name old volume.name)) (IsVolume volumes.version) volumes.volumes are.each);
       rising = rising_with_volume named others rising;
-      within = omega (arith, need-with_new named others rising no_such, need-without_one old volumes.volumes blocks are.rising may.found, are.within);
+      within = omega (arith, need-with_new extents.blocks named others rising no_such, need-without_one extents.blocks old volumes.volumes blocks are.rising may.found, are.within);
     }
 
 -- version 2 has room for what each version has
@@ -309,7 +309,7 @@ good_in_last version (first ∷ rest) good =
 volume_in_last : (version : ℕ) (volume : Volume) → IsVolume version volume → IsVolume 2 volume
 volume_in_last version volume is = record { good = good_in_last version volume.name is.good; least = is.least; most = is.most; whole = is.whole }
 
-upgrade_keeps : (extents : ℕ) (volumes : VolumeMap) → AreVolumes extents volumes → AreVolumes extents (done Upgrade volumes)
+upgrade_keeps : (extents : ExtentLayout) (volumes : VolumeMap) → AreVolumes extents volumes → AreVolumes extents (done Upgrade volumes)
 upgrade_keeps extents volumes are =
     record {
       is_version = (omega arith, omega arith);
@@ -320,7 +320,7 @@ upgrade_keeps extents volumes are =
     }
 
 -- a command that is not refused keeps the limits
-changed_keeps : (extents : ℕ) (command : Command) (volumes : VolumeMap) → HasBlocks command → AreVolumes extents volumes
+changed_keeps : (extents : ExtentLayout) (command : Command) (volumes : VolumeMap) → HasBlocks command → AreVolumes extents volumes
     → refusal_of extents command volumes ≡ None → AreVolumes extents (done command volumes)
 changed_keeps extents (Create name count) volumes has are none = create_keeps extents name count volumes (may_create extents name count volumes none) are
 changed_keeps extents (Extend name growth) volumes has are none = extend_keeps extents name growth volumes (may_extend extents name growth volumes none) are
@@ -332,7 +332,7 @@ changed_keeps extents (Rename old new) volumes has are none = rename_keeps exten
 changed_keeps extents Names volumes has are none = are
 changed_keeps extents Upgrade volumes has are none = upgrade_keeps extents volumes are
 
-pub step_keeps : (extents : ℕ) (command : Command) (volumes : VolumeMap) → HasBlocks command → AreVolumes extents volumes
+pub step_keeps : (extents : ExtentLayout) (command : Command) (volumes : VolumeMap) → HasBlocks command → AreVolumes extents volumes
     → AreVolumes extents (volumes_after extents command volumes)
 step_keeps extents command volumes has are = by_case (refusal_of extents command volumes) refl
   where
@@ -341,12 +341,12 @@ step_keeps extents command volumes has are = by_case (refusal_of extents command
     by_case (Some refusal) e = are
 
 -- what is not refused is done
-pub changed_if_done : (extents : ℕ) (command : Command) (volumes : VolumeMap) → refusal_of extents command volumes ≡ None
+pub changed_if_done : (extents : ExtentLayout) (command : Command) (volumes : VolumeMap) → refusal_of extents command volumes ≡ None
     → volumes_after extents command volumes ≡ done command volumes
 changed_if_done extents command volumes none = ap (λ o. unless_refused o (done command volumes) volumes) none
 
 -- and leaves this list of volumes
-pub list_if_done : (extents : ℕ) (command : Command) (volumes : VolumeMap) → refusal_of extents command volumes ≡ None
+pub list_if_done : (extents : ExtentLayout) (command : Command) (volumes : VolumeMap) → refusal_of extents command volumes ≡ None
     → (volumes_after extents command volumes).volumes ≡ changed command volumes.volumes
 list_if_done extents command volumes none = ap (λ (left : VolumeMap). left.volumes) (changed_if_done extents command volumes none)
 
@@ -361,7 +361,7 @@ no_refusal_answered (Rename old new) volumes refusal e = absurd (grind arith)
 no_refusal_answered Names volumes refusal e = absurd (grind arith)
 no_refusal_answered Upgrade volumes refusal e = absurd (grind arith)
 
-pub refused_changes_nothing : (extents : ℕ) (command : Command) (volumes : VolumeMap) (refusal : Refusal) → reply_to extents command volumes ≡ Refused refusal
+pub refused_changes_nothing : (extents : ExtentLayout) (command : Command) (volumes : VolumeMap) (refusal : Refusal) → reply_to extents command volumes ≡ Refused refusal
     → volumes_after extents command volumes ≡ volumes
 refused_changes_nothing extents command volumes refusal refused = by_case (refusal_of extents command volumes) refused
   where
@@ -374,7 +374,7 @@ either_way : (o : Option Refusal) (volumes : VolumeMap) → unless_refused o vol
 either_way None volumes = refl
 either_way (Some refusal) volumes = refl
 
-pub read_changes_nothing : (extents : ℕ) (name : List ℕ) (at count : ℕ) (volumes : VolumeMap) → volumes_after extents (Read name at count) volumes ≡ volumes
+pub read_changes_nothing : (extents : ExtentLayout) (name : List ℕ) (at count : ℕ) (volumes : VolumeMap) → volumes_after extents (Read name at count) volumes ≡ volumes
 read_changes_nothing extents name at count volumes = either_way (refusal_of extents (Read name at count) volumes) volumes
 
 -- no command but an upgrade changes the version
@@ -388,7 +388,7 @@ version_stays_in (Rename old new) version other = refl
 version_stays_in Names version other = refl
 version_stays_in Upgrade version other = absurd (other refl)
 
-pub version_stays : (extents : ℕ) (command : Command) (volumes : VolumeMap) → command ≢ Upgrade
+pub version_stays : (extents : ExtentLayout) (command : Command) (volumes : VolumeMap) → command ≢ Upgrade
     → (volumes_after extents command volumes).version ≡ volumes.version
 version_stays extents command volumes other = by_case (refusal_of extents command volumes)
   where
@@ -424,7 +424,7 @@ changed_leaves (Rename old new) volumes other none =
 changed_leaves Names volumes other none = refl
 changed_leaves Upgrade volumes other none = refl
 
-pub others_stay : (extents : ℕ) (command : Command) (volumes : VolumeMap) (other : List ℕ) → ¬ Contains (names_of command) other
+pub others_stay : (extents : ExtentLayout) (command : Command) (volumes : VolumeMap) (other : List ℕ) → ¬ Contains (names_of command) other
     → blocks_of other (volumes_after extents command volumes).volumes ≡ blocks_of other volumes.volumes
 others_stay extents command volumes other none = by_case (refusal_of extents command volumes)
   where
@@ -439,7 +439,7 @@ read_reply at count blocks =
     ∷ []))
     (Blocks (take count (drop at (unwrap_or blocks []))))
 
-read_found : (extents : ℕ) (name : List ℕ) (at count : ℕ) (volumes : VolumeMap) (blocks : List Block) → blocks_of name volumes.volumes ≡ Some blocks
+read_found : (extents : ExtentLayout) (name : List ℕ) (at count : ℕ) (volumes : VolumeMap) (blocks : List Block) → blocks_of name volumes.volumes ≡ Some blocks
     → is_bad_count count ≡ false → at + count ≤ length blocks
     → reply_to extents (Read name at count) volumes ≡ Blocks (take count (drop at blocks))
 unfolding read_reply
@@ -456,14 +456,14 @@ read_found extents name at count volumes blocks found good within =
     by_case false false b p = refl
 
 -- what a write leaves of its volume
-found_after_write : (extents : ℕ) (name : List ℕ) (at : ℕ) (written : List Block) (volumes : VolumeMap)
+found_after_write : (extents : ExtentLayout) (name : List ℕ) (at : ℕ) (written : List Block) (volumes : VolumeMap)
     → refusal_of extents (Write name at written) volumes ≡ None
     → blocks_of name (volumes_after extents (Write name at written) volumes).volumes ≡ Some (overwritten (blocks_in name volumes.volumes) at written)
 found_after_write extents name at written volumes none =
     ap (blocks_of name) (list_if_done extents (Write name at written) volumes none)
     ∙ found_with_volume (record { name = name; blocks = overwritten (blocks_in name volumes.volumes) at written }) volumes.volumes
 
-pub written_is_read : (extents : ℕ) (name : List ℕ) (at : ℕ) (written : List Block) (volumes : VolumeMap)
+pub written_is_read : (extents : ExtentLayout) (name : List ℕ) (at : ℕ) (written : List Block) (volumes : VolumeMap)
     → reply_to extents (Write name at written) volumes ≡ Done
     → reply_to extents (Read name at (length written)) (volumes_after extents (Write name at written) volumes) ≡ Blocks written
 written_is_read extents name at written volumes done =
@@ -476,7 +476,7 @@ written_is_read extents name at written volumes done =
     (omega (arith, length-overwritten old at written within.fits, within.fits))
     ∙ ap Blocks (written_again old at written within.fits)
 
-pub write_changes_its_blocks : (extents : ℕ) (name : List ℕ) (at : ℕ) (written : List Block) (volumes : VolumeMap)
+pub write_changes_its_blocks : (extents : ExtentLayout) (name : List ℕ) (at : ℕ) (written : List Block) (volumes : VolumeMap)
     → reply_to extents (Write name at written) volumes ≡ Done → LeavesWritten extents name at written volumes
 write_changes_its_blocks extents name at written volumes done =
     let none = done_if_not_refused (refusal_of extents (Write name at written) volumes) Done done in
@@ -490,7 +490,7 @@ write_changes_its_blocks extents name at written volumes done =
       changes = is_written old at written within.fits;
     }
 
-pub created_is_zero : (extents : ℕ) (name : List ℕ) (count : ℕ) (volumes : VolumeMap) → reply_to extents (Create name count) volumes ≡ Done
+pub created_is_zero : (extents : ExtentLayout) (name : List ℕ) (count : ℕ) (volumes : VolumeMap) → reply_to extents (Create name count) volumes ≡ Done
     → (blocks_of name volumes.volumes ≡ None) × (blocks_of name (volumes_after extents (Create name count) volumes).volumes ≡ Some (zero_blocks count))
 created_is_zero extents name count volumes done =
     let none = done_if_not_refused (refusal_of extents (Create name count) volumes) Done done in
@@ -500,7 +500,7 @@ created_is_zero extents name count volumes done =
           ∙ found_with_volume (record { name = name; blocks = zero_blocks count }) volumes.volumes,
     )
 
-pub extended_has_zeros : (extents : ℕ) (name : List ℕ) (growth : ℕ) (volumes : VolumeMap) (before : List Block)
+pub extended_has_zeros : (extents : ExtentLayout) (name : List ℕ) (growth : ℕ) (volumes : VolumeMap) (before : List Block)
     → reply_to extents (Extend name growth) volumes ≡ Done → blocks_of name volumes.volumes ≡ Some before
     → blocks_of name (volumes_after extents (Extend name growth) volumes).volumes ≡ Some (before ++ zero_blocks growth)
 extended_has_zeros extents name growth volumes before done found =
@@ -509,13 +509,13 @@ extended_has_zeros extents name growth volumes before done found =
     ∙ found_with_volume (record { name = name; blocks = blocks_in name volumes.volumes ++ zero_blocks growth }) volumes.volumes
     ∙ ap (λ o. Some (unwrap_or o [] ++ zero_blocks growth)) found
 
-pub removed_is_gone : (extents : ℕ) (name : List ℕ) (volumes : VolumeMap) → reply_to extents (Remove name) volumes ≡ Done
+pub removed_is_gone : (extents : ExtentLayout) (name : List ℕ) (volumes : VolumeMap) → reply_to extents (Remove name) volumes ≡ Done
     → blocks_of name (volumes_after extents (Remove name) volumes).volumes ≡ None
 removed_is_gone extents name volumes done =
     let none = done_if_not_refused (refusal_of extents (Remove name) volumes) Done done in
     ap (blocks_of name) (list_if_done extents (Remove name) volumes none) ∙ gone_without name volumes.volumes
 
-pub renamed_has_blocks : (extents : ℕ) (old new : List ℕ) (volumes : VolumeMap) → reply_to extents (Rename old new) volumes ≡ Done
+pub renamed_has_blocks : (extents : ExtentLayout) (old new : List ℕ) (volumes : VolumeMap) → reply_to extents (Rename old new) volumes ≡ Done
     → LeavesRenamed extents old new volumes
 renamed_has_blocks extents old new volumes done =
     let none = done_if_not_refused (refusal_of extents (Rename old new) volumes) Done done in
@@ -547,7 +547,7 @@ shown_has name blocks (volume ∷ volumes) found = by_case (shown_has name block
     by_case rec true e h = (0, omega arith, ap₂ (λ n others. (n, length others)) (sym (same_name_is name volume.name e)) (same_Some volume.blocks blocks h))
     by_case rec false e h = let there = rec h in (suc there.0, omega (arith, there.1), there.2)
 
-pub found_is_listed : (extents : ℕ) (name : List ℕ) (blocks : List Block) (volumes : VolumeMap) → blocks_of name volumes.volumes ≡ Some blocks
+pub found_is_listed : (extents : ExtentLayout) (name : List ℕ) (blocks : List Block) (volumes : VolumeMap) → blocks_of name volumes.volumes ≡ Some blocks
     → IsListed extents name (length blocks) volumes
 unfolding shown
 found_is_listed extents name blocks volumes found = record {
@@ -591,7 +591,7 @@ listed_is_found name count (volume ∷ volumes) rising (zero, within, at) =
 listed_is_found name count (volume ∷ volumes) rising (suc k, within, at) =
     beyond name count volume volumes rising.0 (listed_is_found name count volumes rising.1 (k, omega (arith, within), at))
 
-pub list_is_exact : (extents : ℕ) (volumes : VolumeMap) (listed : List (List ℕ × ℕ)) → AreVolumes extents volumes
+pub list_is_exact : (extents : ExtentLayout) (volumes : VolumeMap) (listed : List (List ℕ × ℕ)) → AreVolumes extents volumes
     → reply_to extents Names volumes ≡ Volumes listed → ListsExactly volumes.volumes listed
 unfolding shown
 list_is_exact extents volumes listed are replied =
@@ -608,14 +608,14 @@ list_is_exact extents volumes listed are replied =
     same : shown volumes.volumes ≡ listed
     same = ap listed_in replied
 
-pub created_is_listed : (extents : ℕ) (name : List ℕ) (count : ℕ) (volumes : VolumeMap) → reply_to extents (Create name count) volumes ≡ Done
+pub created_is_listed : (extents : ExtentLayout) (name : List ℕ) (count : ℕ) (volumes : VolumeMap) → reply_to extents (Create name count) volumes ≡ Done
     → IsListed extents name count (volumes_after extents (Create name count) volumes)
 created_is_listed extents name count volumes done =
     let left = volumes_after extents (Create name count) volumes in
     subst (λ n. IsListed extents name n left) (length-replicate count zero_block)
     (found_is_listed extents name (zero_blocks count) left (created_is_zero extents name count volumes done).1)
 
-pub renamed_is_listed : (extents : ℕ) (old new : List ℕ) (count : ℕ) (volumes : VolumeMap) → reply_to extents (Rename old new) volumes ≡ Done
+pub renamed_is_listed : (extents : ExtentLayout) (old new : List ℕ) (count : ℕ) (volumes : VolumeMap) → reply_to extents (Rename old new) volumes ≡ Done
     → HasLength old count volumes.volumes
     → IsListed extents new count (volumes_after extents (Rename old new) volumes)
 renamed_is_listed extents old new count volumes done has =

@@ -29,6 +29,8 @@ use Rattle.array_io.specs.Believed.ArrayCalls.{Answer}
 use Rattle.array_io.specs.Believed.Holds.{row_count}
 use Rattle.array_io.specs.Believed.Views.{ArrayView, EndsIt, GoesOn, HasLostOne, IsEndOf, KeepsItsState, RestsOn, StaysButForFailures}
 use Rattle.array_io.proofs.Marks.MarkingHolds.{incarnation_stays, missing_then, state_stays}
+use Rattle.extents.specs.declared.extent_layout.ExtentLayout.{ExtentLayout}
+use Rattle.extents.specs.SetExtents.{extents_in}
 use Rattle.extents.specs.TableSpelling.{Spell}
 use Rattle.extents.proofs.TableLaws.{one_table}
 use Rattle.scrub.specs.Scrubbing.{AreUnsound, row_in}
@@ -38,7 +40,7 @@ use Rattle.volume_table.specs.VolumeStep.{Command, Create, Done, Event, Extend, 
 use Rattle.volume_table.specs.VolumeStep.{Upgrade, Write, answer, done, or_refused, refusal_of, unless_refused, volumes_after}
 use Rattle.volume_table.specs.SetReplies.{Devices, SetState, settled, with_faults}
 use Rattle.volume_table.specs.Shows.{Shows}
-use Rattle.volume_table.specs.Stands.{IsSettledAfter, IsSettledOn, ShowsOneOf, StandsNow, StandsThroughout, StoreView, extents_in}
+use Rattle.volume_table.specs.Stands.{IsSettledAfter, IsSettledOn, ShowsOneOf, StandsNow, StandsThroughout, StoreView}
 use Rattle.volume_table.specs.StoreCalls.{Applies, IncarnationsStay, IsCounterFull, IsListed, IsOfItsKind, SetIsLeft, extents_for_store, refusals_of, set_of}
 use Rattle.volume_table.specs.Admission.{ShowsBy}
 use Rattle.volume_table.specs.ListChanges.{Change, ChangesList, HoldsForSomeNow, IsNumberFull, IsSame, Kind}
@@ -323,7 +325,7 @@ settled_then honest entries passes leaves old new after going changes done fair 
       settled = record {
         logical = some.logical;
         rests = some.rests.rests;
-        shown = subst (λ (n : ℕ). Shows n some.logical (after volumes)) (ap extents_in (sym changes.goes_on.not_older.same_geometry)) now.shows;
+        shown = subst (λ (n : ExtentLayout). Shows n some.logical (after volumes)) (ap extents_in (sym changes.goes_on.not_older.same_geometry)) now.shows;
         spelled = subst (Spell some.logical) now.by now.shows.spelled;
         going = going;
       };

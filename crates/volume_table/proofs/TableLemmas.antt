@@ -1,27 +1,32 @@
 -- What a logical list shows after its table is changed.
-use Rattle.std.proofs.Common.{◌≡◌, ◌≢◌, ⊎_elim, ℕ, ◌/◌, ◌≤◌, Bool, true, false, List, [], ◌++◌, take, get_or, slice_set, IsTrue, Option, Some, None, refl, sym}
+use Rattle.std.proofs.Common.{◌≡◌, ◌≢◌, ⊎_elim, inl, inr, ℕ, ◌/◌, ◌≤◌, Bool, true, false, List, [], ◌++◌, take, get_or, slice_set, IsTrue, Option, Some, None, refl, sym}
 use Rattle.std.proofs.Common.{ap, subst, ◌∙◌, arith}
+use Rattle.std.proofs.Props.{props}
+use Rattle.std.proofs.Math.Logic.{∥∥₁_elim}
 use Rattle.std.proofs.lemmas.Bool.{cases_eq, true≢false}
 use Rattle.std.specs.Prelude.{unwrap_or}
 use Rattle.std.proofs.lemmas.List.{get_or-set_other, get_or-set_same}
 use Rattle.std.proofs.lemmas.Option.{none-some, same_Some}
+use Rattle.extents.specs.declared.extent_layout.ExtentLayout.{ExtentLayout}
+use Rattle.extents.specs.ExtentMaps.{place_of, sector_of_block}
 use Rattle.extents.specs.declared.owned.Owned.{Owned}
 use Rattle.extents.specs.declared.record.Record.{Record}
 use Rattle.extents.specs.declared.volume_table.VolumeTable.{VolumeTable}
-use Rattle.extents.specs.Owners.{owner_of, IsAt}
+use Rattle.extents.specs.Owners.{owner_of, HasPlaces, IsAt}
+use Rattle.extents.specs.SetExtents.{IsOfSet}
 use Rattle.extents.specs.TableSpelling.{Spell}
 use Rattle.extents.specs.Versions.{table_length}
-use Rattle.extents.specs.VolumeTables.{AreDistinct, HasRecord, record_of}
+use Rattle.extents.specs.VolumeTables.{AreDistinct, HasRecord, HaveTheirPlaces, extents_for, extents_of, record_of}
+use Rattle.extents.proofs.OwnerLemmas.{places_by_owner}
 use Rattle.extents.proofs.Tables.{some_within}
 use Rattle.volume_table.specs.Names.{is_good_name, is_same_name}
 use Rattle.volume_table.specs.Volumes.{Block, Volume, VolumeList, VolumeMap, blocks_of, with_volume, without, IsVolume, AreVolumes}
 use Rattle.volume_table.specs.VolumeStep.{Create, Extend, Remove, Rename, Upgrade, Done, zero_blocks, blocks_in, reply_to, refusal_of, volumes_after}
-use Rattle.volume_table.specs.Shows.{sector_of_block, AreBlocksIn, IsOfVolume, AreShown, Shows, HaveSameBlocks, ChangesName, ChangesOneRecord, IsRecordOf}
+use Rattle.volume_table.specs.Shows.{AreBlocksIn, IsOfVolume, AreShown, Shows, HaveSameBlocks, ChangesName, ChangesOneRecord, IsRecordOf}
 use Rattle.volume_table.proofs.VolumeLemmas.{same_name_is, same_name_itself, found_with_volume, others_with_volume, gone_without, others_without}
 use Rattle.volume_table.proofs.StepLemmas.{step_keeps, changed_if_done, done_if_not_refused}
 use Rattle.volume_table.proofs.ShowsLemmas.{distinct_names, good_names}
 use Rattle.volume_table.proofs.TableSizes.{longer_names, more_volumes, table_short}
-use Rattle.layout_map.specs.declared.sizes.TheConstants.{EXTENT_SECTORS}
 use Rattle.extents.specs.declared.version.TheConstants.{LAST_VERSION}
 
 -- a map with another list of volumes
@@ -29,10 +34,10 @@ abbrev with_list : VolumeList → VolumeMap → VolumeMap
 with_list list volumes = record { version = volumes.version; volumes = list }
 
 -- a volume whose blocks stay where they are
-stands_still : (owners : List (Option Owned)) (before left : List Block) (volumes : VolumeList) (number : ℕ) (entry : Record)
-    → HaveSameBlocks EXTENT_SECTORS owners number entry before left → IsOfVolume EXTENT_SECTORS owners before volumes number entry
-    → IsOfVolume EXTENT_SECTORS owners left volumes number entry
-stands_still owners before left volumes number entry same was =
+stands_still : {extents : ExtentLayout} (owners : List (Option Owned)) (before left : List Block) (volumes : VolumeList) (number : ℕ) (entry : Record)
+    → HaveSameBlocks extents owners number entry before left → IsOfVolume extents owners before volumes number entry
+    → IsOfVolume extents owners left volumes number entry
+stands_still {extents} owners before left volumes number entry same was =
     record {
       blocks = was.blocks;
       named = was.named;
@@ -40,10 +45,10 @@ stands_still owners before left volumes number entry same was =
       stand = λ j extent within at_extent. same j extent (omega (arith, within, was.as_long)) at_extent ∙ was.stand j extent within at_extent;
     }
 
-pub unused_may_change : (extents : ℕ) (before left : List Block) (volumes : VolumeMap) (shows : Shows extents before volumes)
+pub unused_may_change : (extents : ExtentLayout) (before left : List Block) (volumes : VolumeMap) (shows : Shows extents before volumes)
     → take (table_length volumes.version) left ≡ take (table_length volumes.version) before
     → ((number : ℕ) (entry : Record) → record_of shows.table.records number ≡ Some entry
-    → HaveSameBlocks EXTENT_SECTORS shows.table.extents number entry before left) → Shows extents left volumes
+    → HaveSameBlocks extents shows.table.extents number entry before left) → Shows extents left volumes
 unused_may_change extents before left volumes shows same_table same =
     let table = shows.table in
     record {
@@ -51,7 +56,7 @@ unused_may_change extents before left volumes shows same_table same =
       table = table;
       of_version = shows.of_version;
       spelled = subst (λ (v : ℕ). take (table_length v) left ≡ take (table_length v) before) (sym shows.of_version) same_table ∙ shows.spelled;
-      free_beyond = shows.free_beyond;
+      of_set = shows.of_set;
       shown = record {
         used = λ number entry used. stands_still table.extents before left volumes.volumes number entry (same number entry used)
             (shows.shown.used number entry used);
@@ -60,47 +65,47 @@ unused_may_change extents before left volumes shows same_table same =
     }
 
 -- the volume of another record, in the new table
-other_record : (records new_records : List (Option Record)) (owners new_owners : List (Option Owned)) (before left : List Block)
+other_record : {extents : ExtentLayout} (records new_records : List (Option Record)) (owners new_owners : List (Option Owned)) (before left : List Block)
     (volumes new_volumes : VolumeList) (number other : ℕ) (entry : Record)
-    → AreShown EXTENT_SECTORS records owners before volumes → ChangesOneRecord EXTENT_SECTORS records new_records owners new_owners before left number
+    → AreShown extents records owners before volumes → ChangesOneRecord extents records new_records owners new_owners before left number
     → other ≢ number → record_of new_records other ≡ Some entry
     → blocks_of entry.name.bytes.items new_volumes ≡ blocks_of entry.name.bytes.items volumes
-    → IsOfVolume EXTENT_SECTORS new_owners left new_volumes other entry
-other_record records new_records owners new_owners before left volumes new_volumes number other entry shown changes differ new_used same_found =
+    → IsOfVolume extents new_owners left new_volumes other entry
+other_record {extents} records new_records owners new_owners before left volumes new_volumes number other entry shown changes differ new_used same_found =
     let used : record_of records other ≡ Some entry = sym (changes.same_records other differ) ∙ new_used in
-    let was : IsOfVolume EXTENT_SECTORS owners before volumes other entry = shown.used other entry used in
+    let was : IsOfVolume extents owners before volumes other entry = shown.used other entry used in
     record {
       blocks = was.blocks;
       named = same_found ∙ was.named;
       as_long = was.as_long;
       stand = λ j extent within at_extent.
-          let at_old : IsAt owners extent other (j / EXTENT_SECTORS) = changes.same_extents other extent (j / EXTENT_SECTORS) differ at_extent in
+          let at_old : IsAt owners extent other (place_of extents j) = changes.same_extents other extent (place_of extents j) differ at_extent in
           changes.same_blocks other entry differ used j extent (omega (arith, within, was.as_long)) at_old ∙ was.stand j extent within at_old;
     }
 
 -- the record of another volume, in the new table
-other_volume : (records new_records : List (Option Record)) (owners new_owners : List (Option Owned)) (before left : List Block) (number : ℕ) (name : List ℕ)
-    → ChangesOneRecord EXTENT_SECTORS records new_records owners new_owners before left number
+other_volume : {extents : ExtentLayout} (records new_records : List (Option Record)) (owners new_owners : List (Option Owned)) (before left : List Block) (number : ℕ) (name : List ℕ)
+    → ChangesOneRecord extents records new_records owners new_owners before left number
     → ((entry : Record) → record_of records number ≡ Some entry → entry.name.bytes.items ≡ name → ⊥) → HasRecord records name → HasRecord new_records name
-other_volume records new_records owners new_owners before left number name changes not_this has =
+other_volume {extents} records new_records owners new_owners before left number name changes not_this has =
     let differ : has.number ≢ number = λ same. not_this has.entry (ap (record_of records) (sym same) ∙ has.used) has.named in
     record { number = has.number; entry = has.entry; used = changes.same_records has.number differ ∙ has.used; named = has.named }
 
-put_is_shown_by : (records new_records : List (Option Record)) (owners new_owners : List (Option Owned)) (before left : List Block) (volumes : VolumeList)
+put_is_shown_by : {extents : ExtentLayout} (records new_records : List (Option Record)) (owners new_owners : List (Option Owned)) (before left : List Block) (volumes : VolumeList)
     (new : Volume) (number : ℕ)
-    → AreShown EXTENT_SECTORS records owners before volumes → AreDistinct new_records
-    → ChangesOneRecord EXTENT_SECTORS records new_records owners new_owners before left number
-    → IsRecordOf EXTENT_SECTORS new_records new_owners left number new
+    → AreShown extents records owners before volumes → AreDistinct new_records
+    → ChangesOneRecord extents records new_records owners new_owners before left number
+    → IsRecordOf extents new_records new_owners left number new
     → ((entry : Record) → record_of records number ≡ Some entry → entry.name.bytes.items ≡ new.name)
-    → AreShown EXTENT_SECTORS new_records new_owners left (with_volume new volumes)
-put_is_shown_by records new_records owners new_owners before left volumes new number shown distinct changes is_of was_named =
+    → AreShown extents new_records new_owners left (with_volume new volumes)
+put_is_shown_by {extents} records new_records owners new_owners before left volumes new number shown distinct changes is_of was_named =
     record {
       used = λ other entry used. ⊎_elim (this_record other entry used) (any_other other entry used) (cases_eq other number);
       all = λ name blocks found. by_name name blocks found (is_same_name name new.name) refl;
     }
   where
     this_record : (other : ℕ) (entry : Record) → record_of new_records other ≡ Some entry → other ≡ number
-        → IsOfVolume EXTENT_SECTORS new_owners left (with_volume new volumes) other entry
+        → IsOfVolume extents new_owners left (with_volume new volumes) other entry
     this_record other entry used same =
         let one : entry ≡ is_of.entry = same_Some entry is_of.entry (sym used ∙ ap (record_of new_records) same ∙ is_of.used) in
         let named : entry.name.bytes.items ≡ new.name = ap (λ (r : Record). r.name.bytes.items) one ∙ is_of.named in
@@ -108,11 +113,11 @@ put_is_shown_by records new_records owners new_owners before left volumes new nu
           blocks = new.blocks;
           named = ap (λ n. blocks_of n (with_volume new volumes)) named ∙ found_with_volume new volumes;
           as_long = is_of.as_long ∙ ap (λ (r : Record). r.blocks) (sym one);
-          stand = subst (λ n. AreBlocksIn EXTENT_SECTORS left new_owners n new.blocks) (sym same) is_of.stand;
+          stand = subst (λ n. AreBlocksIn extents left new_owners n new.blocks) (sym same) is_of.stand;
         }
 
     any_other : (other : ℕ) (entry : Record) → record_of new_records other ≡ Some entry → (other ≡ number → ⊥)
-        → IsOfVolume EXTENT_SECTORS new_owners left (with_volume new volumes) other entry
+        → IsOfVolume extents new_owners left (with_volume new volumes) other entry
     any_other other entry used differ =
         let apart : entry.name.bytes.items ≡ new.name → ⊥ = λ same. differ (distinct other number entry is_of.entry used is_of.used (same ∙ sym is_of.named)) in
         other_record records new_records owners new_owners before left volumes (with_volume new volumes) number other entry shown changes differ used
@@ -132,32 +137,32 @@ put_is_shown_by records new_records owners new_owners before left volumes new nu
         other_volume records new_records owners new_owners before left number name changes (λ entry used named. apart (sym named ∙ was_named entry used))
         (shown.all name blocks (sym (others_with_volume name new volumes apart) ∙ found))
 
-pub put_is_shown : (extents : ℕ) (before left : List Block) (volumes : VolumeMap) (new : Volume) (table : VolumeTable) (number : ℕ)
+pub put_is_shown : (extents : ExtentLayout) (before left : List Block) (volumes : VolumeMap) (new : Volume) (table : VolumeTable) (number : ℕ)
     (shows : Shows extents before volumes)
     → AreVolumes extents (with_list (with_volume new volumes.volumes) volumes)
-    → Spell left table → table.version ≡ volumes.version → ((extent : ℕ) → extents ≤ extent → owner_of table.extents extent ≡ None)
-    → ChangesOneRecord EXTENT_SECTORS shows.table.records table.records shows.table.extents table.extents before left number
-    → IsRecordOf EXTENT_SECTORS table.records table.extents left number new
+    → Spell left table → table.version ≡ volumes.version → IsOfSet extents table
+    → ChangesOneRecord extents shows.table.records table.records shows.table.extents table.extents before left number
+    → IsRecordOf extents table.records table.extents left number new
     → ((entry : Record) → record_of shows.table.records number ≡ Some entry → entry.name.bytes.items ≡ new.name)
     → Shows extents left (with_list (with_volume new volumes.volumes) volumes)
-put_is_shown extents before left volumes new table number shows limits spelled of_version free_beyond changes is_of was_named =
+put_is_shown extents before left volumes new table number shows limits spelled of_version of_set changes is_of was_named =
     record {
       limits = limits;
       table = table;
       of_version = of_version;
       spelled = spelled;
-      free_beyond = free_beyond;
+      of_set = of_set;
       shown = put_is_shown_by shows.table.records table.records shows.table.extents table.extents before left volumes.volumes new number shows.shown
           (distinct_names table.version table.records table.extents table.is_table) changes is_of was_named;
     }
 
-removal_is_shown_by : (records new_records : List (Option Record)) (owners new_owners : List (Option Owned)) (before left : List Block) (volumes : VolumeList)
+removal_is_shown_by : {extents : ExtentLayout} (records new_records : List (Option Record)) (owners new_owners : List (Option Owned)) (before left : List Block) (volumes : VolumeList)
     (number : ℕ) (entry : Record)
-    → AreShown EXTENT_SECTORS records owners before volumes → AreDistinct records
-    → ChangesOneRecord EXTENT_SECTORS records new_records owners new_owners before left number → record_of records number ≡ Some entry
+    → AreShown extents records owners before volumes → AreDistinct records
+    → ChangesOneRecord extents records new_records owners new_owners before left number → record_of records number ≡ Some entry
     → record_of new_records number ≡ None
-    → AreShown EXTENT_SECTORS new_records new_owners left (without entry.name.bytes.items volumes)
-removal_is_shown_by records new_records owners new_owners before left volumes number entry shown distinct changes used free =
+    → AreShown extents new_records new_owners left (without entry.name.bytes.items volumes)
+removal_is_shown_by {extents} records new_records owners new_owners before left volumes number entry shown distinct changes used free =
     record {
       used = any_other;
       all = λ other blocks found. by_name other blocks found (is_same_name other name) refl;
@@ -167,7 +172,7 @@ removal_is_shown_by records new_records owners new_owners before left volumes nu
     name = entry.name.bytes.items
 
     any_other : (other : ℕ) (other_entry : Record) → record_of new_records other ≡ Some other_entry
-        → IsOfVolume EXTENT_SECTORS new_owners left (without name volumes) other other_entry
+        → IsOfVolume extents new_owners left (without name volumes) other other_entry
     any_other other other_entry new_used =
         let differ : other ≢ number = λ same. none-some other_entry (sym free ∙ ap (record_of new_records) (sym same) ∙ new_used) in
         let old_used : record_of records other ≡ Some other_entry = sym (changes.same_records other differ) ∙ new_used in
@@ -185,89 +190,89 @@ removal_is_shown_by records new_records owners new_owners before left volumes nu
         (λ this this_used named. apart (sym named ∙ ap (λ (r : Record). r.name.bytes.items) (same_Some this entry (sym this_used ∙ used))))
         (shown.all other blocks (sym (others_without other name volumes apart) ∙ found))
 
-pub removal_is_shown : (extents : ℕ) (before left : List Block) (volumes : VolumeMap) (table : VolumeTable) (number : ℕ) (entry : Record)
+pub removal_is_shown : (extents : ExtentLayout) (before left : List Block) (volumes : VolumeMap) (table : VolumeTable) (number : ℕ) (entry : Record)
     (shows : Shows extents before volumes)
     → AreVolumes extents (with_list (without entry.name.bytes.items volumes.volumes) volumes)
-    → Spell left table → table.version ≡ volumes.version → ((extent : ℕ) → extents ≤ extent → owner_of table.extents extent ≡ None)
-    → ChangesOneRecord EXTENT_SECTORS shows.table.records table.records shows.table.extents table.extents before left number
+    → Spell left table → table.version ≡ volumes.version → IsOfSet extents table
+    → ChangesOneRecord extents shows.table.records table.records shows.table.extents table.extents before left number
     → record_of shows.table.records number ≡ Some entry → record_of table.records number ≡ None
     → Shows extents left (with_list (without entry.name.bytes.items volumes.volumes) volumes)
-removal_is_shown extents before left volumes table number entry shows limits spelled of_version free_beyond changes used free =
+removal_is_shown extents before left volumes table number entry shows limits spelled of_version of_set changes used free =
     record {
       limits = limits;
       table = table;
       of_version = of_version;
       spelled = spelled;
-      free_beyond = free_beyond;
+      of_set = of_set;
       shown = removal_is_shown_by shows.table.records table.records shows.table.extents table.extents before left volumes.volumes number entry shows.shown
           (distinct_names shows.table.version shows.table.records shows.table.extents shows.table.is_table) changes used free;
     }
 
 -- the commands
-pub create_is_shown : (extents : ℕ) (before left : List Block) (volumes : VolumeMap) (name : List ℕ) (count : ℕ) (table : VolumeTable) (number : ℕ)
+pub create_is_shown : (extents : ExtentLayout) (before left : List Block) (volumes : VolumeMap) (name : List ℕ) (count : ℕ) (table : VolumeTable) (number : ℕ)
     (shows : Shows extents before volumes)
     → reply_to extents (Create name count) volumes ≡ Done
-    → Spell left table → table.version ≡ volumes.version → ((extent : ℕ) → extents ≤ extent → owner_of table.extents extent ≡ None)
-    → ChangesOneRecord EXTENT_SECTORS shows.table.records table.records shows.table.extents table.extents before left number
-    → IsRecordOf EXTENT_SECTORS table.records table.extents left number (record { name = name; blocks = zero_blocks count })
+    → Spell left table → table.version ≡ volumes.version → IsOfSet extents table
+    → ChangesOneRecord extents shows.table.records table.records shows.table.extents table.extents before left number
+    → IsRecordOf extents table.records table.extents left number (record { name = name; blocks = zero_blocks count })
     → record_of shows.table.records number ≡ None
     → Shows extents left (volumes_after extents (Create name count) volumes)
-create_is_shown extents before left volumes name count table number shows replied spelled of_version free_beyond changes is_of unused =
+create_is_shown extents before left volumes name count table number shows replied spelled of_version of_set changes is_of unused =
     let same = changed_if_done extents (Create name count) volumes (done_if_not_refused (refusal_of extents (Create name count) volumes) Done replied) in
     let limits = step_keeps extents (Create name count) volumes tt shows.limits in
     subst (Shows extents left) (sym same)
     (put_is_shown extents before left volumes (record { name = name; blocks = zero_blocks count }) table number shows (subst (AreVolumes extents) same limits)
-    spelled of_version free_beyond changes is_of
+    spelled of_version of_set changes is_of
     (λ entry used. absurd (none-some entry (sym unused ∙ used))))
 
-pub extend_is_shown : (extents : ℕ) (before left : List Block) (volumes : VolumeMap) (growth : ℕ) (table : VolumeTable) (number : ℕ) (entry : Record)
+pub extend_is_shown : (extents : ExtentLayout) (before left : List Block) (volumes : VolumeMap) (growth : ℕ) (table : VolumeTable) (number : ℕ) (entry : Record)
     (shows : Shows extents before volumes)
     → record_of shows.table.records number ≡ Some entry
     → reply_to extents (Extend entry.name.bytes.items growth) volumes ≡ Done
-    → Spell left table → table.version ≡ volumes.version → ((extent : ℕ) → extents ≤ extent → owner_of table.extents extent ≡ None)
-    → ChangesOneRecord EXTENT_SECTORS shows.table.records table.records shows.table.extents table.extents before left number
-    → IsRecordOf EXTENT_SECTORS table.records table.extents left number
+    → Spell left table → table.version ≡ volumes.version → IsOfSet extents table
+    → ChangesOneRecord extents shows.table.records table.records shows.table.extents table.extents before left number
+    → IsRecordOf extents table.records table.extents left number
     (record { name = entry.name.bytes.items; blocks = blocks_in entry.name.bytes.items volumes.volumes ++ zero_blocks growth })
     → Shows extents left (volumes_after extents (Extend entry.name.bytes.items growth) volumes)
-extend_is_shown extents before left volumes growth table number entry shows used replied spelled of_version free_beyond changes is_of =
+extend_is_shown extents before left volumes growth table number entry shows used replied spelled of_version of_set changes is_of =
     let name = entry.name.bytes.items in
     let same = changed_if_done extents (Extend name growth) volumes (done_if_not_refused (refusal_of extents (Extend name growth) volumes) Done replied) in
     let limits = step_keeps extents (Extend name growth) volumes tt shows.limits in
     subst (Shows extents left) (sym same)
     (put_is_shown extents before left volumes (record { name = name; blocks = blocks_in name volumes.volumes ++ zero_blocks growth }) table number shows
-    (subst (AreVolumes extents) same limits) spelled of_version free_beyond changes is_of
+    (subst (AreVolumes extents) same limits) spelled of_version of_set changes is_of
     (λ other other_used. ap (λ (r : Record). r.name.bytes.items) (same_Some other entry (sym other_used ∙ used))))
 
-pub remove_is_shown : (extents : ℕ) (before left : List Block) (volumes : VolumeMap) (table : VolumeTable) (number : ℕ) (entry : Record)
+pub remove_is_shown : (extents : ExtentLayout) (before left : List Block) (volumes : VolumeMap) (table : VolumeTable) (number : ℕ) (entry : Record)
     (shows : Shows extents before volumes)
     → record_of shows.table.records number ≡ Some entry
     → reply_to extents (Remove entry.name.bytes.items) volumes ≡ Done
-    → Spell left table → table.version ≡ volumes.version → ((extent : ℕ) → extents ≤ extent → owner_of table.extents extent ≡ None)
-    → ChangesOneRecord EXTENT_SECTORS shows.table.records table.records shows.table.extents table.extents before left number
+    → Spell left table → table.version ≡ volumes.version → IsOfSet extents table
+    → ChangesOneRecord extents shows.table.records table.records shows.table.extents table.extents before left number
     → record_of table.records number ≡ None
     → Shows extents left (volumes_after extents (Remove entry.name.bytes.items) volumes)
-remove_is_shown extents before left volumes table number entry shows used replied spelled of_version free_beyond changes free =
+remove_is_shown extents before left volumes table number entry shows used replied spelled of_version of_set changes free =
     let name = entry.name.bytes.items in
     let same = changed_if_done extents (Remove name) volumes (done_if_not_refused (refusal_of extents (Remove name) volumes) Done replied) in
     let limits = step_keeps extents (Remove name) volumes tt shows.limits in
     subst (Shows extents left) (sym same)
-    (removal_is_shown extents before left volumes table number entry shows (subst (AreVolumes extents) same limits) spelled of_version free_beyond changes used
+    (removal_is_shown extents before left volumes table number entry shows (subst (AreVolumes extents) same limits) spelled of_version of_set changes used
     free)
 
 -- ---- a rename
 
 -- the volume is taken away with its record, and put back with the record of its new name
-renaming_is_shown_by : (records new_records : List (Option Record)) (owners new_owners : List (Option Owned)) (before left : List Block) (volumes : VolumeList)
+renaming_is_shown_by : {extents : ExtentLayout} (records new_records : List (Option Record)) (owners new_owners : List (Option Owned)) (before left : List Block) (volumes : VolumeList)
     (number : ℕ) (entry : Record) (name : List ℕ)
-    → AreShown EXTENT_SECTORS records owners before volumes → AreDistinct records → AreDistinct new_records → record_of records number ≡ Some entry
+    → AreShown extents records owners before volumes → AreDistinct records → AreDistinct new_records → record_of records number ≡ Some entry
     → ChangesName records new_records number entry name
     → ((extent : ℕ) → owner_of new_owners extent ≡ owner_of owners extent)
-    → ((extent j : ℕ) → get_or left (sector_of_block EXTENT_SECTORS extent j) [] ≡ get_or before (sector_of_block EXTENT_SECTORS extent j) [])
-    → AreShown EXTENT_SECTORS new_records new_owners left
+    → ((extent j : ℕ) → get_or left (sector_of_block extents extent j) [] ≡ get_or before (sector_of_block extents extent j) [])
+    → AreShown extents new_records new_owners left
     (with_volume (record { name = name; blocks = blocks_in entry.name.bytes.items volumes }) (without entry.name.bytes.items volumes))
-renaming_is_shown_by records new_records owners new_owners before left volumes number entry name shown distinct new_distinct used changes same_owner
+renaming_is_shown_by {extents} records new_records owners new_owners before left volumes number entry name shown distinct new_distinct used changes same_owner
     same_sector =
-    subst (λ (blocks : List Block). AreShown EXTENT_SECTORS new_records new_owners left
+    subst (λ (blocks : List Block). AreShown extents new_records new_owners left
     (with_volume (record { name = name; blocks = blocks }) (without old volumes)))
     (sym (ap (λ o. unwrap_or o []) its.named))
     (put_is_shown_by rest new_records owners new_owners before left (without old volumes) (record { name = name; blocks = its.blocks }) number without_it
@@ -286,27 +291,27 @@ renaming_is_shown_by records new_records owners new_owners before left volumes n
     gone : record_of rest number ≡ None
     gone = get_or-set_same records number None None (some_within records number entry used)
 
-    its : IsOfVolume EXTENT_SECTORS owners before volumes number entry
+    its : IsOfVolume extents owners before volumes number entry
     its = shown.used number entry used
 
-    away : ChangesOneRecord EXTENT_SECTORS records rest owners owners before before number
+    away : ChangesOneRecord extents records rest owners owners before before number
     away = record {
       same_records = rest_else;
       same_extents = λ other extent place apart at. at;
       same_blocks = λ other one apart one_used j extent below at. refl;
     }
 
-    without_it : AreShown EXTENT_SECTORS rest owners before (without old volumes)
+    without_it : AreShown extents rest owners before (without old volumes)
     without_it = removal_is_shown_by records rest owners owners before before volumes number entry shown distinct away used gone
 
-    back : ChangesOneRecord EXTENT_SECTORS rest new_records owners new_owners before left number
+    back : ChangesOneRecord extents rest new_records owners new_owners before left number
     back = record {
       same_records = λ other apart. changes.others other apart ∙ sym (rest_else other apart);
       same_extents = λ other extent place apart at. sym (same_owner extent) ∙ at;
       same_blocks = λ other one apart one_used j extent below at. same_sector extent j;
     }
 
-    is_of : IsRecordOf EXTENT_SECTORS new_records new_owners left number (record { name = name; blocks = its.blocks })
+    is_of : IsRecordOf extents new_records new_owners left number (record { name = name; blocks = its.blocks })
     is_of = record {
       entry = changes.entry;
       used = changes.used;
@@ -315,7 +320,26 @@ renaming_is_shown_by records new_records owners new_owners before left volumes n
       stand = λ j extent below at. same_sector extent j ∙ its.stand j extent below (sym (same_owner extent) ∙ at);
     }
 
-pub rename_is_shown : (extents : ℕ) (before left : List Block) (volumes : VolumeMap) (name : List ℕ) (table : VolumeTable) (number : ℕ) (entry : Record)
+-- a table with the same owners, in which one record has another name, may be the set's too
+renamed_of_set : (extents : ExtentLayout) (was table : VolumeTable) (number : ℕ) (entry : Record) (name : List ℕ) → record_of was.records number ≡ Some entry
+    → ChangesName was.records table.records number entry name → ((extent : ℕ) → owner_of table.extents extent ≡ owner_of was.extents extent)
+    → IsOfSet extents was → IsOfSet extents table
+renamed_of_set extents was table number entry name used changes same_owner of_set = record {
+  free_beyond = λ extent above. same_owner extent ∙ of_set.free_beyond extent above;
+  placed = ∥∥₁_elim of_set.placed (hlevel props) (λ placed. ∣ (λ volume.
+      places_by_owner was.extents table.extents volume (extents_of extents.blocks (record_of table.records volume)) same_owner
+      (subst (λ n. HasPlaces was.extents volume n) (sym (as_many volume)) (placed volume))) ∣₁);
+}
+  where
+    as_many : (volume : ℕ) → extents_of extents.blocks (record_of table.records volume) ≡ extents_of extents.blocks (record_of was.records volume)
+    as_many volume = elim (cases_eq volume number) [
+      | inl same ↦ ap (λ v. extents_of extents.blocks (record_of table.records v)) same ∙ ap (extents_of extents.blocks) changes.used
+          ∙ ap (extents_for extents.blocks) changes.as_long ∙ sym (ap (extents_of extents.blocks) used)
+          ∙ sym (ap (λ v. extents_of extents.blocks (record_of was.records v)) same)
+      | inr apart ↦ ap (extents_of extents.blocks) (changes.others volume apart)
+    ]
+
+pub rename_is_shown : (extents : ExtentLayout) (before left : List Block) (volumes : VolumeMap) (name : List ℕ) (table : VolumeTable) (number : ℕ) (entry : Record)
     (shows : Shows extents before volumes)
     → record_of shows.table.records number ≡ Some entry
     → reply_to extents (Rename entry.name.bytes.items name) volumes ≡ Done
@@ -334,11 +358,11 @@ rename_is_shown extents before left volumes name table number entry shows used r
       table = table;
       of_version = of_version;
       spelled = spelled;
-      free_beyond = λ extent above. same_owner extent ∙ shows.free_beyond extent above;
+      of_set = renamed_of_set extents was table number entry name used changes same_owner shows.of_set;
       shown = renaming_is_shown_by was.records table.records was.extents table.extents before left volumes.volumes number entry name shows.shown
           (distinct_names was.version was.records was.extents was.is_table) (distinct_names table.version table.records table.extents table.is_table) used
           changes same_owner
-          (λ extent j. beyond (sector_of_block EXTENT_SECTORS extent j) (omega (arith, table_short volumes.version)));
+          (λ extent j. beyond (sector_of_block extents extent j) (omega (arith, table_short volumes.version, extents.limits.above)));
     } in
     subst (Shows extents left) (sym same) after
 
@@ -353,7 +377,7 @@ good_later version name good =
 volume_later : (version : ℕ) (volume : Volume) → IsVolume version volume → IsVolume 2 volume
 volume_later version volume is = record { good = good_later version volume.name is.good; least = is.least; most = is.most; whole = is.whole }
 
-limits_later : (extents : ℕ) (volumes : VolumeMap) → AreVolumes extents volumes → AreVolumes extents (record { version = 2; volumes = volumes.volumes })
+limits_later : (extents : ExtentLayout) (volumes : VolumeMap) → AreVolumes extents volumes → AreVolumes extents (record { version = 2; volumes = volumes.volumes })
 limits_later extents volumes limits = record {
   is_version = (omega arith, omega arith);
   few = omega (arith, limits.few, more_volumes volumes.version);
@@ -362,7 +386,16 @@ limits_later extents volumes limits = record {
   within = limits.within;
 }
 
-pub upgrade_is_shown : (extents : ℕ) (before left : List Block) (volumes : VolumeMap) (table : VolumeTable) (shows : Shows extents before volumes)
+-- a table with the same records and owners may be the set's too
+pub same_of_set : (extents : ExtentLayout) (was table : VolumeTable) → table.records ≡ was.records → table.extents ≡ was.extents → IsOfSet extents was
+    → IsOfSet extents table
+same_of_set extents was table same_records same_extents of_set = record {
+  free_beyond = λ extent above. ap (λ (its : List (Option Owned)). owner_of its extent) same_extents ∙ of_set.free_beyond extent above;
+  placed = subst (λ (its : List (Option Record)). ∥ HaveTheirPlaces extents.blocks its table.extents ∥₁) (sym same_records)
+      (subst (λ (its : List (Option Owned)). ∥ HaveTheirPlaces extents.blocks was.records its ∥₁) (sym same_extents) of_set.placed);
+}
+
+pub upgrade_is_shown : (extents : ExtentLayout) (before left : List Block) (volumes : VolumeMap) (table : VolumeTable) (shows : Shows extents before volumes)
     → Spell left table → table.version ≡ LAST_VERSION → table.records ≡ shows.table.records → table.extents ≡ shows.table.extents
     → ((sector : ℕ) → table_length LAST_VERSION ≤ sector → get_or left sector [] ≡ get_or before sector [])
     → Shows extents left (volumes_after extents Upgrade volumes)
@@ -372,16 +405,16 @@ upgrade_is_shown extents before left volumes table shows spelled of_version same
       table = table;
       of_version = of_version;
       spelled = spelled;
-      free_beyond = λ extent above. ap (λ (its : List (Option Owned)). owner_of its extent) same_extents ∙ shows.free_beyond extent above;
-      shown = subst (λ (records : List (Option Record)). AreShown EXTENT_SECTORS records table.extents left volumes.volumes) (sym same_records)
-          (subst (λ (owners : List (Option Owned)). AreShown EXTENT_SECTORS shows.table.records owners left volumes.volumes) (sym same_extents) still_shown);
+      of_set = same_of_set extents shows.table table same_records same_extents shows.of_set;
+      shown = subst (λ (records : List (Option Record)). AreShown extents records table.extents left volumes.volumes) (sym same_records)
+          (subst (λ (owners : List (Option Owned)). AreShown extents shows.table.records owners left volumes.volumes) (sym same_extents) still_shown);
     }
   where
-    still_shown : AreShown EXTENT_SECTORS shows.table.records shows.table.extents left volumes.volumes
+    still_shown : AreShown extents shows.table.records shows.table.extents left volumes.volumes
     still_shown = record {
       used = λ number entry used.
           stands_still shows.table.extents before left volumes.volumes number entry
-          (λ j extent below at. beyond (sector_of_block EXTENT_SECTORS extent j) (omega (arith, table_short LAST_VERSION)))
+          (λ j extent below at. beyond (sector_of_block extents extent j) (omega (arith, table_short LAST_VERSION, extents.limits.above)))
           (shows.shown.used number entry used);
       all = shows.shown.all;
     }

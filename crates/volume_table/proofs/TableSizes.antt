@@ -2,14 +2,10 @@
 use Rattle.std.proofs.Common.{◌≡◌, ℕ, ◌+◌, ◌-◌, ◌*◌, ◌<◌, ◌≤◌, ◌==◌, Bool, true, false, cond, List, [], length, take, get_or, sym, ◌∙◌, arith}
 use Rattle.std.proofs.lemmas.List.{same_lists, length-take, get_or-take, get_or_default}
 use Rattle.std.proofs.lemmas.Nat.{mul-le}
-use Rattle.layout_map.specs.declared.format.Format.{Format}
-use Rattle.layout_map.specs.declared.format.Format.TheVariants.{One, Two}
 use Rattle.layout_map.specs.declared.geometry.Geometry.{Geometry}
-use Rattle.layout_map.specs.declared.sizes.TheConstants.{EXTENT_SECTORS, RESERVED_SECTORS}
-use Rattle.layout_map.specs.Placement.{data_sectors_of, extents_of, rows_of}
-use Rattle.layout_map.proofs.Places.{chunk_least, data_sectors_by_rows}
-use Rattle.superblock.specs.declared.table.Table.{Table}
-use Rattle.volume_table.specs.Stands.{extents_in}
+use Rattle.layout_map.specs.Placement.{data_sectors_of, rows_of}
+use Rattle.layout_map.proofs.Places.{chunk_least, data_sectors_by_rows, extents_fit}
+use Rattle.extents.specs.SetExtents.{extents_in}
 use Rattle.extents.specs.Versions.{by_version, most_volumes, most_name_bytes, record_sectors, table_length}
 use Rattle.volume_table.specs.Volumes.{Block, VolumeMap}
 use Rattle.extents.specs.declared.name.TheConstants.{MOST_NAME_BYTES}
@@ -45,17 +41,16 @@ has_table_sectors geometry =
       data_sectors_by_rows geometry.members geometry.chunk geometry.stripes,
     )
 
--- the extents of a set of format 1 lie within its data sectors
-pub room_for : (table : Table) (count : ℕ) → table.geometry.format ≡ One → count ≤ extents_in table.geometry
-    → RESERVED_SECTORS + EXTENT_SECTORS * count ≤ data_sectors_of table.geometry.members table.geometry.chunk table.geometry.stripes
-room_for table count one few =
-    by_format table.geometry.format table.geometry.members table.geometry.chunk table.geometry.stripes one
-    table.geometry.limits.has_extent few
-  where
-    by_format : (format : Format) (members chunk stripes : ℕ) → format ≡ One → 1 ≤ extents_of format members chunk stripes
-        → count ≤ extents_of format members chunk stripes → RESERVED_SECTORS + EXTENT_SECTORS * count ≤ data_sectors_of members chunk stripes
-    by_format One members chunk stripes one has few = omega (arith, has, few)
-    by_format Two members chunk stripes one has few = absurd cc
+-- the extents of a set lie within its data sectors
+pub room_for : (geometry : Geometry) (count : ℕ) → count ≤ (extents_in geometry).count
+    → (extents_in geometry).first + count * (extents_in geometry).blocks ≤ data_sectors_of geometry.members geometry.chunk geometry.stripes
+unfolding extents_in
+room_for geometry count few =
+    omega (
+      arith,
+      extents_fit geometry.limits,
+      mul-le count (extents_in geometry).blocks (extents_in geometry).count (extents_in geometry).blocks few (omega arith),
+    )
 
 -- a table has 11 sectors at least
 pub table_long : (version : ℕ) → 11 ≤ table_length version

@@ -5,6 +5,7 @@ use Rattle.std.proofs.lemmas.Bool.{cond-true, lt-ltb, or_right}
 use Rattle.sector_model.specs.declared.refusal.Refusal.{Refusal}
 use Rattle.sector_model.specs.declared.refusal.Refusal.TheVariants.{BadCount, NoVolume}
 use Rattle.array_io.specs.Believed.Views.{EndsIt}
+use Rattle.extents.specs.declared.extent_layout.ExtentLayout.{ExtentLayout}
 use Rattle.extents.specs.declared.record.Record.{Record}
 use Rattle.volume_table.specs.Admission.{IsWithinVolume}
 use Rattle.volume_table.specs.Volumes.{Block, VolumeMap}
@@ -36,14 +37,14 @@ by_tests false bad rest is = cond-true bad (Some BadCount) rest is
 
 -- Two commands that are refused alike, whatever the volumes are.
 module _ (honest : Type 0) (kept command : Command) (reason : VolumeMap → Refusal) (old new : StoreView) (refusal : Refusal)
-    (first : (extents : ℕ) (volumes : VolumeMap) → refusal_of extents kept volumes ≡ Some (reason volumes))
-    (second : (extents : ℕ) (volumes : VolumeMap) → refusal_of extents command volumes ≡ Some (reason volumes))
+    (first : (extents : ExtentLayout) (volumes : VolumeMap) → refusal_of extents kept volumes ≡ Some (reason volumes))
+    (second : (extents : ExtentLayout) (volumes : VolumeMap) → refusal_of extents command volumes ≡ Some (reason volumes))
     (listed : refusals_of command ≡ refusals_of kept) (is_other : kept ≢ Names) where
-  left_alike : (extents : ℕ) (volumes : VolumeMap) → volumes_after extents kept volumes ≡ volumes_after extents command volumes
+  left_alike : (extents : ExtentLayout) (volumes : VolumeMap) → volumes_after extents kept volumes ≡ volumes_after extents command volumes
   left_alike extents volumes = ap (λ (o : Option Refusal). unless_refused o (done kept volumes) volumes) (first extents volumes)
       ∙ sym (ap (λ (o : Option Refusal). unless_refused o (done command volumes) volumes) (second extents volumes))
 
-  replied_alike : (extents : ℕ) (volumes : VolumeMap) → reply_to extents kept volumes ≡ reply_to extents command volumes
+  replied_alike : (extents : ExtentLayout) (volumes : VolumeMap) → reply_to extents kept volumes ≡ reply_to extents command volumes
   replied_alike extents volumes = ap (λ (o : Option Refusal). or_refused o (answer kept volumes.volumes)) (first extents volumes)
       ∙ sym (ap (λ (o : Option Refusal). or_refused o (answer command volumes.volumes)) (second extents volumes))
 
@@ -75,12 +76,12 @@ module _ (honest : Type 0) (kept command : Command) (reason : VolumeMap → Refu
   refused_alike : Applies honest (OnVolumes kept) old new (Refused refusal) → Applies honest (OnVolumes command) old new (Refused refusal)
   refused_alike applies = record { ended = applies.ended; going = λ goes. goes_alike (applies.going goes) }
 
-read_refusal : (name : List ℕ) (at count extents : ℕ) (volumes : VolumeMap) → MOST_BLOCKS_AT_ONCE < count
+read_refusal : (name : List ℕ) (at count : ℕ) (extents : ExtentLayout) (volumes : VolumeMap) → MOST_BLOCKS_AT_ONCE < count
     → refusal_of extents (Read name at count) volumes ≡ Some (why name volumes)
 unfolding why
 read_refusal name at count extents volumes many = by_tests (has_no_volume name volumes.volumes) (is_bad_count count) _ (bad_count count many)
 
-write_refusal : (name : List ℕ) (at : ℕ) (blocks : List Block) (extents : ℕ) (volumes : VolumeMap) → MOST_BLOCKS_AT_ONCE < length blocks
+write_refusal : (name : List ℕ) (at : ℕ) (blocks : List Block) (extents : ExtentLayout) (volumes : VolumeMap) → MOST_BLOCKS_AT_ONCE < length blocks
     → refusal_of extents (Write name at blocks) volumes ≡ Some (why name volumes)
 unfolding why
 write_refusal name at blocks extents volumes many = by_tests (has_no_volume name volumes.volumes) (is_bad_count (length blocks)) _

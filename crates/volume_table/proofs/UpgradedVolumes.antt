@@ -4,6 +4,8 @@ use Rattle.sector_model.specs.declared.refusal.Refusal.{Refusal}
 use Rattle.sector_model.specs.Bank.{IsTrueTo}
 use Rattle.array_io.specs.Believed.ArrayCalls.{Answer}
 use Rattle.layout_map.specs.declared.geometry.Geometry.{Geometry}
+use Rattle.extents.specs.declared.extent_layout.ExtentLayout.{ExtentLayout}
+use Rattle.extents.specs.SetExtents.{extents_in}
 use Rattle.extents.specs.declared.owned.Owned.{Owned}
 use Rattle.extents.specs.declared.volume_table.VolumeTable.{VolumeTable}
 use Rattle.extents.specs.Owners.{owner_of}
@@ -13,7 +15,7 @@ use Rattle.extents.proofs.TableLaws.{one_table}
 use Rattle.volume_table.specs.Volumes.{Block, VolumeMap}
 use Rattle.volume_table.specs.VolumeStep.{Done, Upgrade, done}
 use Rattle.volume_table.specs.Shows.{Shows}
-use Rattle.volume_table.specs.Stands.{StoreView, extents_in}
+use Rattle.volume_table.specs.Stands.{StoreView}
 use Rattle.volume_table.specs.StoreCalls.{extents_for_store}
 use Rattle.volume_table.specs.StoreChanges.{HasTable, MayPutTable, PutsTable}
 use Rattle.volume_table.specs.StoreFunctions.{UpgradesTable}
@@ -22,7 +24,7 @@ use Rattle.volume_table.specs.KeptTables.{UpgradesKept}
 use Rattle.volume_table.specs.ListChanges.{ChangesList, IsSame}
 use Rattle.volume_table.proofs.ListChanges.{changes_none}
 use Rattle.volume_table.proofs.StoreSteps.{done_with_volumes, ended_with_volumes}
-use Rattle.volume_table.proofs.TableLemmas.{upgrade_is_shown}
+use Rattle.volume_table.proofs.TableLemmas.{same_of_set, upgrade_is_shown}
 use Rattle.extents.specs.declared.version.TheConstants.{LAST_VERSION}
 
 -- a table of the last version with the same records and extents
@@ -36,12 +38,12 @@ pub kept_upgraded : (geometry now : Geometry) (old new : VolumeTable) (owners : 
     → AreKept (extents_in geometry) old owners
     → AreKept (extents_in now) new owners
 kept_upgraded geometry now old new owners same is kept = subst (λ (g : Geometry). AreKept (extents_in g) new owners) (sym same) record {
-  same = kept.same ∙ ap (λ (those : List (Option Owned)). take (extents_in geometry) those) (sym is.extents);
-  free_beyond = λ extent past. ap (λ (those : List (Option Owned)). owner_of those extent) is.extents ∙ kept.free_beyond extent past;
+  same = kept.same ∙ ap (λ (those : List (Option Owned)). take (extents_in geometry).count those) (sym is.extents);
+  of_set = same_of_set (extents_in geometry) old new is.records is.extents kept.of_set;
 }
 
 -- the list that has it shows the same volumes, with the new version
-upgraded_is_shown : (extents : ℕ) (old new : VolumeTable) (V W : List Block) (volumes : VolumeMap) → IsUpgraded old new → (by : ShowsBy extents old V volumes)
+upgraded_is_shown : (extents : ExtentLayout) (old new : VolumeTable) (V W : List Block) (volumes : VolumeMap) → IsUpgraded old new → (by : ShowsBy extents old V volumes)
     → HasTable new V W
     → ShowsBy extents new W (done Upgrade volumes)
 upgraded_is_shown extents old new V W volumes is by has =
@@ -95,7 +97,7 @@ upgrade_kept old new (Ok unit) differs is one_entry = record {
 upgrade_kept old new (Err refusal) differs is one_entry = tt
 
 -- a map of version 2 is as it was
-nothing_changes : (extents : ℕ) (table : VolumeTable) (V : List Block) (volumes : VolumeMap) → table.version ≡ LAST_VERSION → ShowsBy extents table V volumes
+nothing_changes : (extents : ExtentLayout) (table : VolumeTable) (V : List Block) (volumes : VolumeMap) → table.version ≡ LAST_VERSION → ShowsBy extents table V volumes
     → volumes ≡ done Upgrade volumes
 nothing_changes extents table V volumes is shown =
     let version : volumes.version ≡ 2 = sym shown.shows.of_version ∙ ap (λ (t : VolumeTable). t.version) shown.by ∙ is in

@@ -14,7 +14,6 @@ use Rattle.std.proofs.lemmas.Option.{none-some, same_Some}
 use Rattle.volume_table.specs.Names.{name_order, is_same_name}
 use Rattle.extents.specs.VolumeTables.{extents_for}
 use Rattle.volume_table.specs.Volumes.{Block, Volume, VolumeList, names, blocks_of, with_volume, without, need}
-use Rattle.layout_map.specs.declared.sizes.TheConstants.{EXTENT_SECTORS}
 
 -- a name is itself
 pub same_name_itself : (name : List ℕ) → is_same_name name name ≡ true
@@ -122,10 +121,10 @@ unfolding total
 length_is_total [] = refl
 length_is_total (volume ∷ volumes) = omega (arith, length_is_total volumes)
 
-need_is_total : (volumes : VolumeList) → need EXTENT_SECTORS volumes ≡ total (λ blocks. extents_for EXTENT_SECTORS (length blocks)) volumes
+need_is_total : (each : ℕ) (volumes : VolumeList) → need each volumes ≡ total (λ blocks. extents_for each (length blocks)) volumes
 unfolding total
-need_is_total [] = refl
-need_is_total (volume ∷ volumes) = ap (λ n. extents_for EXTENT_SECTORS (length volume.blocks) + n) (need_is_total volumes)
+need_is_total each [] = refl
+need_is_total each (volume ∷ volumes) = ap (λ n. extents_for each (length volume.blocks) + n) (need_is_total each volumes)
 
 -- one volume more where there was none of this name
 pub length-with_new : (new : Volume) (volumes : VolumeList) → Rising volumes → blocks_of new.name volumes ≡ None
@@ -135,13 +134,13 @@ length-with_new new volumes rising none =
     let one : of_found (λ blocks. 1) (blocks_of new.name volumes) ≡ 0 = ap (of_found (λ blocks. 1)) none in
     omega (arith, one, length_is_total volumes, length_is_total (with_volume new volumes), total_with_volume (λ blocks. 1) new volumes rising)
 
-pub need-with_new : (new : Volume) (volumes : VolumeList) → Rising volumes → blocks_of new.name volumes ≡ None
-    → need EXTENT_SECTORS (with_volume new volumes) ≡ need EXTENT_SECTORS volumes + extents_for EXTENT_SECTORS (length new.blocks)
+pub need-with_new : (each : ℕ) (new : Volume) (volumes : VolumeList) → Rising volumes → blocks_of new.name volumes ≡ None
+    → need each (with_volume new volumes) ≡ need each volumes + extents_for each (length new.blocks)
 unfolding of_found
-need-with_new new volumes rising none =
-    let f : List Block → ℕ = λ blocks. extents_for EXTENT_SECTORS (length blocks) in
+need-with_new each new volumes rising none =
+    let f : List Block → ℕ = λ blocks. extents_for each (length blocks) in
     let one : of_found f (blocks_of new.name volumes) ≡ 0 = ap (of_found f) none in
-    omega (arith, one, need_is_total volumes, need_is_total (with_volume new volumes), total_with_volume f new volumes rising)
+    omega (arith, one, need_is_total each volumes, need_is_total each (with_volume new volumes), total_with_volume f new volumes rising)
 
 -- as many volumes where there was one of this name
 pub length-with_other : (new : Volume) (volumes : VolumeList) (blocks : List Block) → Rising volumes → blocks_of new.name volumes ≡ Some blocks
@@ -151,14 +150,14 @@ length-with_other new volumes blocks rising some =
     let one : of_found (λ blocks. 1) (blocks_of new.name volumes) ≡ 1 = ap (of_found (λ blocks. 1)) some in
     omega (arith, one, length_is_total volumes, length_is_total (with_volume new volumes), total_with_volume (λ blocks. 1) new volumes rising)
 
-pub need-with_other : (new : Volume) (volumes : VolumeList) (blocks : List Block) → Rising volumes → blocks_of new.name volumes ≡ Some blocks
-    → need EXTENT_SECTORS (with_volume new volumes) + extents_for EXTENT_SECTORS (length blocks) ≡ need EXTENT_SECTORS volumes + extents_for EXTENT_SECTORS
+pub need-with_other : (each : ℕ) (new : Volume) (volumes : VolumeList) (blocks : List Block) → Rising volumes → blocks_of new.name volumes ≡ Some blocks
+    → need each (with_volume new volumes) + extents_for each (length blocks) ≡ need each volumes + extents_for each
     (length new.blocks)
 unfolding of_found
-need-with_other new volumes blocks rising some =
-    let f : List Block → ℕ = λ blocks. extents_for EXTENT_SECTORS (length blocks) in
-    let one : of_found f (blocks_of new.name volumes) ≡ extents_for EXTENT_SECTORS (length blocks) = ap (of_found f) some in
-    omega (arith, one, need_is_total volumes, need_is_total (with_volume new volumes), total_with_volume f new volumes rising)
+need-with_other each new volumes blocks rising some =
+    let f : List Block → ℕ = λ blocks. extents_for each (length blocks) in
+    let one : of_found f (blocks_of new.name volumes) ≡ extents_for each (length blocks) = ap (of_found f) some in
+    omega (arith, one, need_is_total each volumes, need_is_total each (with_volume new volumes), total_with_volume f new volumes rising)
 
 -- the volume that was put is found
 pub found_with_volume : (new : Volume) (volumes : VolumeList) → blocks_of new.name (with_volume new volumes) ≡ Some new.blocks
@@ -240,12 +239,12 @@ length-without name (volume ∷ volumes) = by_case (length-without name volumes)
     by_case rec true = omega (arith, rec)
     by_case rec false = omega (arith, rec)
 
-pub need-without : (name : List ℕ) (volumes : VolumeList) → need EXTENT_SECTORS (without name volumes) ≤ need EXTENT_SECTORS volumes
-need-without name [] = omega arith
-need-without name (volume ∷ volumes) = by_case (need-without name volumes) (is_same_name name volume.name)
+pub need-without : (each : ℕ) (name : List ℕ) (volumes : VolumeList) → need each (without name volumes) ≤ need each volumes
+need-without each name [] = omega arith
+need-without each name (volume ∷ volumes) = by_case (need-without each name volumes) (is_same_name name volume.name)
   where
-    by_case : (need EXTENT_SECTORS (without name volumes) ≤ need EXTENT_SECTORS volumes) → (b : Bool)
-        → need EXTENT_SECTORS (cond (not b) (volume ∷ without name volumes) (without name volumes)) ≤ need EXTENT_SECTORS (volume ∷ volumes)
+    by_case : (need each (without name volumes) ≤ need each volumes) → (b : Bool)
+        → need each (cond (not b) (volume ∷ without name volumes) (without name volumes)) ≤ need each (volume ∷ volumes)
     by_case rec true = omega (arith, rec)
     by_case rec false = omega (arith, rec)
 
@@ -346,8 +345,8 @@ length-without_one name volumes blocks rising some =
     ap length (sym (put_back name volumes blocks rising some))
     ∙ length-with_new (record { name = name; blocks = blocks }) (without name volumes) (rising_without name volumes rising) (gone_without name volumes)
 
-pub need-without_one : (name : List ℕ) (volumes : VolumeList) (blocks : List Block) → Rising volumes → blocks_of name volumes ≡ Some blocks
-    → need EXTENT_SECTORS volumes ≡ need EXTENT_SECTORS (without name volumes) + extents_for EXTENT_SECTORS (length blocks)
-need-without_one name volumes blocks rising some =
-    ap (need EXTENT_SECTORS) (sym (put_back name volumes blocks rising some))
-    ∙ need-with_new (record { name = name; blocks = blocks }) (without name volumes) (rising_without name volumes rising) (gone_without name volumes)
+pub need-without_one : (each : ℕ) (name : List ℕ) (volumes : VolumeList) (blocks : List Block) → Rising volumes → blocks_of name volumes ≡ Some blocks
+    → need each volumes ≡ need each (without name volumes) + extents_for each (length blocks)
+need-without_one each name volumes blocks rising some =
+    ap (need each) (sym (put_back name volumes blocks rising some))
+    ∙ need-with_new each (record { name = name; blocks = blocks }) (without name volumes) (rising_without name volumes rising) (gone_without name volumes)

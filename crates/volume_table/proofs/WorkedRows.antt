@@ -3,7 +3,7 @@ use Rattle.std.proofs.Common.{refl}
 use Rattle.extents.specs.Versions.{most_name_bytes, most_volumes}
 use Rattle.volume_table.specs.Rows.{ExtendIntoNewExtent, ExtendKeepsAndZeroes, FillThenNoSpace, LargestVolume, ListRises, LongNames, NamesAtTheLimits}
 use Rattle.volume_table.specs.Rows.{OneBlockTooMany, ReadsAtTheLimits, RefusedCommands, RenameScript, ReusedIsZero, SixtyFourVolumes, ThirtyTwoBlocks}
-use Rattle.volume_table.specs.Rows.{ThirtyTwoVolumes, WriteOutOfRange}
+use Rattle.volume_table.specs.Rows.{SmallerExtents, ThirtyTwoVolumes, WriteOutOfRange}
 
 pub fill_then_no_space : FillThenNoSpace
 unfolding most_name_bytes most_volumes
@@ -12,6 +12,10 @@ fill_then_no_space = refl
 pub one_block_too_many : OneBlockTooMany
 unfolding most_name_bytes most_volumes
 one_block_too_many = refl
+
+pub smaller_extents : SmallerExtents
+unfolding most_name_bytes most_volumes
+smaller_extents = (refl, refl)
 
 pub extend_into_new_extent : ExtendIntoNewExtent
 unfolding most_name_bytes most_volumes

@@ -1,20 +1,21 @@
 -- Whether a command on volumes is admitted, by the table of volumes and the map of extents that a store keeps.
 use Rattle.std.specs.Prelude.{◌≡◌, ◌≢◌, ℕ, ◌+◌, ◌<◌, ◌≤◌, List, length, take, Option, Some, None, Result, Ok, Err}
 use Rattle.sector_model.specs.declared.refusal.Refusal.{Refusal}
+use Rattle.extents.specs.declared.extent_layout.ExtentLayout.{ExtentLayout}
+use Rattle.extents.specs.SetExtents.{IsOfSet}
 use Rattle.extents.specs.declared.owned.Owned.{Owned}
 use Rattle.extents.specs.declared.record.Record.{Record}
 use Rattle.extents.specs.declared.volume_table.VolumeTable.{VolumeTable}
 use Rattle.extents.specs.ExtentMaps.{free_of}
-use Rattle.extents.specs.Owners.{owner_of}
 use Rattle.extents.specs.VolumeTables.{extents_for, record_of}
 use Rattle.volume_table.specs.Volumes.{Block, VolumeMap}
 use Rattle.volume_table.specs.Shows.{Shows}
-use Rattle.extents.specs.Versions.{extent_blocks, most_name_bytes, most_volumes}
+use Rattle.extents.specs.Versions.{most_name_bytes, most_volumes}
 use Rattle.extents.specs.declared.volume_table.TheConstants.{MOST_VOLUMES}
 use Rattle.volume_table.specs.declared.event.TheConstants.{MOST_BLOCKS_AT_ONCE}
 
--- by this table a logical list of a set with so many extents shows these volumes
-pub record ShowsBy (extents : ℕ) (table : VolumeTable) (sectors : List Block) (volumes : VolumeMap) : Type 0 where
+-- by this table a logical list of a set with these extents shows these volumes
+pub record ShowsBy (extents : ExtentLayout) (table : VolumeTable) (sectors : List Block) (volumes : VolumeMap) : Type 0 where
   pub shows : Shows extents sectors volumes
   pub by : shows.table ≡ table
 
@@ -58,13 +59,13 @@ IsGrownFrom None first entry = first ≡ 0
 IsGrownFrom (Some before) first entry = (before.blocks ≡ first) × (before.name.bytes.items ≡ entry.name.bytes.items)
 
 -- The record may be put at this number, with blocks from `first` on that are new: no other record has its name, and there are free extents.
-pub record MayGrowTo (version : ℕ) (records : List (Option Record)) (owners : List (Option Owned)) (number first : ℕ) (entry : Record) : Type 0 where
+pub record MayGrowTo (extents : ExtentLayout) (version : ℕ) (records : List (Option Record)) (owners : List (Option Owned)) (number first : ℕ) (entry : Record) : Type 0 where
   pub of_table : number < most_volumes version
   pub short : length entry.name.bytes.items ≤ most_name_bytes version
   pub from : IsGrownFrom (record_of records number) first entry
   pub more : first < entry.blocks
   pub apart : (other : ℕ) (one : Record) → record_of records other ≡ Some one → one.name.bytes.items ≡ entry.name.bytes.items → other ≡ number
-  pub fits : extents_for (extent_blocks version) entry.blocks ≤ extents_for (extent_blocks version) first + free_of owners
+  pub fits : extents_for extents.blocks entry.blocks ≤ extents_for extents.blocks first + free_of owners
 
 -- the record is one that is used, and has as many blocks
 abbrev pub IsRenamedFrom : Option Record → Record → Type 0
@@ -78,7 +79,7 @@ pub record MayRename (version : ℕ) (records : List (Option Record)) (number : 
   pub from : IsRenamedFrom (record_of records number) entry
   pub absent : (other : ℕ) (one : Record) → record_of records other ≡ Some one → one.name.bytes.items ≢ entry.name.bytes.items
 
--- a store's map of extents is that of its table, of a set with so many
-pub record AreKept (extents : ℕ) (table : VolumeTable) (owners : List (Option Owned)) : Type 0 where
-  pub same : owners ≡ take extents table.extents
-  pub free_beyond : (extent : ℕ) → extents ≤ extent → owner_of table.extents extent ≡ None
+-- a store's table may be that of its set, whose extents lie so, and its map of extents is the table's
+pub record AreKept (extents : ExtentLayout) (table : VolumeTable) (owners : List (Option Owned)) : Type 0 where
+  pub same : owners ≡ take extents.count table.extents
+  pub of_set : IsOfSet extents table

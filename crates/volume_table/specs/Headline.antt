@@ -13,11 +13,13 @@ use Rattle.recovery.specs.Making.{BankView, IsQuietBeyond, Makes}
 use Rattle.recovery.specs.Assembling.{IsNoAssembly}
 use Rattle.volume_table.specs.Volumes.{VolumeMap, no_volumes}
 use Rattle.volume_table.specs.VolumeStep.{Event, OnSet, OnVolumes, Refused, Reply, Scrub, Scrubbed, after, left_by, reply_to}
-use Rattle.volume_table.specs.Stands.{IsSettledOn, StoreView, extents_in}
+use Rattle.volume_table.specs.Stands.{IsSettledOn, StoreView}
 use Rattle.volume_table.specs.StoreCalls.{LacksMemory, lost_in}
 use Rattle.volume_table.specs.Opening.{IsNoOpening, Opened, Outcome, Returned}
 use Rattle.volume_table.specs.Runs.{Does, Fate, Run, Runs, Serving, Session, none_done, then_done, World, in_assembling, assembled, unopened, in_opening}
 use Rattle.volume_table.specs.Runs.{between_events, in_event, no_more, next_run, begun_with, only_read}
+use Rattle.extents.specs.declared.extent_layout.ExtentLayout.{ExtentLayout}
+use Rattle.extents.specs.SetExtents.{extents_in}
 
 -- What went before: the volumes that a store was opened with, the events of its run, and how many of them were acknowledged.
 pub record Before : Type 0 where
@@ -26,7 +28,7 @@ pub record Before : Type 0 where
   pub acknowledged : ℕ
 
 -- the volumes after a prefix of the events that has every acknowledged one
-pub record IsAfterPrefix (extents : ℕ) (before : Before) (volumes : VolumeMap) : Type 0 where
+pub record IsAfterPrefix (extents : ExtentLayout) (before : Before) (volumes : VolumeMap) : Type 0 where
   pub n : ℕ
   pub has_acknowledged : before.acknowledged ≤ n
   pub is_prefix : n ≤ length before.events
@@ -34,13 +36,13 @@ pub record IsAfterPrefix (extents : ℕ) (before : Before) (volumes : VolumeMap)
 
 -- An event is answered rightly: a command on volumes as the volume machine does, but that there may be no memory for a list; and a scrub of a set that
 -- is complete looks at all of its rows, and finds none whose parity is not the XOR of its data.
-abbrev pub IsRight : ℕ → VolumeMap → Event → (after : StoreView) → Reply → Type 0
+abbrev pub IsRight : ExtentLayout → VolumeMap → Event → (after : StoreView) → Reply → Type 0
 IsRight extents volumes (OnVolumes command) after reply = (reply ≡ reply_to extents command volumes) ⊎ LacksMemory command reply
 IsRight extents volumes (OnSet Scrub) after reply = IsComplete after.array.table → reply ≡ Scrubbed (row_count after.array.table) 0 None
 IsRight extents volumes (OnSet command) after reply = Unit {0}
 
 -- so are events that are done one after another
-abbrev pub AreRight : {slots : ℕ} {events : List Event} {replies : List Reply} {old new : Serving} → (extents : ℕ) → VolumeMap
+abbrev pub AreRight : {slots : ℕ} {events : List Event} {replies : List Reply} {old new : Serving} → (extents : ExtentLayout) → VolumeMap
     → Does slots events replies old new → Type 0
 AreRight extents volumes none_done = Unit {0}
 AreRight extents volumes (then_done mid event reply done rest) = IsRight extents volumes event mid.store reply
@@ -59,7 +61,7 @@ IsOpenedUnlessWorn slots lost array (Returned bank refusal) = IsSingleFailure sl
     × IsNoOpening (Unit {0}) array bank Worn
 
 -- The store was opened with volumes after a prefix, with every acknowledged event, of the events before; and all events were answered rightly.
-pub record IsServed {slots : ℕ} {events : List Event} {replies : List Reply} {first serving : Serving} (extents : ℕ) (before : Before)
+pub record IsServed {slots : ℕ} {events : List Event} {replies : List Reply} {first serving : Serving} (extents : ExtentLayout) (before : Before)
     (does : Does slots events replies first serving)
     (volumes : VolumeMap) : Type 0 where
   pub after_prefix : IsAfterPrefix extents before volumes
@@ -67,7 +69,7 @@ pub record IsServed {slots : ℕ} {events : List Event} {replies : List Reply} {
   pub right : AreRight extents volumes does
 
 -- A session keeps the promise, and what comes after it by what then went before.
-abbrev pub SessionKeeps : (extents slots : ℕ) → Before → {array : ArrayView} {fate : Fate} {left : World} → Session slots array fate left → (Before → Type 0)
+abbrev pub SessionKeeps : (extents : ExtentLayout) (slots : ℕ) → Before → {array : ArrayView} {fate : Fate} {left : World} → Session slots array fate left → (Before → Type 0)
     → Type 0
 SessionKeeps extents slots before (unopened crashes) later = later before
 SessionKeeps extents slots before {array = array} {fate = fate} (in_opening outcome opens true_to crashes) later =
@@ -80,7 +82,7 @@ SessionKeeps extents slots before (in_event first serving events replies event s
     × (IsSingleFailure slots (lost_in event serving.store.array.table serving.fate.lost) store.array.history → reply ≢ Refused TwoLost)
     × later (record { volumes = volumes; events = events ++ event ∷ []; acknowledged = length events })
 
-abbrev pub RunKeeps : (id : List ℕ) (extents slots : ℕ) → Before → {panel : Panel} {world left : World} → Run id slots panel world left → (Before → Type 0)
+abbrev pub RunKeeps : (id : List ℕ) (extents : ExtentLayout) (slots : ℕ) → Before → {panel : Panel} {world left : World} → Run id slots panel world left → (Before → Type 0)
     → Type 0
 RunKeeps id extents slots before (only_read h reads crashes) later = later before
 RunKeeps id extents slots before {panel = panel} {world = world} (in_assembling outcome assembles crashes) later =
@@ -88,7 +90,7 @@ RunKeeps id extents slots before {panel = panel} {world = world} (in_assembling 
 RunKeeps id extents slots before (assembled array fate is session) later = SessionKeeps extents slots before session later
 
 -- Runs keep the promise: each gives volumes that are those after a prefix, with every acknowledged event, of the events of the last run that was opened.
-abbrev pub RunsKeep : (id : List ℕ) (extents devices slots : ℕ) → Before → {world : World} → Runs id devices slots world → Type 0
+abbrev pub RunsKeep : (id : List ℕ) (extents : ExtentLayout) (devices slots : ℕ) → Before → {world : World} → Runs id devices slots world → Type 0
 RunsKeep id extents devices slots before no_more = Unit {0}
 RunsKeep id extents devices slots before (next_run begun left panel begins same of_bank run runs) =
     RunKeeps id extents slots before run (λ then. RunsKeep id extents devices slots then runs)

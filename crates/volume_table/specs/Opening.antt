@@ -6,14 +6,14 @@ use Rattle.sector_model.specs.Bank.{IsLater, Panel}
 use Rattle.sector_model.specs.History.{Bytes, History}
 use Rattle.superblock.specs.Cases.{Lost}
 use Rattle.array_io.specs.Believed.Views.{ArrayView, GoesOn, IsEndOf, RestsOn, StaysButForFailures}
+use Rattle.extents.specs.SetExtents.{extents_in, IsOfSet}
 use Rattle.extents.specs.declared.volume_table.VolumeTable.{VolumeTable}
-use Rattle.extents.specs.Owners.{owner_of}
 use Rattle.extents.specs.TableSpelling.{Spell}
 use Rattle.array_io.specs.Believed.ReadWhole.{NoDeviceFailed, list_read}
 use Rattle.recovery.specs.Making.{BankView}
 use Rattle.volume_table.specs.Volumes.{VolumeMap}
 use Rattle.volume_table.specs.Shows.{Shows}
-use Rattle.volume_table.specs.Stands.{IsSettledAfter, StandsThroughout, StoreView, extents_in}
+use Rattle.volume_table.specs.Stands.{IsSettledAfter, StandsThroughout, StoreView}
 
 -- how opening ends: with a store, or with the bank back and a refusal
 pub data Outcome : Type 0 where
@@ -35,10 +35,9 @@ bank_after (Returned bank refusal) = bank
 abbrev pub ShowsNothing : ArrayView → Type 0
 ShowsNothing array = (lost : Option Lost) (V : List Bytes) (volumes : VolumeMap) → RestsOn array lost V → ¬ Shows (extents_in array.table.geometry) V volumes
 
--- no table of volumes, with no extent beyond the set's, is spelled there
+-- no table of volumes that may be the set's is spelled there
 abbrev pub SpellsNoTable : ArrayView → Type 0
-SpellsNoTable array = (table : VolumeTable) → Spell (list_read array) table
-    → ¬ ((extent : ℕ) → extents_in array.table.geometry ≤ extent → owner_of table.extents extent ≡ None)
+SpellsNoTable array = (table : VolumeTable) → Spell (list_read array) table → ¬ IsOfSet (extents_in array.table.geometry) table
 
 -- the array was given up, as it stood then, for 15 or 16
 pub record WasGivenUp (honest : Type 0) (old : ArrayView) (bank : BankView) (refusal : Refusal) : Type 0 where
@@ -66,6 +65,6 @@ pub record Opens (honest : Type 0) (old : ArrayView) (outcome : Outcome) : Type 
       → StandsThroughout old.table old.panel.devices lost (volumes ∷ []) old.history (bank_after outcome).history
   pub settled : honest → (lost : Option Lost) (V : List Bytes) (volumes : VolumeMap) → RestsOn old lost V → Shows (extents_in old.table.geometry) V volumes
       → (store : StoreView) → outcome ≡ Opened store → IsSettledAfter lost store volumes
-  pub within : (store : StoreView) → outcome ≡ Opened store → (extent : ℕ) → extents_in old.table.geometry ≤ extent → owner_of store.keeps.extents extent ≡ None
+  pub of_set : (store : StoreView) → outcome ≡ Opened store → IsOfSet (extents_in old.table.geometry) store.keeps
   pub spelled : honest → (lost : Option Lost) (V : List Bytes) → RestsOn old lost V → (store : StoreView) → outcome ≡ Opened store → Spell V store.keeps
   pub cause : (bank : BankView) (refusal : Refusal) → outcome ≡ Returned bank refusal → IsNoOpening honest old bank refusal

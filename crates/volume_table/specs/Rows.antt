@@ -1,6 +1,9 @@
 -- Small runs of commands, worked out by hand.
-use Rattle.std.specs.Prelude.{◌≡◌, ℕ, ◌+◌, ◌/◌, ◌%◌, false, List, [], ◌∷◌, ◌++◌, map, replicate, codes, None}
+use Rattle.std.specs.Prelude.{◌≡◌, ℕ, ◌+◌, ◌/◌, ◌%◌, ◌≤◌, false, List, [], ◌∷◌, ◌++◌, map, replicate, codes, None}
 use Rattle.std.specs.List.{range_with_len}
+use Rattle.std.proofs.Common.{arith}
+use Rattle.layout_map.specs.declared.sizes.TheConstants.{MOST_EXTENTS}
+use Rattle.extents.specs.declared.extent_layout.ExtentLayout.{ExtentLayout}
 use Rattle.sector_model.specs.declared.refusal.Refusal.TheVariants.{BadName, BadSize, Exists, TooManyVolumes, NoSpace, NoVolume, BadCount, OutOfRange}
 use Rattle.sector_model.specs.declared.refusal.Refusal.TheVariants.{WouldLose, NotMissing, Incomplete}
 use Rattle.layout_map.specs.declared.format.Format.TheVariants.{One}
@@ -11,32 +14,60 @@ use Rattle.volume_table.specs.VolumeStep.{OnSet, Reply, Done, Blocks, Volumes, P
 use Rattle.rebuild.specs.Rebuilding.{Complete, Position}
 use Rattle.volume_table.specs.SetReplies.{SetState, Devices, set_reply, set_after}
 
+-- so many extents of 64 blocks each
+abbrev pub of_64 : (count : ℕ) → count ≤ MOST_EXTENTS → ExtentLayout
+of_64 count most = record {
+  first = 64;
+  blocks = 64;
+  count = count;
+  limits = record { above = omega arith; some = omega arith; most = most; fits = omega arith };
+}
+
+-- the extents of a set of 3 members, 8 sectors a chunk and 32 stripes, of format 1 and of format 2
+abbrev pub seven : ExtentLayout
+seven = of_64 7 (omega arith)
+
+abbrev pub twenty_eight : ExtentLayout
+twenty_eight = record {
+  first = 64;
+  blocks = 16;
+  count = 28;
+  limits = record { above = omega arith; some = omega arith; most = omega arith; fits = omega arith };
+}
+
 -- the replies to commands, one after another
-abbrev pub replies : ℕ → List Command → VolumeMap → List Reply
+abbrev pub replies : ExtentLayout → List Command → VolumeMap → List Reply
 replies extents [] volumes = []
 replies extents (command ∷ commands) volumes = reply_to extents command volumes ∷ replies extents commands (volumes_after extents command volumes)
 
 -- a set of 7 extents is full with 448 blocks
 abbrev pub FillThenNoSpace : Type 0
-FillThenNoSpace = replies 7 (Create (codes "a") 448 ∷ Create (codes "b") 1 ∷ []) no_volumes ≡ Done ∷ Refused NoSpace ∷ []
+FillThenNoSpace = replies seven (Create (codes "a") 448 ∷ Create (codes "b") 1 ∷ []) no_volumes ≡ Done ∷ Refused NoSpace ∷ []
 
 -- and 449 are one too many
 abbrev pub OneBlockTooMany : Type 0
-OneBlockTooMany = replies 7 (Create (codes "a") 449 ∷ Names ∷ []) no_volumes ≡ Refused NoSpace ∷ Volumes [] ∷ []
+OneBlockTooMany = replies seven (Create (codes "a") 449 ∷ Names ∷ []) no_volumes ≡ Refused NoSpace ∷ Volumes [] ∷ []
+
+-- 28 extents of 16 blocks are as many blocks, in more volumes
+abbrev pub SmallerExtents : Type 0
+SmallerExtents = (replies twenty_eight (Create (codes "a") 449 ∷ Create (codes "a") 448 ∷ Create (codes "b") 1 ∷ []) no_volumes
+    ≡ Refused NoSpace ∷ Done ∷ Refused NoSpace ∷ [])
+    × (replies twenty_eight (Create (codes "a") 17 ∷ Create (codes "b") 417 ∷ Create (codes "b") 416 ∷ Extend (codes "a") 15 ∷ Extend (codes "a") 1 ∷ []) no_volumes
+    ≡ Done ∷ Refused NoSpace ∷ Done ∷ Done ∷ Refused NoSpace ∷ [])
 
 abbrev pub ExtendIntoNewExtent : Type 0
-ExtendIntoNewExtent = replies 7 (Create (codes "a") 64 ∷ Extend (codes "a") 1 ∷ Read (codes "a") 64 1 ∷ []) no_volumes ≡ Done ∷ Done ∷ Blocks (zero_block ∷ [])
+ExtendIntoNewExtent = replies seven (Create (codes "a") 64 ∷ Extend (codes "a") 1 ∷ Read (codes "a") 64 1 ∷ []) no_volumes ≡ Done ∷ Done ∷ Blocks (zero_block ∷ [])
     ∷ []
 
 -- growth keeps the last block and appends zeros
 abbrev pub ExtendKeepsAndZeroes : Type 0
-ExtendKeepsAndZeroes = (block : Block) → replies 7 (Create (codes "a") 10 ∷ Write (codes "a") 9 (block ∷ []) ∷ Extend (codes "a") 10 ∷ Read (codes "a") 9 2
+ExtendKeepsAndZeroes = (block : Block) → replies seven (Create (codes "a") 10 ∷ Write (codes "a") 9 (block ∷ []) ∷ Extend (codes "a") 10 ∷ Read (codes "a") 9 2
     ∷ []) no_volumes
     ≡ Done ∷ Done ∷ Done ∷ Blocks (block ∷ zero_block ∷ []) ∷ []
 
 -- blocks of a volume that is gone are zero in the next
 abbrev pub ReusedIsZero : Type 0
-ReusedIsZero = (block : Block) → replies 7
+ReusedIsZero = (block : Block) → replies seven
     (Create (codes "a") 128 ∷ Write (codes "a") 0 (replicate 32 block) ∷ Write (codes "a") 32 (replicate 32 block) ∷ Write (codes "a") 64 (replicate 32 block)
     ∷ Remove (codes "a") ∷ Create (codes "b") 10 ∷ Extend (codes "b") 118 ∷ Read (codes "b") 0 1 ∷ Read (codes "b") 10 1 ∷ Read (codes "b") 64 1 ∷ [])
     no_volumes
@@ -44,34 +75,34 @@ ReusedIsZero = (block : Block) → replies 7
 
 -- 32 blocks are written at most, and 1 at least
 abbrev pub ThirtyTwoBlocks : Type 0
-ThirtyTwoBlocks = (block : Block) → replies 7 (Create (codes "a") 128 ∷ Write (codes "a") 48 (replicate 32 block) ∷ Write (codes "a") 48 (replicate 33 block)
+ThirtyTwoBlocks = (block : Block) → replies seven (Create (codes "a") 128 ∷ Write (codes "a") 48 (replicate 32 block) ∷ Write (codes "a") 48 (replicate 33 block)
     ∷ Write (codes "a") 48 [] ∷ []) no_volumes
     ≡ Done ∷ Done ∷ Refused BadCount ∷ Refused BadCount ∷ []
 
 -- a write past the end writes nothing
 abbrev pub WriteOutOfRange : Type 0
-WriteOutOfRange = (first second : Block) → replies 7 (Create (codes "a") 64 ∷ Write (codes "a") 63 (first ∷ second ∷ []) ∷ Read (codes "a") 63 1 ∷ [])
+WriteOutOfRange = (first second : Block) → replies seven (Create (codes "a") 64 ∷ Write (codes "a") 63 (first ∷ second ∷ []) ∷ Read (codes "a") 63 1 ∷ [])
     no_volumes
     ≡ Done ∷ Refused OutOfRange ∷ Blocks (zero_block ∷ []) ∷ []
 
 abbrev pub RefusedCommands : Type 0
-RefusedCommands = replies 7 (Create (codes "A") 0 ∷ Create (codes "a") 0 ∷ Create (codes "a") 65537 ∷ Read (codes "b") 0 0 ∷ Extend (codes "b") 0
+RefusedCommands = replies seven (Create (codes "A") 0 ∷ Create (codes "a") 0 ∷ Create (codes "a") 65537 ∷ Read (codes "b") 0 0 ∷ Extend (codes "b") 0
     ∷ Remove (codes "b") ∷ []) no_volumes
     ≡ Refused BadName ∷ Refused BadSize ∷ Refused BadSize ∷ Refused NoVolume ∷ Refused NoVolume ∷ Refused NoVolume ∷ []
 
 -- 65,536 blocks are a volume that needs 1,024 extents
 abbrev pub LargestVolume : Type 0
-LargestVolume = (reply_to 1024 (Create (codes "a") 65536) no_volumes ≡ Done) × (reply_to 1023 (Create (codes "a") 65536) no_volumes ≡ Refused NoSpace)
+LargestVolume = (reply_to (of_64 1024 (omega arith)) (Create (codes "a") 65536) no_volumes ≡ Done) × (reply_to (of_64 1023 (omega arith)) (Create (codes "a") 65536) no_volumes ≡ Refused NoSpace)
 
 -- 32 blocks are read at most, and 1 at least; the name is looked at first, then the number, then the range
 abbrev pub ReadsAtTheLimits : Type 0
-ReadsAtTheLimits = replies 7 (Create (codes "a") 40 ∷ Read (codes "a") 8 32 ∷ Read (codes "a") 9 32 ∷ Read (codes "a") 0 33 ∷ Read (codes "a") 0 0
+ReadsAtTheLimits = replies seven (Create (codes "a") 40 ∷ Read (codes "a") 8 32 ∷ Read (codes "a") 9 32 ∷ Read (codes "a") 0 33 ∷ Read (codes "a") 0 0
     ∷ Read (codes "a") 99 33 ∷ Read (codes "b") 99 33 ∷ []) no_volumes
     ≡ Done ∷ Blocks (replicate 32 zero_block) ∷ Refused OutOfRange ∷ Refused BadCount ∷ Refused BadCount ∷ Refused BadCount ∷ Refused NoVolume ∷ []
 
 -- names of 24 bytes, and of 25; a name begins with a letter
 abbrev pub NamesAtTheLimits : Type 0
-NamesAtTheLimits = replies 7 (Create (codes "a23456789-123456789_1234") 1 ∷ Create (codes "a23456789-123456789_12345") 1 ∷ Create (codes "1a") 1
+NamesAtTheLimits = replies seven (Create (codes "a23456789-123456789_1234") 1 ∷ Create (codes "a23456789-123456789_12345") 1 ∷ Create (codes "1a") 1
     ∷ Create (codes "-a") 1 ∷ Create (codes "aB") 1 ∷ Create [] 1 ∷ []) no_volumes
     ≡ Done ∷ replicate 5 (Refused BadName)
 
@@ -81,29 +112,29 @@ numbered_name n = 118 ∷ (48 + n / 10) ∷ (48 + n % 10) ∷ []
 
 -- 32 volumes of a block each need 32 of 33 extents, and there may be no 33rd volume
 abbrev pub ThirtyTwoVolumes : Type 0
-ThirtyTwoVolumes = replies 33 (map (λ n. Create (numbered_name n) 1) (range_with_len 0 32) ++ Create (codes "w") 1 ∷ []) no_volumes ≡ replicate 32 Done
+ThirtyTwoVolumes = replies (of_64 33 (omega arith)) (map (λ n. Create (numbered_name n) 1) (range_with_len 0 32) ++ Create (codes "w") 1 ∷ []) no_volumes ≡ replicate 32 Done
     ++ Refused TooManyVolumes ∷ []
 
 -- with a table of version 2 there may be 64
 abbrev pub SixtyFourVolumes : Type 0
-SixtyFourVolumes = replies 64 (map (λ n. Create (numbered_name n) 1) (range_with_len 0 32) ++ Create (codes "w") 1 ∷ Upgrade
+SixtyFourVolumes = replies (of_64 64 (omega arith)) (map (λ n. Create (numbered_name n) 1) (range_with_len 0 32) ++ Create (codes "w") 1 ∷ Upgrade
     ∷ map (λ n. Create (numbered_name n) 1) (range_with_len 32 32) ++ Create (codes "w") 1 ∷ []) no_volumes
     ≡ replicate 32 Done ++ Refused TooManyVolumes ∷ replicate 33 Done ++ Refused TooManyVolumes ∷ []
 
 -- and names of 63 bytes
 abbrev pub LongNames : Type 0
-LongNames = replies 7 (Create (replicate 25 97) 1 ∷ Upgrade ∷ Create (replicate 25 97) 1 ∷ Create (replicate 63 98) 1 ∷ Create (replicate 64 99) 1 ∷ Upgrade
+LongNames = replies seven (Create (replicate 25 97) 1 ∷ Upgrade ∷ Create (replicate 25 97) 1 ∷ Create (replicate 63 98) 1 ∷ Create (replicate 64 99) 1 ∷ Upgrade
     ∷ []) no_volumes
     ≡ Refused BadName ∷ Done ∷ Done ∷ Done ∷ Refused BadName ∷ Done ∷ []
 
 -- the list is in rising byte order, whatever the order of creation
 abbrev pub ListRises : Type 0
-ListRises = replies 7 (Create (codes "b") 3 ∷ Create (codes "a-") 2 ∷ Create (codes "a") 1 ∷ Names ∷ []) no_volumes
+ListRises = replies seven (Create (codes "b") 3 ∷ Create (codes "a-") 2 ∷ Create (codes "a") 1 ∷ Names ∷ []) no_volumes
     ≡ Done ∷ Done ∷ Done ∷ Volumes ((codes "a", 1) ∷ (codes "a-", 2) ∷ (codes "b", 3) ∷ []) ∷ []
 
 -- a volume that is renamed has its blocks and its length still; the old name is looked at first, then the new one, and a name that is kept is taken
 abbrev pub RenameScript : Type 0
-RenameScript = (block : Block) → replies 7
+RenameScript = (block : Block) → replies seven
     (Create (codes "a") 10 ∷ Write (codes "a") 0 (block ∷ []) ∷ Rename (codes "a") (codes "b") ∷ Read (codes "b") 0 1 ∷ Read (codes "a") 0 1
     ∷ Rename (codes "b") (codes "b") ∷ Rename (codes "a") (codes "B") ∷ Rename (codes "b") (codes "B") ∷ Names ∷ []) no_volumes
     ≡ Done ∷ Done ∷ Done ∷ Blocks (block ∷ []) ∷ Refused NoVolume ∷ Refused Exists ∷ Refused NoVolume ∷ Refused BadName ∷ Volumes ((codes "b", 10) ∷ []) ∷ []

@@ -6,6 +6,7 @@ use Rattle.volume_table.specs.VolumeStep.{Event, Reply, after, left_by}
 use Rattle.volume_table.specs.Stands.{IsSettledOn, StandsThroughout, StoreView}
 use Rattle.volume_table.specs.StoreCalls.{Applies, extents_for_store, lost_in}
 use Rattle.volume_table.specs.StoreFunctions.{Chain, none_done, then_done}
+use Rattle.extents.specs.declared.extent_layout.ExtentLayout.{ExtentLayout}
 
 -- what is lost goes from event to event, by what the table then lacks
 abbrev pub IsLostOver : {events : List Event} {acks : List ℕ} {old new : StoreView} → Chain (Unit {0}) events acks old new → (before after : Option Lost)
@@ -15,7 +16,7 @@ IsLostOver (then_done {old = old} mid event reply ack applies goes counted rest)
     (next : Option Lost) × IsLostAfter (lost_in event old.array.table before) mid.array.table next × IsLostOver rest next after
 
 -- a store is settled on the volumes after all events of a chain, with the slot lost that its table then lacks
-pub record IsSettledAfterEvents {events : List Event} {acks : List ℕ} {old new : StoreView} (extents : ℕ) (chain : Chain (Unit {0}) events acks old new)
+pub record IsSettledAfterEvents {events : List Event} {acks : List ℕ} {old new : StoreView} (extents : ExtentLayout) (chain : Chain (Unit {0}) events acks old new)
     (first : Option Lost) (before : VolumeMap) : Type 0 where
   pub lost : Option Lost
   pub is_lost : IsLostOver chain first lost
@@ -28,14 +29,14 @@ ChainKeepsVolumes = (events : List Event) (acks : List ℕ) (old new : StoreView
     → (length acks ≡ length events) × IsSettledAfterEvents (extents_for_store old) chain lost volumes
 
 -- each case that a crash in an event may leave stands for the volumes after the events before it, or for those after it too
-abbrev pub StandsOneMore : ℕ → List Event → Event → (old new : StoreView) → Option Lost → VolumeMap → Type 0
+abbrev pub StandsOneMore : ExtentLayout → List Event → Event → (old new : StoreView) → Option Lost → VolumeMap → Type 0
 StandsOneMore extents done event old new lost before = StandsThroughout old.array.table old.array.panel.devices (lost_in event old.array.table lost)
     (after extents done before (length done) ∷ left_by extents event (after extents done before (length done)) ∷ [])
     old.array.history new.array.history
 
 -- One of the events of a chain, with those before it and those after it: while it is done, each case that a crash may leave stands for the
 -- volumes before it or for those after it.
-pub record StandsInEvent (extents : ℕ) (done : List Event) (event : Event) (undone : List Event) (acks : List ℕ) (old new : StoreView) (first : Option Lost)
+pub record StandsInEvent (extents : ExtentLayout) (done : List Event) (event : Event) (undone : List Event) (acks : List ℕ) (old new : StoreView) (first : Option Lost)
     (before : VolumeMap) : Type 0 where
   pub mid : StoreView
   pub next : StoreView

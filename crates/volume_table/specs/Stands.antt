@@ -4,7 +4,6 @@ use Rattle.sector_model.specs.declared.refusal.Refusal.{Refusal}
 use Rattle.sector_model.specs.History.{Bytes, History, MayLeave, Slots}
 use Rattle.sector_model.specs.Moments.{Throughout}
 use Rattle.layout_map.specs.declared.geometry.Geometry.{Geometry}
-use Rattle.layout_map.specs.Placement.{extents_of}
 use Rattle.superblock.specs.declared.table.Table.{Table}
 use Rattle.superblock.specs.Cases.{Case, IsLostAfter, Lost}
 use Rattle.superblock.specs.Counted.{IsChosen}
@@ -14,14 +13,11 @@ use Rattle.array_io.specs.Believed.Holds.{Holds}
 use Rattle.array_io.specs.Laws.Starts.{Starts}
 use Rattle.array_io.specs.Believed.Fresh.{IsFresh, zeros_of}
 use Rattle.array_io.specs.Believed.Views.{ArrayView, RestsOn}
+use Rattle.extents.specs.SetExtents.{extents_in}
 use Rattle.extents.specs.declared.volume_table.VolumeTable.{VolumeTable}
 use Rattle.extents.specs.TableSpelling.{Spell}
 use Rattle.volume_table.specs.Volumes.{VolumeMap, no_volumes}
 use Rattle.volume_table.specs.Shows.{Shows}
-
--- how many extents a set has
-abbrev pub extents_in : Geometry → ℕ
-extents_in geometry = extents_of geometry.format geometry.members geometry.chunk geometry.stripes
 
 -- a logical list shows one of these maps of volumes
 pub record ShowsOneOf (geometry : Geometry) (maps : List VolumeMap) (logical : List Bytes) : Type 0 where

@@ -20,7 +20,9 @@ use Rattle.volume_table.specs.Volumes.{Block, VolumeMap}
 use Rattle.volume_table.specs.VolumeStep.{Blocks, Command, Create, Done, Event, Extend, Fail, Names, OnSet, OnVolumes, Refused, Remove, Rename, Replace, Reply}
 use Rattle.volume_table.specs.VolumeStep.{Scrub, Scrubbed, Upgrade, Volumes, Write, Read, left_by, reply_to}
 use Rattle.volume_table.specs.SetReplies.{AnswersSet, Devices, SetState, set_after, set_refusal}
-use Rattle.volume_table.specs.Stands.{IsSettledAfter, IsSettledOn, StandsThroughout, StoreView, extents_in}
+use Rattle.volume_table.specs.Stands.{IsSettledAfter, IsSettledOn, StandsThroughout, StoreView}
+use Rattle.extents.specs.declared.extent_layout.ExtentLayout.{ExtentLayout}
+use Rattle.extents.specs.SetExtents.{extents_in}
 use Rattle.extents.specs.Versions.{most_blocks}
 use Rattle.extents.specs.declared.version.TheConstants.{LAST_VERSION}
 use Rattle.sector_model.specs.declared.calls.TheConstants.{GREATEST_COUNT}
@@ -39,8 +41,8 @@ pub record AreDevicesOf (honest : Type 0) (table : Table) (old new : Panel) (h :
   pub rows : devices.rows ≡ row_count table
   pub unsound : honest → AreUnsound table (readable h) devices.unsound
 
--- the number of extents of a store's set
-abbrev pub extents_for_store : StoreView → ℕ
+-- the extents of a store's set
+abbrev pub extents_for_store : StoreView → ExtentLayout
 extents_for_store store = extents_in store.array.table.geometry
 
 -- what is lost during an event: also the slot of a `fail` that is not refused

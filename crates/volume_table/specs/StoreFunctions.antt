@@ -14,7 +14,6 @@ use Rattle.std.specs.declared.alloc.Global.{Global}
 use Rattle.std.specs.declared.vec.Vec.{Vec}
 use Rattle.volume_table.specs.declared.status.Status.{Status}
 use Rattle.volume_table.specs.declared.listed.Listed.{Listed}
-use Rattle.extents.specs.Versions.{extent_blocks}
 use Rattle.volume_table.specs.Volumes.{Block, VolumeMap, need}
 use Rattle.volume_table.specs.VolumeStep.{Blocks, Create, Done, Event, Extend, Fail, Names, OnSet, OnVolumes, Progressed, Read, RebuildStep, Refused, Remove}
 use Rattle.volume_table.specs.VolumeStep.{Rename, Replace, Reply, Scrub, Scrubbed, Upgrade, Volumes, Write}
@@ -127,9 +126,9 @@ pub record IsStatusOf (store : StoreView) (status : StatusView) : Type 0 where
   pub states : (slot : ℕ) → slot < slots_of store.array.table → state_at status.states slot ≡ state_at store.array.table.states slot
   pub incarnations : (slot : ℕ) → slot < slots_of store.array.table
       → incarnation_at status.incarnations slot ≡ incarnation_at store.array.table.incarnations slot
-  pub extents : status.extents ≡ extents_for_store store
+  pub extents : status.extents ≡ (extents_for_store store).count
   pub free : (lost : Option Lost) (those : VolumeMap) → IsSettledOn store lost those
-      → status.free ≡ extents_for_store store - need (extent_blocks those.version) those.volumes
+      → status.free ≡ (extents_for_store store).count - need (extents_for_store store).blocks those.volumes
   pub volumes : (lost : Option Lost) (those : VolumeMap) → IsSettledOn store lost those → status.volumes ≡ length those.volumes
   pub version : (lost : Option Lost) (those : VolumeMap) → IsSettledOn store lost those → status.version ≡ those.version
 

@@ -5,9 +5,10 @@ use Rattle.sector_model.specs.declared.refusal.Refusal.{Refusal}
 use Rattle.sector_model.specs.declared.refusal.Refusal.TheVariants.{BadName, BadSize, Exists, TooManyVolumes, NoSpace, NoVolume, BadCount, OutOfRange}
 use Rattle.rebuild.specs.Rebuilding.{Progress}
 use Rattle.volume_table.specs.Names.{is_good_name}
+use Rattle.extents.specs.declared.extent_layout.ExtentLayout.{ExtentLayout}
 use Rattle.extents.specs.VolumeTables.{extents_for}
 use Rattle.volume_table.specs.Volumes.{Block, IsBlock, zero_block, VolumeList, VolumeMap, blocks_of, with_volume, without, need}
-use Rattle.extents.specs.Versions.{extent_blocks, most_blocks, most_volumes}
+use Rattle.extents.specs.Versions.{most_blocks, most_volumes}
 use Rattle.extents.specs.declared.version.TheConstants.{LAST_VERSION}
 use Rattle.volume_table.specs.declared.event.TheConstants.{MOST_BLOCKS_AT_ONCE}
 
@@ -118,19 +119,19 @@ checks_within name at count volumes =
     ∷ (nat_lt (length (blocks_in name volumes)) (at + count), OutOfRange)
     ∷ []
 
--- what a command is refused with in a set with so many extents and a table of this version, in this order
-abbrev pub checks : (extents version : ℕ) → Command → VolumeList → List Check
+-- what a command is refused with in a set with these extents and a table of this version, in this order
+abbrev pub checks : (extents : ExtentLayout) (version : ℕ) → Command → VolumeList → List Check
 checks extents version (Create name count) volumes =
     (not (is_good_name version name), BadName)
     ∷ (is_bad_size (most_blocks version) count, BadSize)
     ∷ (is_some (blocks_of name volumes), Exists)
     ∷ (nat_le (most_volumes version) (length volumes), TooManyVolumes)
-    ∷ (nat_lt extents (need (extent_blocks version) volumes + extents_for (extent_blocks version) count), NoSpace)
+    ∷ (nat_lt extents.count (need extents.blocks volumes + extents_for extents.blocks count), NoSpace)
     ∷ []
 checks extents version (Extend name growth) volumes =
     (has_no_volume name volumes, NoVolume)
     ∷ (growth == 0 || nat_lt (most_blocks version) (length (blocks_in name volumes) + growth), BadSize)
-    ∷ (nat_lt extents (need (extent_blocks version) (changed (Extend name growth) volumes)), NoSpace)
+    ∷ (nat_lt extents.count (need extents.blocks (changed (Extend name growth) volumes)), NoSpace)
     ∷ []
 checks extents version (Remove name) volumes = (has_no_volume name volumes, NoVolume) ∷ []
 checks extents version (Read name at count) volumes = checks_within name at count volumes
@@ -148,7 +149,7 @@ abbrev pub first_refusal : List Check → Option Refusal
 first_refusal [] = None
 first_refusal (check ∷ checks) = if check.0 then Some check.1 else first_refusal checks
 
-abbrev pub refusal_of : ℕ → Command → VolumeMap → Option Refusal
+abbrev pub refusal_of : ExtentLayout → Command → VolumeMap → Option Refusal
 refusal_of extents command volumes = first_refusal (checks extents volumes.version command volumes.volumes)
 
 abbrev pub or_refused : Option Refusal → Reply → Reply
@@ -159,25 +160,25 @@ abbrev pub unless_refused : Option Refusal → VolumeMap → VolumeMap → Volum
 unless_refused None new volumes = new
 unless_refused (Some refusal) new volumes = volumes
 
-abbrev pub reply_to : ℕ → Command → VolumeMap → Reply
+abbrev pub reply_to : ExtentLayout → Command → VolumeMap → Reply
 reply_to extents command volumes = or_refused (refusal_of extents command volumes) (answer command volumes.volumes)
 
 -- the volumes after a command that is not refused
 abbrev pub done : Command → VolumeMap → VolumeMap
 done command volumes = record { version = version_after command volumes.version; volumes = changed command volumes.volumes }
 
-abbrev pub volumes_after : ℕ → Command → VolumeMap → VolumeMap
+abbrev pub volumes_after : ExtentLayout → Command → VolumeMap → VolumeMap
 volumes_after extents command volumes = unless_refused (refusal_of extents command volumes) (done command volumes) volumes
 
 -- a command's reply, and the volumes after it
-abbrev pub step : ℕ → Command → VolumeMap → Reply × VolumeMap
+abbrev pub step : ExtentLayout → Command → VolumeMap → Reply × VolumeMap
 step extents command volumes = (reply_to extents command volumes, volumes_after extents command volumes)
 
 -- the volumes after an event
-abbrev pub left_by : ℕ → Event → VolumeMap → VolumeMap
+abbrev pub left_by : ExtentLayout → Event → VolumeMap → VolumeMap
 left_by extents (OnVolumes command) volumes = volumes_after extents command volumes
 left_by extents (OnSet command) volumes = volumes
 
 -- the volumes after the first n of the events
-abbrev pub after : ℕ → List Event → VolumeMap → ℕ → VolumeMap
+abbrev pub after : ExtentLayout → List Event → VolumeMap → ℕ → VolumeMap
 after extents events volumes n = fold (λ left event. left_by extents event left) volumes (take n events)

@@ -2,9 +2,10 @@
 use Rattle.std.specs.Prelude.{◌≡◌, ℕ, ◌+◌, ◌≤◌, IsTrue, if◌then◌else◌, not, List, [], ◌∷◌, length, map, filter, replicate, All, Option, Some, None}
 use Rattle.std.specs.List.Sorted.{IsStrictlySortedBy}
 use Rattle.std.specs.Ordering.{match_ordering}
+use Rattle.extents.specs.declared.extent_layout.ExtentLayout.{ExtentLayout}
 use Rattle.extents.specs.VolumeTables.{extents_for}
 use Rattle.volume_table.specs.Names.{name_order, is_same_name, is_good_name}
-use Rattle.extents.specs.Versions.{IsVersion, extent_blocks, most_blocks, most_volumes}
+use Rattle.extents.specs.Versions.{IsVersion, most_blocks, most_volumes}
 use Rattle.extents.specs.declared.version.TheConstants.{FIRST_VERSION}
 
 -- the bytes of a block
@@ -66,10 +67,10 @@ pub record IsVolume (version : ℕ) (volume : Volume) : Type 0 where
   pub most : length volume.blocks ≤ most_blocks version
   pub whole : All IsBlock volume.blocks
 
--- volumes that a set with so many extents may have
-pub record AreVolumes (extents : ℕ) (volumes : VolumeMap) : Type 0 where
+-- volumes that a set with these extents may have
+pub record AreVolumes (extents : ExtentLayout) (volumes : VolumeMap) : Type 0 where
   pub is_version : IsVersion volumes.version
   pub few : length volumes.volumes ≤ most_volumes volumes.version
   pub each : All (IsVolume volumes.version) volumes.volumes
   pub rising : IsStrictlySortedBy name_order (names volumes.volumes)
-  pub within : need (extent_blocks volumes.version) volumes.volumes ≤ extents
+  pub within : need extents.blocks volumes.volumes ≤ extents.count

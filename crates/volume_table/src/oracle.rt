@@ -1,26 +1,25 @@
 //! Which volumes a logical list shows: the definitions, run over a list in memory, plain and slow. Tests compare with
 //! it, and nothing else uses it.
 ghost use Rattle.std.specs.Prelude.{◌≡◌, ◌<◌, ℕ, length, take, Some, None, IfSome, MatchOption};
-ghost use Rattle.extents.specs.Checks.{AreFreeFrom};
+ghost use Rattle.extents.specs.SetExtents.{IsOfSet};
 ghost use Rattle.extents.specs.Owners.{IsAt};
 ghost use Rattle.extents.specs.TableSpelling.{Spell};
 ghost use Rattle.volume_table.specs.Volumes.{VolumeMap};
 ghost use Rattle.volume_table.specs.Shows.{Shows};
 ghost use Rattle.volume_table.specs.Oracle.{block_at, block_count};
 
-use extents::{Owned, TABLE_SECTORS, VolumeTable, table_length};
-use layout_map::{EXTENT_SECTORS, RESERVED_SECTORS};
+use extents::{ExtentLayout, Owned, TABLE_SECTORS, VolumeTable, table_length};
 use sector_model::Sector;
 
-/// The table of volumes in the first sectors of a logical list, of a set with so many extents.
+/// The table of volumes in the first sectors of a logical list, of a set whose extents lie so.
 ///
-/// `None` where there are fewer sectors than a table of its version has, where these spell no table, and where an
-/// extent that the set does not have is in use. The list then shows no map of volumes, not even the empty one.
-pub fn table_shown(sectors: &[Sector], extents: u32) -> Option<VolumeTable>
+/// `None` where there are fewer sectors than a table of its version has, and where these spell no table
+/// of such a set. The list then shows no map of volumes, not even the empty one.
+pub fn table_shown(sectors: &[Sector], extents: &ExtentLayout) -> Option<VolumeTable>
     ensures some { IfSome result (λ t. Spell sectors.now t) }
-    ensures free { IfSome result (λ t. AreFreeFrom t.extents extents) }
-    ensures exact { (volumes : VolumeMap) (shows : Shows extents sectors.now volumes) → result ≡ Some shows.table }
-    ensures none { result ≡ None → (volumes : VolumeMap) → Shows extents sectors.now volumes → ⊥ }
+    ensures of_set { IfSome result (λ t. IsOfSet extents.now t) }
+    ensures exact { (volumes : VolumeMap) (shows : Shows extents.now sectors.now volumes) → result ≡ Some shows.table }
+    ensures none { result ≡ None → (volumes : VolumeMap) → Shows extents.now sectors.now volumes → ⊥ }
 {
     let mut first = [[0; 512]; TABLE_SECTORS];
     let there = sectors.len().min(TABLE_SECTORS);
@@ -33,30 +32,34 @@ pub fn table_shown(sectors: &[Sector], extents: u32) -> Option<VolumeTable>
     }
 }
 
-/// Block `at`, from 0, of the volume of this name in a logical list of a set with so many extents.
+/// Block `at`, from 0, of the volume of this name in a logical list of a set whose extents lie so.
 ///
 /// Where the list shows a map of volumes: `None` where that has no volume of this name, or the volume `at` blocks or
 /// fewer.
-pub fn block_shown(sectors: &[Sector], extents: u32, name: &[u8], at: u32) -> Option<Sector>
-    ensures { (volumes : VolumeMap) → Shows extents sectors.now volumes → result ≡ block_at name.now at volumes }
+pub fn block_shown(
+    sectors: &[Sector],
+    extents: &ExtentLayout,
+    name: &[u8],
+    at: u32,
+) -> Option<Sector>
+    ensures { (volumes : VolumeMap) → Shows extents.now sectors.now volumes → result ≡ block_at name.now at volumes }
 {
     let table = table_shown(sectors, extents)?;
     let found = table.record_named(name)?;
     if found.count <= at {
         return None;
     }
-    let extent = extent_at(&table.extents, found.number, at / EXTENT_SECTORS as u32)?;
-    let sector = RESERVED_SECTORS as usize
-        + EXTENT_SECTORS as usize * extent
-        + (at % EXTENT_SECTORS as u32) as usize;
-    sectors.get(sector).copied()
+    let at = u64::from(at);
+    let extent = extent_at(&table.extents, found.number, (at / extents.blocks) as u32)?;
+    let sector = extents.first + extent as u64 * extents.blocks + at % extents.blocks;
+    sectors.get(sector as usize).copied()
 }
 
-/// How many blocks the volume of this name has in a logical list of a set with so many extents.
+/// How many blocks the volume of this name has in a logical list of a set whose extents lie so.
 ///
 /// Where the list shows a map of volumes: `None` where that has no volume of this name.
-pub fn blocks_in_volume(sectors: &[Sector], extents: u32, name: &[u8]) -> Option<u32>
-    ensures { (volumes : VolumeMap) → Shows extents sectors.now volumes → result ≡ block_count name.now volumes }
+pub fn blocks_in_volume(sectors: &[Sector], extents: &ExtentLayout, name: &[u8]) -> Option<u32>
+    ensures { (volumes : VolumeMap) → Shows extents.now sectors.now volumes → result ≡ block_count name.now volumes }
 {
     let table = table_shown(sectors, extents)?;
     let found = table.record_named(name)?;

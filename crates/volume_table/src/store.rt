@@ -4,7 +4,7 @@ ghost use Rattle.layout_map.specs.declared.format.Format.TheVariants.{One};
 ghost use Rattle.sector_model.specs.declared.refusal.Refusal.{Refusal};
 ghost use Rattle.array_io.specs.Believed.Views.{EndsIt, HasEnded};
 ghost use Rattle.volume_table.specs.Admission.{AreKept};
-ghost use Rattle.volume_table.specs.Stands.{extents_in};
+ghost use Rattle.extents.specs.SetExtents.{extents_in};
 
 use array_io::Array;
 use extents::{ExtentMap, VolumeTable};

@@ -3,13 +3,14 @@ ghost use Rattle.volume_table.specs.Rows.{FillThenNoSpace, OneBlockTooMany, Exte
 ghost use Rattle.volume_table.specs.Rows.{ReusedIsZero, ThirtyTwoBlocks, WriteOutOfRange, RefusedCommands};
 ghost use Rattle.volume_table.specs.Rows.{LargestVolume, ReadsAtTheLimits, NamesAtTheLimits, ThirtyTwoVolumes};
 ghost use Rattle.volume_table.specs.Rows.{SixtyFourVolumes, LongNames, RenameScript, ListRises, FailRefusals};
-ghost use Rattle.volume_table.specs.Rows.{RebuildInSteps, RebuildPositions, JournalJoins};
+ghost use Rattle.volume_table.specs.Rows.{SmallerExtents, RebuildInSteps, RebuildPositions, JournalJoins};
 
 /// Small runs of commands, worked out by hand: what the laws leave open of the numbers, the order of the refusals and
 /// the list. It computes nothing.
 pub fn worked_rows()
     ensures full { FillThenNoSpace }
     ensures one_too_many { OneBlockTooMany }
+    ensures smaller_extents { SmallerExtents }
     ensures new_extent { ExtendIntoNewExtent }
     ensures extend { ExtendKeepsAndZeroes }
     ensures reused { ReusedIsZero }

@@ -1,11 +1,11 @@
 //! Whether a command on volumes is admitted.
-ghost use Rattle.std.specs.Prelude.{ℕ, ◌≡◌, ◌≢◌, ◌<◌, ◌≤◌, ◌+◌, ◌∷◌, [], List, Some, None, Contains, IfOk, IfErr};
+ghost use Rattle.std.specs.Prelude.{ℕ, ◌≡◌, ◌≢◌, ◌<◌, ◌+◌, ◌∷◌, [], List, Some, None, Contains, IfOk, IfErr};
 ghost use Rattle.std.specs.Prelude.{MatchOption};
 ghost use Rattle.sector_model.specs.declared.refusal.Refusal.TheVariants.{BadCount, BadName, BadSize, Exists, NoSpace};
 ghost use Rattle.sector_model.specs.declared.refusal.Refusal.TheVariants.{NoVolume, OutOfRange, TooManyVolumes};
+ghost use Rattle.extents.specs.declared.extent_layout.ExtentLayout.{ExtentLayout};
 ghost use Rattle.extents.specs.Versions.{most_volumes};
 ghost use Rattle.extents.specs.VolumeTables.{IsRecordFor, record_of};
-ghost use Rattle.layout_map.specs.declared.sizes.TheConstants.{MOST_EXTENTS};
 ghost use Rattle.volume_table.specs.Admission.{AreKept, HasRecordAt, IsFirstUnused, IsWithinVolume, MayGrowTo};
 ghost use Rattle.volume_table.specs.Admission.{MayRename, ShowsBy, refusal_in};
 ghost use Rattle.volume_table.specs.Volumes.{Block, VolumeMap};
@@ -16,7 +16,7 @@ use super::growing::Growth;
 use super::renaming::Renaming;
 use crate::event::MOST_BLOCKS_AT_ONCE;
 use extents::{
-    ExtentMap, MOST_VOLUMES, Name, Record, VolumeTable, extents_for, most_blocks, most_name_bytes,
+    ExtentLayout, ExtentMap, MOST_VOLUMES, Name, Record, VolumeTable, most_blocks, most_name_bytes,
     most_volumes,
 };
 use sector_model::Refusal;
@@ -25,7 +25,7 @@ use sector_model::Refusal;
 pub fn admit_removal(table: &VolumeTable, name: &[u8]) -> Result<u8, Refusal>
     ensures found { IfOk result (λ number. ∥ HasRecordAt table.now.records name.now number ∥₁) }
     ensures listed { IfErr result (λ refusal. refusal ≡ NoVolume) }
-    ensures decides { (extents : ℕ) (sectors : List Block) (volumes : VolumeMap)
+    ensures decides { (extents : ExtentLayout) (sectors : List Block) (volumes : VolumeMap)
         → ShowsBy extents table.now sectors volumes
         → refusal_in result ≡ refusal_of extents (Remove name.now) volumes }
 {
@@ -40,7 +40,7 @@ pub fn admit_removal(table: &VolumeTable, name: &[u8]) -> Result<u8, Refusal>
 pub fn admit_within(table: &VolumeTable, name: &[u8], at: u32, count: usize) -> Result<u8, Refusal>
     ensures found { IfOk result (λ number. ∥ IsWithinVolume table.now.records name.now number at count ∥₁) }
     ensures listed { IfErr result (λ refusal. Contains (NoVolume ∷ BadCount ∷ OutOfRange ∷ []) refusal) }
-    ensures decides { (extents : ℕ) (sectors : List Block) (volumes : VolumeMap)
+    ensures decides { (extents : ExtentLayout) (sectors : List Block) (volumes : VolumeMap)
         → ShowsBy extents table.now sectors volumes
         → refusal_in result ≡ first_refusal (checks_within name.now at count volumes.volumes) }
 {
@@ -64,7 +64,7 @@ pub fn admit_rename(table: &VolumeTable, old: &[u8], new: &[u8]) -> Result<Renam
     ensures used { IfOk result (λ renaming. ∥ HasRecordAt table.now.records old.now renaming.volume ∥₁) }
     ensures named { IfOk result (λ renaming. renaming.entry.name.bytes.items ≡ new.now) }
     ensures listed { IfErr result (λ refusal. Contains (NoVolume ∷ BadName ∷ Exists ∷ []) refusal) }
-    ensures decides { (extents : ℕ) (sectors : List Block) (volumes : VolumeMap)
+    ensures decides { (extents : ExtentLayout) (sectors : List Block) (volumes : VolumeMap)
         → ShowsBy extents table.now sectors volumes
         → refusal_in result ≡ refusal_of extents (Rename old.now new.now) volumes }
 {
@@ -86,26 +86,27 @@ pub fn admit_rename(table: &VolumeTable, old: &[u8], new: &[u8]) -> Result<Renam
     })
 }
 
-/// The new volume that a `create` makes. Its record is the lowest one that is not used.
+/// The new volume that a `create` makes in a set whose extents lie so. Its record is the lowest one that is not used.
 ///
 /// Refused, in this order, with `BadName`, `BadSize` where the blocks are 0 or above 65,536, `Exists`, `TooManyVolumes`
 /// where each record of the table's version is used, and `NoSpace` where too few extents are free.
 pub fn admit_creation(
     table: &VolumeTable,
     map: &ExtentMap,
+    extents: &ExtentLayout,
     name: &[u8],
     blocks: u32,
 ) -> Result<Growth, Refusal>
-    ensures may { IfOk result (λ growth. MayGrowTo table.now.version table.now.records map.now growth.volume
-        growth.first growth.entry) }
+    ensures may { IfOk result (λ growth. MayGrowTo extents.now table.now.version table.now.records map.now
+        growth.volume growth.first growth.entry) }
     ensures lowest { IfOk result (λ growth. IsFirstUnused table.now.version table.now.records growth.volume) }
     ensures named { IfOk result (λ growth. growth.entry.name.bytes.items ≡ name.now) }
     ensures blocks { IfOk result (λ growth. growth.entry.blocks ≡ blocks) }
     ensures listed { IfErr result (λ refusal. Contains (BadName ∷ BadSize ∷ Exists ∷ TooManyVolumes ∷ NoSpace ∷ [])
         refusal) }
-    ensures decides { (extents : ℕ) (sectors : List Block) (volumes : VolumeMap) → extents ≤ MOST_EXTENTS
-        → AreKept extents table.now map.now → ShowsBy extents table.now sectors volumes
-        → refusal_in result ≡ refusal_of extents (Create name.now blocks) volumes }
+    ensures decides { (sectors : List Block) (volumes : VolumeMap) → AreKept extents.now table.now map.now
+        → ShowsBy extents.now table.now sectors volumes
+        → refusal_in result ≡ refusal_of extents.now (Create name.now blocks) volumes }
 {
     let Some(name) = Name::new(name) else {
         return Err(Refusal::BadName);
@@ -123,7 +124,7 @@ pub fn admit_creation(
     let Some(volume) = first_unused(table.version, &table.records) else {
         return Err(Refusal::TooManyVolumes);
     };
-    if extents_for(table.version, blocks) > map.free_count() {
+    if extents.extents_for(blocks) > map.free_count() {
         return Err(Refusal::NoSpace);
     }
     Ok(Growth {
@@ -133,25 +134,26 @@ pub fn admit_creation(
     })
 }
 
-/// The new blocks that an `extend` gives a volume.
+/// The new blocks that an `extend` gives a volume of a set whose extents lie so.
 ///
 /// Refused, in this order, with `NoVolume`, `BadSize` where the growth is 0 or the volume would have more than 65,536
 /// blocks, and `NoSpace` where too few extents are free.
 pub fn admit_extension(
     table: &VolumeTable,
     map: &ExtentMap,
+    extents: &ExtentLayout,
     name: &[u8],
     by: u32,
 ) -> Result<Growth, Refusal>
-    ensures may { IfOk result (λ growth. MayGrowTo table.now.version table.now.records map.now growth.volume
-        growth.first growth.entry) }
+    ensures may { IfOk result (λ growth. MayGrowTo extents.now table.now.version table.now.records map.now
+        growth.volume growth.first growth.entry) }
     ensures named { IfOk result (λ growth. growth.entry.name.bytes.items ≡ name.now) }
     ensures used { IfOk result (λ growth. ∥ IsRecordFor table.now.records name.now growth.volume growth.first ∥₁) }
     ensures blocks { IfOk result (λ growth. growth.entry.blocks ≡ growth.first + by) }
     ensures listed { IfErr result (λ refusal. Contains (NoVolume ∷ BadSize ∷ NoSpace ∷ []) refusal) }
-    ensures decides { (extents : ℕ) (sectors : List Block) (volumes : VolumeMap) → extents ≤ MOST_EXTENTS
-        → AreKept extents table.now map.now → ShowsBy extents table.now sectors volumes
-        → refusal_in result ≡ refusal_of extents (Extend name.now by) volumes }
+    ensures decides { (sectors : List Block) (volumes : VolumeMap) → AreKept extents.now table.now map.now
+        → ShowsBy extents.now table.now sectors volumes
+        → refusal_in result ≡ refusal_of extents.now (Extend name.now by) volumes }
 {
     let found = table.record_named(name).ok_or(Refusal::NoVolume)?;
     let room = most_blocks(table.version) - found.count;
@@ -159,8 +161,7 @@ pub fn admit_extension(
         return Err(Refusal::BadSize);
     }
     let blocks = found.count + by;
-    let version = table.version;
-    if extents_for(version, blocks) - extents_for(version, found.count) > map.free_count() {
+    if extents.extents_for(blocks) - extents.extents_for(found.count) > map.free_count() {
         return Err(Refusal::NoSpace);
     }
     let Some(name) = Name::new(name) else {

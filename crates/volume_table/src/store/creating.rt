@@ -8,6 +8,7 @@ ghost use Rattle.volume_table.specs.OpenStore.{store_view};
 use super::Store;
 use super::admission::admit_creation;
 use super::growing::grow;
+use extents::ExtentLayout;
 use sector_model::{Bank, Refusal};
 
 impl<B: Bank> Store<B> {
@@ -30,7 +31,8 @@ impl<B: Bank> Store<B> {
         if let Some(refusal) = self.ended {
             return Err(refusal);
         }
-        let growth = admit_creation(&self.table, &self.map, name, blocks)?;
+        let extents = ExtentLayout::of(&self.array.table.geometry);
+        let growth = admit_creation(&self.table, &self.map, &extents, name, blocks)?;
         let answer = grow(&mut self.array, &mut self.table, &mut self.map, growth);
         self.end(answer)
     }

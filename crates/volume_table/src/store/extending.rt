@@ -7,6 +7,7 @@ ghost use Rattle.volume_table.specs.OpenStore.{store_view};
 use super::Store;
 use super::admission::admit_extension;
 use super::growing::grow;
+use extents::ExtentLayout;
 use sector_model::{Bank, Refusal};
 
 impl<B: Bank> Store<B> {
@@ -25,7 +26,8 @@ impl<B: Bank> Store<B> {
         if let Some(refusal) = self.ended {
             return Err(refusal);
         }
-        let growth = admit_extension(&self.table, &self.map, name, by)?;
+        let extents = ExtentLayout::of(&self.array.table.geometry);
+        let growth = admit_extension(&self.table, &self.map, &extents, name, by)?;
         let answer = grow(&mut self.array, &mut self.table, &mut self.map, growth);
         self.end(answer)
     }

@@ -4,16 +4,15 @@ ghost use Rattle.layout_map.specs.declared.format.Format.TheVariants.{One};
 ghost use Rattle.array_io.specs.Believed.OpenArray.{IsHonest, array_view};
 ghost use Rattle.extents.specs.ExtentMaps.{IsTaken};
 ghost use Rattle.extents.specs.VolumeTables.{extents_for};
-ghost use Rattle.extents.specs.Versions.{extent_blocks};
 ghost use Rattle.volume_table.specs.Admission.{AreKept, MayGrowTo};
 ghost use Rattle.volume_table.specs.ListChanges.{ChangesList};
-ghost use Rattle.volume_table.specs.Stands.{extents_in};
+ghost use Rattle.extents.specs.SetExtents.{extents_in};
 ghost use Rattle.volume_table.specs.StoreChanges.{Grows, MayGrow};
 
 use super::placing::zero_blocks;
 use super::saving::{put_table, spelled};
 use array_io::Array;
-use extents::{ExtentMap, Record, VolumeTable, extents_for};
+use extents::{ExtentLayout, ExtentMap, Record, VolumeTable};
 use sector_model::{Bank, Refusal};
 
 /// New blocks that a volume may have.
@@ -38,16 +37,17 @@ pub fn grow<B: Bank>(
 ) -> Result<(), Refusal>
     requires of_format_one { array.old.table.geometry.format ≡ One }
     requires kept { AreKept (extents_in array.old.table.geometry) table.old map.old }
-    requires may { MayGrowTo table.old.version table.old.records map.old growth.volume growth.first growth.entry }
+    requires may { MayGrowTo (extents_in array.old.table.geometry) table.old.version table.old.records map.old
+        growth.volume growth.first growth.entry }
     ensures honest { IsHonest array.old ↔ IsHonest array.new }
     ensures kept { AreKept (extents_in array.new.table.geometry) table.new map.new }
     ensures version { table.new.version ≡ table.old.version }
     ensures records { table.new.records ≡ slice_set table.old.records growth.volume (Some growth.entry) }
-    ensures taken { IsTaken map.old map.new growth.volume (let each = extent_blocks table.old.version in
+    ensures taken { IsTaken map.old map.new growth.volume (let each = (extents_in array.old.table.geometry).blocks in
         extents_for each growth.entry.blocks - extents_for each growth.first) }
     ensures changes { ChangesList (IsHonest array.old) (growth.entry.blocks - growth.first + 1)
-        (MayGrow table.old table.new growth.volume growth.first growth.entry.blocks)
-        (Grows table.old table.new growth.volume growth.first growth.entry.blocks)
+        (MayGrow (extents_in array.old.table.geometry) table.old table.new growth.volume growth.first growth.entry.blocks)
+        (Grows (extents_in array.old.table.geometry) table.old table.new growth.volume growth.first growth.entry.blocks)
         (array_view array.old) (array_view array.new) result }
 {
     let before = spelled(table);
@@ -57,10 +57,10 @@ pub fn grow<B: Bank>(
         entry,
     } = growth;
     let last = entry.blocks;
-    let version = table.version;
+    let extents = ExtentLayout::of(&array.table.geometry);
     map.take(
         volume,
-        extents_for(version, last) - extents_for(version, first),
+        extents.extents_for(last) - extents.extents_for(first),
     );
     table.set(volume, Some(entry), map);
     zero_blocks(array, map, volume, first, last)?;

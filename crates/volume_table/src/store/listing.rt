@@ -2,6 +2,7 @@
 ghost use Rattle.std.specs.Prelude.{◌≡◌, ◌≢◌, ◌↔◌, ◌<◌, ◌≤◌, ℕ, List, IfOk, OnOk, length, slice_index_or};
 ghost use Rattle.std.specs.declared.cmp.Ordering.TheVariants.{Less};
 ghost use Rattle.array_io.specs.Believed.OpenArray.{IsHonest};
+ghost use Rattle.extents.specs.declared.extent_layout.ExtentLayout.{ExtentLayout};
 ghost use Rattle.volume_table.specs.Admission.{ShowsBy};
 ghost use Rattle.volume_table.specs.Listing.{IsPutInto, lengths_of, told};
 ghost use Rattle.volume_table.specs.Names.{name_order};
@@ -35,7 +36,7 @@ impl<B: Bank> Store<B> {
 
 // The volumes of the used records, in rising order of names. It takes its memory at once.
 fn volumes_of(alloc: Global, table: &VolumeTable) -> Result<Vec<Listed>, AllocError>
-    ensures { IfOk result (λ listed. (extents : ℕ) (sectors : List Block) (volumes : VolumeMap)
+    ensures { IfOk result (λ listed. (extents : ExtentLayout) (sectors : List Block) (volumes : VolumeMap)
         → ShowsBy extents table.now sectors volumes → told listed.items ≡ lengths_of volumes.volumes) }
 {
     let mut volumes = Vec::with_capacity(alloc, most_volumes(table.version))?;

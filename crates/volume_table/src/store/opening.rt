@@ -1,7 +1,6 @@
 //! A store is opened over a set.
 ghost use Rattle.std.specs.Prelude.{◌≡◌, ◌↔◌, ◌+◌, ◌<◌, ◌≤◌, ℕ, IfOk, IfErr, List, [], Option, Err, OnOk, take, drop};
 ghost use Rattle.std.specs.Prelude.{length, slice_index_or};
-ghost use Rattle.layout_map.specs.declared.format.Format.TheVariants.{One};
 ghost use Rattle.sector_model.specs.declared.refusal.Refusal.{Refusal};
 ghost use Rattle.sector_model.specs.History.{Bytes};
 ghost use Rattle.superblock.specs.Cases.{Lost};
@@ -16,7 +15,7 @@ ghost use Rattle.volume_table.specs.OpenStore.{store_view};
 
 use super::Store;
 use array_io::Array;
-use extents::{ExtentMap, TABLE_SECTORS, VolumeTable, table_length, version_of};
+use extents::{ExtentLayout, ExtentMap, TABLE_SECTORS, VolumeTable, table_length, version_of};
 use recovery::Returned;
 use sector_model::{Bank, Refusal, Sector};
 
@@ -24,10 +23,9 @@ impl<B: Bank> Store<B> {
     /// Opens a store over a set: reads its first logical sectors, which are the table of volumes, as many as a table of
     /// its version has.
     ///
-    /// The set is of format 1 (condition). Refused with `BadTable` where they are no table of volumes of a set with so
-    /// many extents, and as a read of the array is; the bank is then given back as it stands.
+    /// Refused with `BadTable` where they are no table of volumes of a set with its extents, and as a read of the
+    /// array is; the bank is then given back as it stands.
     pub fn open(mut array: Array<B>) -> Result<Store<B>, Returned<B>>
-        requires { array.table.geometry.format ≡ One }
         ensures honest_store { IfOk result (λ store. IsHonest array ↔ IsHonest store.array) }
         ensures honest_bank { IfErr result (λ returned. IsHonest array ↔ B.honest returned.bank) }
         ensures opened { IfOk result (λ store. Opens (IsHonest array) (array_view array) (opened (store_view store))) }
@@ -41,14 +39,14 @@ impl<B: Bank> Store<B> {
                 refusal,
             });
         }
-        let extents = array.table.geometry.extents();
-        let Some(table) = VolumeTable::decode(&sectors, extents) else {
+        let extents = ExtentLayout::of(&array.table.geometry);
+        let Some(table) = VolumeTable::decode(&sectors, &extents) else {
             return Err(Returned {
                 bank: array.into_bank(),
                 refusal: Refusal::BadTable,
             });
         };
-        let map = ExtentMap::new(&table.extents[..extents as usize]);
+        let map = ExtentMap::new(&table.extents[..extents.count as usize]);
         Ok(Store {
             array,
             table,

@@ -1,17 +1,15 @@
 //! The blocks of a volume are written where they lie.
 ghost use Rattle.std.specs.Prelude.{◌≡◌, ◌≤◌, ◌<◌, ◌+◌, ◌-◌, ◌↔◌, length};
-ghost use Rattle.layout_map.specs.declared.format.Format.TheVariants.{One};
 ghost use Rattle.array_io.specs.Believed.OpenArray.{IsHonest, array_view};
 ghost use Rattle.extents.specs.declared.record.TheConstants.{MOST_BLOCKS};
 ghost use Rattle.volume_table.specs.ListChanges.{ChangesList, IsSameOr};
-ghost use Rattle.volume_table.specs.Stands.{extents_in};
+ghost use Rattle.extents.specs.SetExtents.{extents_in};
 ghost use Rattle.volume_table.specs.StoreChanges.{AllPlaced, ArePlaced, IsPartlyZero, IsWrittenAt, IsZeroed};
-ghost use Rattle.layout_map.specs.declared.sizes.TheConstants.{EXTENT_SECTORS};
 
 use crate::event::MOST_BLOCKS_AT_ONCE;
 use array_io::Array;
 use arrayvec::ArrayVec;
-use extents::ExtentMap;
+use extents::{ExtentLayout, ExtentMap};
 use sector_model::{Bank, Refusal, Sector};
 
 /// Writes 1 to 32 blocks of a volume from block `at` on, by one commit: all of them or none.
@@ -25,23 +23,25 @@ pub fn write_blocks<B: Bank>(
     at: u32,
     blocks: &[Sector],
 ) -> Result<(), Refusal>
-    requires of_format_one { array.old.table.geometry.format ≡ One }
-    requires sized { length map.now ≤ extents_in array.old.table.geometry }
+    requires sized { length map.now ≤ (extents_in array.old.table.geometry).count }
     requires least { 1 ≤ length blocks.now }
     requires most { length blocks.now ≤ MOST_BLOCKS_AT_ONCE }
     requires within { at + length blocks.now ≤ MOST_BLOCKS }
-    requires placed { AllPlaced EXTENT_SECTORS map.now volume at (at + length blocks.now) }
+    requires placed { AllPlaced (extents_in array.old.table.geometry) map.now volume at (at + length blocks.now) }
     ensures honest { IsHonest array.old ↔ IsHonest array.new }
     ensures changes { ChangesList (IsHonest array.old) 1
-        (IsSameOr (IsWrittenAt EXTENT_SECTORS map.now volume at blocks.now))
-        (IsWrittenAt EXTENT_SECTORS map.now volume at blocks.now) (array_view array.old) (array_view array.new) result }
+        (IsSameOr (IsWrittenAt (extents_in array.old.table.geometry) map.now volume at blocks.now))
+        (IsWrittenAt (extents_in array.old.table.geometry) map.now volume at blocks.now)
+        (array_view array.old) (array_view array.new) result }
 {
-    let sectors = placed(map, volume, at, blocks);
+    let extents = ExtentLayout::of(&array.table.geometry);
+    let sectors = placed(&extents, map, volume, at, blocks);
     array.commit(&sectors)
 }
 
-// The blocks with the logical sectors in which they lie.
+// The blocks with the logical sectors in which they lie in a set whose extents lie so.
 fn placed(
+    extents: &ExtentLayout,
     map: &ExtentMap,
     volume: u8,
     at: u32,
@@ -49,12 +49,12 @@ fn placed(
 ) -> ArrayVec<(u64, Sector), MOST_BLOCKS_AT_ONCE>
     requires most { length blocks.now ≤ MOST_BLOCKS_AT_ONCE }
     requires within { at + length blocks.now ≤ MOST_BLOCKS }
-    requires placed { AllPlaced EXTENT_SECTORS map.now volume at (at + length blocks.now) }
-    ensures { ArePlaced map.now volume at blocks.now result.items }
+    requires placed { AllPlaced extents.now map.now volume at (at + length blocks.now) }
+    ensures { ArePlaced extents.now map.now volume at blocks.now result.items }
 {
     let mut sectors = ArrayVec::new();
     for (i, bytes) in blocks.iter().enumerate() {
-        let sector = map.where_is(volume, at + i as u32);
+        let sector = map.where_is(extents, volume, at + i as u32);
         sectors.push((sector, *bytes));
     }
     sectors
@@ -69,15 +69,14 @@ pub fn zero_blocks<B: Bank>(
     first: u32,
     last: u32,
 ) -> Result<(), Refusal>
-    requires of_format_one { array.old.table.geometry.format ≡ One }
-    requires sized { length map.now ≤ extents_in array.old.table.geometry }
+    requires sized { length map.now ≤ (extents_in array.old.table.geometry).count }
     requires order { first ≤ last }
     requires within { last ≤ MOST_BLOCKS }
-    requires placed { AllPlaced EXTENT_SECTORS map.now volume first last }
+    requires placed { AllPlaced (extents_in array.old.table.geometry) map.now volume first last }
     ensures honest { IsHonest array.old ↔ IsHonest array.new }
     ensures changes { ChangesList (IsHonest array.old) (last - first)
-        (IsPartlyZero EXTENT_SECTORS map.now volume first last)
-        (IsZeroed EXTENT_SECTORS map.now volume first last) (array_view array.old) (array_view array.new) result }
+        (IsPartlyZero (extents_in array.old.table.geometry) map.now volume first last)
+        (IsZeroed (extents_in array.old.table.geometry) map.now volume first last) (array_view array.old) (array_view array.new) result }
 {
     let zeros = [[0; 512]; MOST_BLOCKS_AT_ONCE];
     let mut at = first;

@@ -1,23 +1,21 @@
 //! Blocks of a volume are read.
 ghost use Rattle.std.specs.Prelude.{◌≡◌, ◌≤◌, ◌+◌, ◌↔◌, List, Option, OnOk, length};
-ghost use Rattle.layout_map.specs.declared.format.Format.TheVariants.{One};
 ghost use Rattle.sector_model.specs.History.{Bytes};
 ghost use Rattle.superblock.specs.Cases.{Lost};
 ghost use Rattle.extents.specs.declared.record.TheConstants.{MOST_BLOCKS};
 ghost use Rattle.array_io.specs.Believed.Views.{RestsOn};
 ghost use Rattle.array_io.specs.Believed.OpenArray.{IsHonest, array_view};
 ghost use Rattle.volume_table.specs.ListChanges.{ChangesList, IsSame};
-ghost use Rattle.volume_table.specs.Stands.{extents_in};
+ghost use Rattle.extents.specs.SetExtents.{extents_in};
 ghost use Rattle.volume_table.specs.StoreChanges.{AllPlaced, AreReadFrom};
 ghost use Rattle.volume_table.specs.StoreFunctions.{ReadsBlocks};
 ghost use Rattle.volume_table.specs.OpenStore.{store_view};
-ghost use Rattle.layout_map.specs.declared.sizes.TheConstants.{EXTENT_SECTORS};
 
 use super::Store;
 use super::admission::admit_within;
 use crate::event::MOST_BLOCKS_AT_ONCE;
 use array_io::Array;
-use extents::ExtentMap;
+use extents::{ExtentLayout, ExtentMap};
 use sector_model::{Bank, Refusal, Sector};
 
 impl<B: Bank> Store<B> {
@@ -51,19 +49,20 @@ fn read_blocks<B: Bank>(
     at: u32,
     to: &mut [Sector],
 ) -> Result<(), Refusal>
-    requires of_format_one { array.old.table.geometry.format ≡ One }
-    requires sized { length map.now ≤ extents_in array.old.table.geometry }
+    requires sized { length map.now ≤ (extents_in array.old.table.geometry).count }
     requires within { at + length to.old ≤ MOST_BLOCKS }
-    requires placed { AllPlaced EXTENT_SECTORS map.now volume at (at + length to.old) }
+    requires placed { AllPlaced (extents_in array.old.table.geometry) map.now volume at (at + length to.old) }
     ensures honest { IsHonest array.old ↔ IsHonest array.new }
     ensures changes { ChangesList (IsHonest array.old) 0 IsSame IsSame (array_view array.old) (array_view array.new)
         result }
     ensures long { length to.new ≡ length to.old }
     ensures gives { IsHonest array.old → OnOk result ((lost : Option Lost) (V : List Bytes)
-        → RestsOn (array_view array.old) lost V → AreReadFrom EXTENT_SECTORS map.now volume at to.new V) }
+        → RestsOn (array_view array.old) lost V
+        → AreReadFrom (extents_in array.old.table.geometry) map.now volume at to.new V) }
 {
+    let extents = ExtentLayout::of(&array.table.geometry);
     for (i, place) in to.iter_mut().enumerate() {
-        array.read(map.where_is(volume, at + i as u32), place)?;
+        array.read(map.where_is(&extents, volume, at + i as u32), place)?;
     }
     Ok(())
 }

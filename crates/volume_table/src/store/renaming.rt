@@ -4,7 +4,7 @@ ghost use Rattle.array_io.specs.Believed.OpenArray.{IsHonest, array_view};
 ghost use Rattle.volume_table.specs.Admission.{AreKept, MayRename};
 ghost use Rattle.volume_table.specs.KeptTables.{RenamesKept};
 ghost use Rattle.volume_table.specs.ListChanges.{ChangesList};
-ghost use Rattle.volume_table.specs.Stands.{extents_in};
+ghost use Rattle.extents.specs.SetExtents.{extents_in};
 ghost use Rattle.volume_table.specs.StoreChanges.{MayPutTable, PutsTable};
 ghost use Rattle.volume_table.specs.StoreFunctions.{RenamesVolume};
 ghost use Rattle.volume_table.specs.OpenStore.{store_view};

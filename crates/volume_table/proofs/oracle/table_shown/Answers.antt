@@ -10,13 +10,13 @@ pub returns-in_err-table-clause-exact : goal.returns-in_err-table-clause-exact
 returns-in_err-table-clause-exact c = λ volumes shows.
     let copied = copied_first c.min-there.result c.args.sectors.now _ _ c.min-there.ensures c.copy_from_slice.ensures.after in
     absurd (none-some shows.table (c.in_err-table.ensures.exact shows.table
-    (shown_in_copy c.args.extents c.min-there.result c.args.sectors.now _ volumes shows c.min-there.ensures copied) shows.free_beyond))
+    (shown_in_copy c.args.extents.now c.min-there.result c.args.sectors.now _ volumes shows c.min-there.ensures copied) shows.of_set))
 
 pub returns-in_err-table-clause-none : goal.returns-in_err-table-clause-none
 returns-in_err-table-clause-none c = λ none volumes shows.
     let copied = copied_first c.min-there.result c.args.sectors.now _ _ c.min-there.ensures c.copy_from_slice.ensures.after in
     none-some shows.table (c.in_err-table.ensures.exact shows.table
-    (shown_in_copy c.args.extents c.min-there.result c.args.sectors.now _ volumes shows c.min-there.ensures copied) shows.free_beyond)
+    (shown_in_copy c.args.extents.now c.min-there.result c.args.sectors.now _ volumes shows c.min-there.ensures copied) shows.of_set)
 
 pub returns-then-table_length-there-clause-some : goal.returns-then-table_length-there-clause-some
 returns-then-table_length-there-clause-some c =
@@ -27,21 +27,21 @@ returns-then-table_length-there-clause-some c =
 pub returns-then-table_length-there-clause-exact : goal.returns-then-table_length-there-clause-exact
 returns-then-table_length-there-clause-exact c = λ volumes shows.
     let copied = copied_first c.min-there.result c.args.sectors.now _ _ c.min-there.ensures c.copy_from_slice.ensures.after in
-    c.in_ok-table.ensures.exact shows.table (shown_in_copy c.args.extents c.min-there.result c.args.sectors.now _ volumes shows c.min-there.ensures copied)
-    shows.free_beyond
+    c.in_ok-table.ensures.exact shows.table (shown_in_copy c.args.extents.now c.min-there.result c.args.sectors.now _ volumes shows c.min-there.ensures copied)
+    shows.of_set
 
 pub returns-else-table_length-there-clause-exact : goal.returns-else-table_length-there-clause-exact
 returns-else-table_length-there-clause-exact c = λ volumes shows.
     let copied = copied_first c.min-there.result c.args.sectors.now _ _ c.min-there.ensures c.copy_from_slice.ensures.after in
     let same = same_Some c.in_ok-table.table shows.table
-    (c.in_ok-table.ensures.exact shows.table (shown_in_copy c.args.extents c.min-there.result c.args.sectors.now _ volumes shows c.min-there.ensures copied)
-    shows.free_beyond) in
+    (c.in_ok-table.ensures.exact shows.table (shown_in_copy c.args.extents.now c.min-there.result c.args.sectors.now _ volumes shows c.min-there.ensures copied)
+    shows.of_set) in
     absurd (omega (
       arith,
       c.table_length.ensures,
       c.if-table_length-there.false,
       ap (λ (t : VolumeTable). table_length t.version) same,
-      has_table_there c.args.extents c.min-there.result c.args.sectors.now volumes shows c.min-there.ensures,
+      has_table_there c.args.extents.now c.min-there.result c.args.sectors.now volumes shows c.min-there.ensures,
     ))
 
 pub returns-else-table_length-there-clause-none : goal.returns-else-table_length-there-clause-none

@@ -1,3 +1,4 @@
+use Rattle.volume_table.proofs.WorkedRows.{smaller_extents}
 use Rattle.volume_table.proofs.WorkedRows.{extend_into_new_extent, extend_keeps_and_zeroes, fill_then_no_space, largest_volume, list_rises, long_names}
 use Rattle.volume_table.proofs.WorkedRows.{names_at_the_limits, one_block_too_many, reads_at_the_limits, refused_commands, rename_script, reused_is_zero}
 use Rattle.volume_table.proofs.WorkedRows.{sixty_four_volumes, thirty_two_blocks, thirty_two_volumes, write_out_of_range}
@@ -5,6 +6,9 @@ use Rattle.volume_table.proofs.law.rows.worked_rows.Goals as goal
 
 pub returns-clause-full : goal.returns-clause-full
 returns-clause-full c = fill_then_no_space
+
+pub returns-clause-smaller_extents : goal.returns-clause-smaller_extents
+returns-clause-smaller_extents c = smaller_extents
 
 pub returns-clause-one_too_many : goal.returns-clause-one_too_many
 returns-clause-one_too_many c = one_block_too_many

@@ -1,9 +1,12 @@
 -- A create is refused as its admission says, or grows a new volume.
-use Rattle.std.proofs.Common.{◌∙◌, ap}
+use Rattle.std.proofs.Common.{Some, None, subst, ◌∙◌, ap}
+use Rattle.extents.specs.SetExtents.{extents_in}
 use Rattle.extents.specs.declared.volume_table.VolumeTable.{VolumeTable}
 use Rattle.std.proofs.lemmas.Result.{err_from_is_err_and}
-use Rattle.layout_map.proofs.Places.{extents_most}
-use Rattle.volume_table.specs.Stands.{extents_in, store_of}
+use Rattle.extents.specs.declared.extent_layout.ExtentLayout.{ExtentLayout}
+use Rattle.volume_table.specs.Admission.{MayGrowTo}
+use Rattle.volume_table.proofs.Admitted.{decided_by}
+use Rattle.volume_table.specs.Stands.{store_of}
 use Rattle.volume_table.proofs.CreatedVolumes.{create_applies, create_is_refused, takes_lowest}
 use Rattle.volume_table.specs.VolumeStep.{Create, OnVolumes}
 use Rattle.volume_table.proofs.EndedStore.{stays_ended}
@@ -19,8 +22,9 @@ returns-in_err-growth-clause-creates g c =
     rw (p.1, p.2) (create_is_refused (g.B.Bank.honest before.array.bank) c.args.name.now c.args.blocks
     (store_view before)
     c.in_err-growth.field-0.0 c.in_default.is c.in_err-growth.ensures.listed
-    (λ sectors volumes by. c.in_err-growth.ensures.decides (extents_in shape) sectors volumes
-    (extents_most shape.format shape.members shape.chunk shape.stripes) before.kept by))
+    (λ sectors volumes by.
+    decided_by (Some c.in_err-growth.field-0.0) before.table before.map (Create c.args.name.now c.args.blocks) c.of-extents.result (extents_in shape) c.of-extents.ensures
+    c.in_err-growth.ensures.decides sectors volumes before.kept by))
 
 pub returns-clause-honest : goal.returns-clause-honest
 returns-clause-honest g c = rw c.end.ensures.array c.grow-answer.ensures.honest
@@ -38,7 +42,9 @@ returns-clause-creates g c =
       kept = before.kept;
       kept_then = c.grow-answer.ensures.kept;
       version = c.grow-answer.ensures.version;
-      may = c.in_ok-growth.ensures.may;
+      may = subst
+          (λ (e : ExtentLayout). MayGrowTo e before.table.version before.table.records before.map c.in_ok-growth.growth.volume c.in_ok-growth.growth.first
+          c.in_ok-growth.growth.entry) c.of-extents.ensures c.in_ok-growth.ensures.may;
       records = c.grow-answer.ensures.records;
       taken = c.grow-answer.ensures.taken;
       changes = c.grow-answer.ensures.changes;
@@ -48,8 +54,9 @@ returns-clause-creates g c =
       true_to = λ fair. g.met.B.Bank.true_to _ (c.grow-answer.ensures.honest.0 fair);
     }
     c.in_ok-growth.ensures.lowest.unused c.in_ok-growth.ensures.named c.in_ok-growth.ensures.blocks c.in_ok-growth.growth.entry.most
-    (λ sectors volumes by. c.in_ok-growth.ensures.decides (extents_in shape) sectors volumes (extents_most shape.format shape.members shape.chunk shape.stripes)
-    before.kept by))
+    (λ sectors volumes by.
+    decided_by None before.table before.map (Create c.args.name.now c.args.blocks) c.of-extents.result (extents_in shape) c.of-extents.ensures
+    c.in_ok-growth.ensures.decides sectors volumes before.kept by))
 
 pub returns-clause-lowest : goal.returns-clause-lowest
 returns-clause-lowest g c =
@@ -77,7 +84,11 @@ pub grow-answer-requires-clause-kept : goal.grow-answer-requires-clause-kept
 grow-answer-requires-clause-kept g c = c.args.self.now.kept
 
 pub grow-answer-requires-clause-may : goal.grow-answer-requires-clause-may
-grow-answer-requires-clause-may g c = c.in_ok-growth.ensures.may
+grow-answer-requires-clause-may g c =
+    let before = c.args.self.now in
+    subst
+    (λ (e : ExtentLayout). MayGrowTo e before.table.version before.table.records before.map c.in_ok-growth.growth.volume c.in_ok-growth.growth.first
+    c.in_ok-growth.growth.entry) c.of-extents.ensures c.in_ok-growth.ensures.may
 
 pub invariant_of-self : goal.invariant_of-self
 invariant_of-self g c = record { kept = c.args.self.now.kept; of_format_one = c.args.self.now.of_format_one }

@@ -1,14 +1,17 @@
 -- An extend is refused as its admission says, or grows the volume.
-use Rattle.std.proofs.Common.{◌∙◌}
+use Rattle.std.proofs.Common.{Some, None, subst, ◌∙◌}
 use Rattle.std.proofs.lemmas.Result.{err_from_is_err_and}
-use Rattle.layout_map.proofs.Places.{extents_most}
-use Rattle.volume_table.specs.Stands.{extents_in, store_of}
+use Rattle.extents.specs.declared.extent_layout.ExtentLayout.{ExtentLayout}
+use Rattle.volume_table.specs.Admission.{MayGrowTo}
+use Rattle.volume_table.proofs.Admitted.{decided_by}
+use Rattle.volume_table.specs.Stands.{store_of}
 use Rattle.volume_table.proofs.ExtendedVolumes.{extend_applies, extend_is_refused}
 use Rattle.volume_table.specs.VolumeStep.{Extend, OnVolumes}
 use Rattle.volume_table.proofs.EndedStore.{stays_ended}
 use Rattle.volume_table.specs.OpenStore.{store_view}
 use Rattle.array_io.specs.Believed.OpenArray.{array_view}
 use Rattle.volume_table.proofs.store.Store.extend.Goals as goal
+use Rattle.extents.specs.SetExtents.{extents_in}
 
 pub returns-in_err-growth-clause-extends : goal.returns-in_err-growth-clause-extends
 returns-in_err-growth-clause-extends g c =
@@ -18,8 +21,9 @@ returns-in_err-growth-clause-extends g c =
     rw (p.1, p.2) (extend_is_refused (g.B.Bank.honest before.array.bank) c.args.name.now c.args.by
     (store_view before)
     c.in_err-growth.field-0.0 c.in_default.is c.in_err-growth.ensures.listed
-    (λ sectors volumes by. c.in_err-growth.ensures.decides (extents_in shape) sectors volumes
-    (extents_most shape.format shape.members shape.chunk shape.stripes) before.kept by))
+    (λ sectors volumes by.
+    decided_by (Some c.in_err-growth.field-0.0) before.table before.map (Extend c.args.name.now c.args.by) c.of-extents.result (extents_in shape) c.of-extents.ensures
+    c.in_err-growth.ensures.decides sectors volumes before.kept by))
 
 pub returns-clause-honest : goal.returns-clause-honest
 returns-clause-honest g c = rw c.end.ensures.array c.grow-answer.ensures.honest
@@ -37,7 +41,9 @@ returns-clause-extends g c =
       kept = before.kept;
       kept_then = c.grow-answer.ensures.kept;
       version = c.grow-answer.ensures.version;
-      may = c.in_ok-growth.ensures.may;
+      may = subst
+          (λ (e : ExtentLayout). MayGrowTo e before.table.version before.table.records before.map c.in_ok-growth.growth.volume c.in_ok-growth.growth.first
+          c.in_ok-growth.growth.entry) c.of-extents.ensures c.in_ok-growth.ensures.may;
       records = c.grow-answer.ensures.records;
       taken = c.grow-answer.ensures.taken;
       changes = c.grow-answer.ensures.changes;
@@ -47,8 +53,9 @@ returns-clause-extends g c =
       true_to = λ fair. g.met.B.Bank.true_to _ (c.grow-answer.ensures.honest.0 fair);
     }
     c.in_ok-growth.ensures.used c.in_ok-growth.ensures.named c.in_ok-growth.ensures.blocks c.in_ok-growth.growth.entry.most
-    (λ sectors volumes by. c.in_ok-growth.ensures.decides (extents_in shape) sectors volumes (extents_most shape.format shape.members shape.chunk shape.stripes)
-    before.kept by))
+    (λ sectors volumes by.
+    decided_by None before.table before.map (Extend c.args.name.now c.args.by) c.of-extents.result (extents_in shape) c.of-extents.ensures
+    c.in_ok-growth.ensures.decides sectors volumes before.kept by))
 
 pub returns-in-Some-clause-honest : goal.returns-in-Some-clause-honest
 returns-in-Some-clause-honest g c = (λ fair. fair, λ fair. fair)
@@ -66,7 +73,11 @@ pub grow-answer-requires-clause-kept : goal.grow-answer-requires-clause-kept
 grow-answer-requires-clause-kept g c = c.args.self.now.kept
 
 pub grow-answer-requires-clause-may : goal.grow-answer-requires-clause-may
-grow-answer-requires-clause-may g c = c.in_ok-growth.ensures.may
+grow-answer-requires-clause-may g c =
+    let before = c.args.self.now in
+    subst
+    (λ (e : ExtentLayout). MayGrowTo e before.table.version before.table.records before.map c.in_ok-growth.growth.volume c.in_ok-growth.growth.first
+    c.in_ok-growth.growth.entry) c.of-extents.ensures c.in_ok-growth.ensures.may
 
 pub invariant_of-self : goal.invariant_of-self
 invariant_of-self g c = record { kept = c.args.self.now.kept; of_format_one = c.args.self.now.of_format_one }

@@ -6,12 +6,13 @@ use Rattle.array_io.specs.Believed.Views.{view_of}
 use Rattle.array_io.proofs.Images.Codecs.{spellings}
 use Rattle.array_io.proofs.Marks.MarkMissing.{its_slots_stay, marks_missing, but_one}
 use Rattle.volume_table.specs.Admission.{AreKept}
-use Rattle.volume_table.specs.Stands.{StoreView, extents_in, store_of}
+use Rattle.volume_table.specs.Stands.{StoreView, store_of}
 use Rattle.volume_table.proofs.FailedSlot.{fail_marked, fail_refused, marks_failed, marks_geometry, not_missing, would_lose}
 use Rattle.volume_table.specs.VolumeStep.{Fail, OnSet}
 use Rattle.volume_table.proofs.EndedStore.{stays_ended}
 use Rattle.volume_table.specs.OpenStore.{store_view}
 use Rattle.volume_table.proofs.store.Store.fail.Goals as goal
+use Rattle.extents.specs.SetExtents.{extents_in}
 
 pub returns-then-would_lose-clause-fails : goal.returns-then-would_lose-clause-fails
 returns-then-would_lose-clause-fails g c =

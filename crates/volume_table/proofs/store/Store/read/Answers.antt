@@ -1,7 +1,7 @@
 -- A read is refused as its admission says, or reads its blocks one after another.
 use Rattle.std.proofs.Common.{length, ◌∙◌, sym, subst, ap}
 use Rattle.std.proofs.lemmas.Result.{err_from_is_err_and}
-use Rattle.volume_table.specs.Stands.{extents_in, store_of}
+use Rattle.volume_table.specs.Stands.{store_of}
 use Rattle.volume_table.proofs.KeptMaps.{within_fits, within_is_placed, kept_sized}
 use Rattle.volume_table.proofs.ReadVolumes.{read_applies, read_is_refused}
 use Rattle.volume_table.proofs.TooMany.{few_if_done}
@@ -12,6 +12,7 @@ use Rattle.volume_table.specs.VolumeStep.{OnVolumes, Read}
 use Rattle.volume_table.specs.OpenStore.{store_view}
 use Rattle.array_io.specs.Believed.OpenArray.{array_view}
 use Rattle.volume_table.proofs.store.Store.read.Goals as goal
+use Rattle.extents.specs.SetExtents.{extents_in}
 
 pub read_blocks-answer-requires-clause-within : goal.read_blocks-answer-requires-clause-within
 read_blocks-answer-requires-clause-within g c =

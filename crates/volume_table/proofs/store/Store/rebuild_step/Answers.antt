@@ -3,13 +3,14 @@ use Rattle.std.proofs.Common.{sym, subst, ◌∙◌, ap}
 use Rattle.layout_map.specs.declared.geometry.Geometry.{Geometry}
 use Rattle.rebuild.specs.Stepping.{answer_by}
 use Rattle.volume_table.specs.Admission.{AreKept}
-use Rattle.volume_table.specs.Stands.{StoreView, extents_in, store_of}
+use Rattle.volume_table.specs.Stands.{StoreView, store_of}
 use Rattle.volume_table.specs.VolumeStep.{OnSet, RebuildStep}
 use Rattle.volume_table.proofs.EndedStore.{stays_ended}
 use Rattle.volume_table.proofs.RebuiltRows.{kept_by_code, step_applies}
 use Rattle.volume_table.specs.OpenStore.{store_view}
 use Rattle.array_io.specs.Believed.OpenArray.{array_view}
 use Rattle.volume_table.proofs.store.Store.rebuild_step.Goals as goal
+use Rattle.extents.specs.SetExtents.{extents_in}
 
 pub returns-in-Some-clause-honest : goal.returns-in-Some-clause-honest
 returns-in-Some-clause-honest g c = (λ fair. fair, λ fair. fair)

@@ -3,13 +3,14 @@ use Rattle.std.proofs.Common.{sym, subst, ◌∙◌, ap}
 use Rattle.layout_map.specs.declared.geometry.Geometry.{Geometry}
 use Rattle.scrub.specs.Reports.{told_by}
 use Rattle.volume_table.specs.Admission.{AreKept}
-use Rattle.volume_table.specs.Stands.{StoreView, extents_in, store_of}
+use Rattle.volume_table.specs.Stands.{StoreView, store_of}
 use Rattle.volume_table.specs.VolumeStep.{OnSet, Scrub}
 use Rattle.volume_table.proofs.EndedStore.{stays_ended}
 use Rattle.volume_table.proofs.ScrubbedSet.{kept_by_code, scrub_applies}
 use Rattle.volume_table.specs.OpenStore.{store_view}
 use Rattle.array_io.specs.Believed.OpenArray.{array_view}
 use Rattle.volume_table.proofs.store.Store.scrub.Goals as goal
+use Rattle.extents.specs.SetExtents.{extents_in}
 
 pub returns-in-Some-clause-honest : goal.returns-in-Some-clause-honest
 returns-in-Some-clause-honest g c = (λ fair. fair, λ fair. fair)

@@ -1,4 +1,5 @@
 use Rattle.std.proofs.Common.{◌≡◌, None, refl}
+use Rattle.extents.specs.SetExtents.{extents_in}
 use Rattle.volume_table.specs.Stands.{StoreView}
 use Rattle.volume_table.proofs.StatusTold.{status_told}
 use Rattle.volume_table.proofs.EndedStore.{tells_ended}
@@ -6,6 +7,7 @@ use Rattle.volume_table.specs.OpenStore.{store_view}
 use Rattle.volume_table.proofs.store.Store.status.Goals as goal
 
 pub returns : goal.returns
+unfolding extents_in
 returns g c =
     let was = c.args.self.now in
     let goes : was.ended ≡ None = c.in_default.is in

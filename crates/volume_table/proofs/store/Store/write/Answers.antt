@@ -2,7 +2,7 @@
 use Rattle.std.proofs.Common.{◌∙◌, [], length, refl, sym, subst, ap}
 use Rattle.std.proofs.lemmas.List.Elements.{All-from_get_or}
 use Rattle.std.proofs.lemmas.Result.{err_from_is_err_and}
-use Rattle.volume_table.specs.Stands.{extents_in, store_of}
+use Rattle.volume_table.specs.Stands.{store_of}
 use Rattle.volume_table.specs.Volumes.{IsBlock}
 use Rattle.volume_table.proofs.KeptMaps.{within_fits, within_is_placed, within_least, within_most, kept_sized}
 use Rattle.volume_table.proofs.TooMany.{few_if_done}
@@ -14,6 +14,7 @@ use Rattle.volume_table.specs.VolumeStep.{OnVolumes, Write}
 use Rattle.volume_table.specs.OpenStore.{store_view}
 use Rattle.array_io.specs.Believed.OpenArray.{array_view}
 use Rattle.volume_table.proofs.store.Store.write.Goals as goal
+use Rattle.extents.specs.SetExtents.{extents_in}
 
 pub returns-in_err-volume-clause-writes : goal.returns-in_err-volume-clause-writes
 returns-in_err-volume-clause-writes g c =

@@ -7,20 +7,22 @@ use Rattle.volume_table.proofs.Admitted.{HasRoomFor, IsGoodNew, IsNameOf, absent
 use Rattle.volume_table.proofs.Admitted.{creation_full, creation_long_name, creation_no_space, free_by, length_by, made_name, may_create_at, name_by}
 use Rattle.volume_table.proofs.Admitted.{name_was_found, name_was_not_found, new_by, volumes_are_fewer, volumes_are_full}
 use Rattle.volume_table.proofs.store.admission.admit_creation.Goals as goal
-use Rattle.layout_map.specs.declared.sizes.TheConstants.{EXTENT_SECTORS}
 
 pub returns-in_default-clause-decides : goal.returns-in_default-clause-decides
-returns-in_default-clause-decides c = λ extents sectors volumes most kept by.
+returns-in_default-clause-decides c = λ sectors volumes kept by.
+    let extents = c.args.extents.now in
     creation_bad_name extents c.args.name.now c.args.blocks volumes (λ is. false≢true (c.in_default.ensures.good.1 is.good))
 
 pub returns-then-bytes-most_name_bytes-clause-decides : goal.returns-then-bytes-most_name_bytes-clause-decides
-returns-then-bytes-most_name_bytes-clause-decides c = λ extents sectors volumes most kept by.
+returns-then-bytes-most_name_bytes-clause-decides c = λ sectors volumes kept by.
+    let extents = c.args.extents.now in
     let as_long = ap (λ n. length n) (c.bytes.ensures ∙ c.in-Some.ensures.same) in
     creation_long_name extents c.args.table.now sectors volumes c.args.name.now c.args.blocks by
     (omega (arith, as_long, c.most_name_bytes.ensures, c.if-bytes-most_name_bytes.true))
 
 pub returns-then-blocks-eq0-clause-decides : goal.returns-then-blocks-eq0-clause-decides
-returns-then-blocks-eq0-clause-decides c = λ extents sectors volumes most kept by.
+returns-then-blocks-eq0-clause-decides c = λ sectors volumes kept by.
+    let extents = c.args.extents.now in
     let table = c.args.table.now in
     let name = c.args.name.now in
     let short : length c.bytes.result.now ≤ most_name_bytes table.version = omega (arith, c.most_name_bytes.ensures, c.if-bytes-most_name_bytes.false) in
@@ -33,7 +35,8 @@ pub returns-then-is_some-clause-listed : goal.returns-then-is_some-clause-listed
 returns-then-is_some-clause-listed c = (2, omega arith, refl)
 
 pub returns-then-is_some-clause-decides : goal.returns-then-is_some-clause-decides
-returns-then-is_some-clause-decides c = λ extents sectors volumes most kept by.
+returns-then-is_some-clause-decides c = λ sectors volumes kept by.
+    let extents = c.args.extents.now in
     let table = c.args.table.now in
     let name = c.args.name.now in
     let short : length c.bytes.result.now ≤ most_name_bytes table.version = omega (arith, c.most_name_bytes.ensures, c.if-bytes-most_name_bytes.false) in
@@ -50,7 +53,8 @@ pub returns-in_default-first_unused-clause-listed : goal.returns-in_default-firs
 returns-in_default-first_unused-clause-listed c = (3, omega arith, refl)
 
 pub returns-in_default-first_unused-clause-decides : goal.returns-in_default-first_unused-clause-decides
-returns-in_default-first_unused-clause-decides c = λ extents sectors volumes most kept by.
+returns-in_default-first_unused-clause-decides c = λ sectors volumes kept by.
+    let extents = c.args.extents.now in
     let table = c.args.table.now in
     let name = c.args.name.now in
     let short : length c.bytes.result.now ≤ most_name_bytes table.version = omega (arith, c.most_name_bytes.ensures, c.if-bytes-most_name_bytes.false) in
@@ -68,7 +72,8 @@ pub returns-then-extents_for-free_count-clause-listed : goal.returns-then-extent
 returns-then-extents_for-free_count-clause-listed c = (4, omega arith, refl)
 
 pub returns-then-extents_for-free_count-clause-decides : goal.returns-then-extents_for-free_count-clause-decides
-returns-then-extents_for-free_count-clause-decides c = λ extents sectors volumes most kept by.
+returns-then-extents_for-free_count-clause-decides c = λ sectors volumes kept by.
+    let extents = c.args.extents.now in
     let table = c.args.table.now in
     let name = c.args.name.now in
     let short : length c.bytes.result.now ≤ most_name_bytes table.version = omega (arith, c.most_name_bytes.ensures, c.if-bytes-most_name_bytes.false) in
@@ -84,7 +89,7 @@ returns-then-extents_for-free_count-clause-decides c = λ extents sectors volume
       fewer = volumes_are_fewer extents table sectors volumes c.in-Some-first_unused.volume by c.in-Some-first_unused.ensures;
     } in
     let up = c.extents_for.ensures in
-    let free = ap (λ n. n + need EXTENT_SECTORS volumes.volumes) c.free_count.ensures ∙ free_by extents table c.args.map.now sectors volumes most kept by in
+    let free = ap (λ n. n + need extents.blocks volumes.volumes) c.free_count.ensures ∙ free_by extents table c.args.map.now sectors volumes kept by in
     creation_no_space extents c.free_count.result name c.args.blocks volumes new room free (omega (arith, up, c.if-extents_for-free_count.true))
 
 pub returns-clause-may : goal.returns-clause-may
@@ -98,12 +103,13 @@ returns-clause-may c =
     (sym c.is_some.ensures ∙ c.if-is_some.false) c.record_named.ensures in
     let up = c.extents_for.ensures in
     let free = c.free_count.ensures in
-    may_create_at table c.args.map.now c.in-Some-first_unused.volume _ name c.in-Some-first_unused.ensures (omega arith) c.in-Some.ensures.same its_name.short
+    may_create_at c.args.extents.now table c.args.map.now c.in-Some-first_unused.volume _ name c.in-Some-first_unused.ensures (omega arith) c.in-Some.ensures.same its_name.short
     none
     (omega (arith, up, free, c.if-extents_for-free_count.false))
 
 pub returns-clause-decides : goal.returns-clause-decides
-returns-clause-decides c = λ extents sectors volumes most kept by.
+returns-clause-decides c = λ sectors volumes kept by.
+    let extents = c.args.extents.now in
     let table = c.args.table.now in
     let name = c.args.name.now in
     let short : length c.bytes.result.now ≤ most_name_bytes table.version = omega (arith, c.most_name_bytes.ensures, c.if-bytes-most_name_bytes.false) in
@@ -119,7 +125,7 @@ returns-clause-decides c = λ extents sectors volumes most kept by.
       fewer = volumes_are_fewer extents table sectors volumes c.in-Some-first_unused.volume by c.in-Some-first_unused.ensures;
     } in
     let up = c.extents_for.ensures in
-    let free = ap (λ n. n + need EXTENT_SECTORS volumes.volumes) c.free_count.ensures ∙ free_by extents table c.args.map.now sectors volumes most kept by in
+    let free = ap (λ n. n + need extents.blocks volumes.volumes) c.free_count.ensures ∙ free_by extents table c.args.map.now sectors volumes kept by in
     creation_admitted extents c.free_count.result name c.args.blocks volumes new room free (omega (arith, up, c.if-extents_for-free_count.false))
 
 pub returns-clause-lowest : goal.returns-clause-lowest

@@ -1,10 +1,11 @@
 -- The table with the new record, and the map with the new extents, are a table and its map again; the new blocks are made zero before the table says of them.
-use Rattle.std.proofs.Common.{◌∙◌, ◌-◌, sym, arith}
+use Rattle.std.proofs.Common.{◌∙◌, ◌-◌, Some, slice_set, subst, sym, arith}
 use Rattle.std.proofs.lemmas.Result.{err_from_is_err_and}
-use Rattle.layout_map.proofs.Places.{extents_most}
+use Rattle.extents.specs.SetExtents.{extents_in}
+use Rattle.extents.specs.ExtentMaps.{IsTaken}
+use Rattle.extents.proofs.Blocks.{more_take_more}
 use Rattle.extents.proofs.Versions.{most_volumes_most}
-use Rattle.volume_table.specs.Stands.{extents_in}
-use Rattle.volume_table.proofs.GrownTables.{kept_after, grown_is_table, grown_is_placed, zeroed_in_part, zeroed_then_put}
+use Rattle.volume_table.proofs.GrownTables.{counted_by, kept_after, grown_has_places, grown_is_table, grown_is_placed, zeroed_in_part, zeroed_then_put}
 use Rattle.volume_table.proofs.KeptMaps.{kept_sized}
 use Rattle.array_io.specs.Believed.OpenArray.{array_view}
 use Rattle.volume_table.proofs.store.growing.grow.Goals as goal
@@ -15,8 +16,10 @@ set-requires-clause-is_table g c =
     let growth = c.args.growth in
     grown_is_table (extents_in geometry) c.args.table.now c.args.map.now c.take.new.self growth.volume growth.first
     (c.extents_for.result - c.extents_for-2.result) growth.entry
-    (extents_most geometry.format geometry.members geometry.chunk geometry.stripes) c.requires.kept c.requires.may
-    (omega (arith, c.extents_for.ensures, c.extents_for-2.ensures)) c.take.ensures
+    c.requires.kept c.requires.may
+    (counted_by c.of-extents.result (extents_in geometry) c.extents_for.result c.extents_for-2.result growth.entry.blocks growth.first c.of-extents.ensures
+    c.extents_for.ensures c.extents_for-2.ensures)
+    c.take.ensures
 
 pub zero_blocks-requires-clause-placed : goal.zero_blocks-requires-clause-placed
 zero_blocks-requires-clause-placed g c =
@@ -24,20 +27,30 @@ zero_blocks-requires-clause-placed g c =
     let growth = c.args.growth in
     grown_is_placed (extents_in geometry) c.args.table.now c.args.map.now c.take.new.self growth.volume growth.first
     (c.extents_for.result - c.extents_for-2.result) growth.entry
-    (extents_most geometry.format geometry.members geometry.chunk geometry.stripes) c.requires.kept c.requires.may
-    (omega (arith, c.extents_for.ensures, c.extents_for-2.ensures)) c.take.ensures
+    c.requires.kept c.requires.may
+    (counted_by c.of-extents.result (extents_in geometry) c.extents_for.result c.extents_for-2.result growth.entry.blocks growth.first c.of-extents.ensures
+    c.extents_for.ensures c.extents_for-2.ensures)
+    c.take.ensures
 
 pub returns-in_err-zero_blocks-clause-kept : goal.returns-in_err-zero_blocks-clause-kept
 returns-in_err-zero_blocks-clause-kept g c =
-    kept_after c.args.array.now.table.geometry c.zero_blocks.new.array.table.geometry c.args.table.now c.set.new.self c.args.map.now c.take.new.self
-    c.requires.kept c.take.ensures.extents c.set.ensures.extents
+    let geometry = c.args.array.now.table.geometry in
+    let growth = c.args.growth in
+    kept_after geometry c.zero_blocks.new.array.table.geometry c.args.table.now c.set.new.self c.args.map.now c.take.new.self
+    (slice_set c.args.table.now.records growth.volume (Some growth.entry))
+    c.requires.kept c.take.ensures.extents c.set.ensures.extents c.set.ensures.records
+    (grown_has_places (extents_in geometry) c.args.table.now c.args.map.now c.take.new.self growth.volume growth.first
+    (c.extents_for.result - c.extents_for-2.result) growth.entry c.requires.kept c.requires.may
+    (counted_by c.of-extents.result (extents_in geometry) c.extents_for.result c.extents_for-2.result growth.entry.blocks growth.first c.of-extents.ensures
+    c.extents_for.ensures c.extents_for-2.ensures)
+    c.take.ensures)
     c.zero_blocks.ensures.changes.goes_on.not_older.same_geometry
 
 pub returns-in_err-zero_blocks-clause-changes : goal.returns-in_err-zero_blocks-clause-changes
 returns-in_err-zero_blocks-clause-changes g c =
     let growth = c.args.growth in
     let p = err_from_is_err_and c.from_residual.result c.from_residual.ensures.1 in
-    rw (p.1, p.2) (zeroed_in_part (g.B.Bank.honest c.args.array.now.bank) c.args.table.now c.set.new.self c.take.new.self growth.volume growth.first
+    rw (p.1, p.2) (zeroed_in_part (extents_in c.args.array.now.table.geometry) (g.B.Bank.honest c.args.array.now.bank) c.args.table.now c.set.new.self c.take.new.self growth.volume growth.first
     growth.entry.blocks
     (array_view c.args.array.now)
     (array_view c.zero_blocks.new.array)
@@ -45,8 +58,16 @@ returns-in_err-zero_blocks-clause-changes g c =
 
 pub returns-clause-kept : goal.returns-clause-kept
 returns-clause-kept g c =
-    kept_after c.args.array.now.table.geometry c.put_table.new.array.table.geometry c.args.table.now c.set.new.self c.args.map.now c.take.new.self
-    c.requires.kept c.take.ensures.extents c.set.ensures.extents
+    let geometry = c.args.array.now.table.geometry in
+    let growth = c.args.growth in
+    kept_after geometry c.put_table.new.array.table.geometry c.args.table.now c.set.new.self c.args.map.now c.take.new.self
+    (slice_set c.args.table.now.records growth.volume (Some growth.entry))
+    c.requires.kept c.take.ensures.extents c.set.ensures.extents c.set.ensures.records
+    (grown_has_places (extents_in geometry) c.args.table.now c.args.map.now c.take.new.self growth.volume growth.first
+    (c.extents_for.result - c.extents_for-2.result) growth.entry c.requires.kept c.requires.may
+    (counted_by c.of-extents.result (extents_in geometry) c.extents_for.result c.extents_for-2.result growth.entry.blocks growth.first c.of-extents.ensures
+    c.extents_for.ensures c.extents_for-2.ensures)
+    c.take.ensures)
     ((c.put_table.ensures.changes c.args.table.now c.spelled-before.ensures (sym c.set.ensures.version)).goes_on.not_older.same_geometry
     ∙ c.zero_blocks.ensures.changes.goes_on.not_older.same_geometry)
 
@@ -55,33 +76,39 @@ returns-clause-changes g c =
     let growth = c.args.growth in
     let mid = array_view c.zero_blocks.new.array in
     let new = array_view c.put_table.new.array in
-    zeroed_then_put (g.B.Bank.honest c.args.array.now.bank) (g.B.Bank.honest c.zero_blocks.new.array.bank) (λ fair. c.zero_blocks.ensures.honest.0 fair)
+    zeroed_then_put (extents_in c.args.array.now.table.geometry) (g.B.Bank.honest c.args.array.now.bank) (g.B.Bank.honest c.zero_blocks.new.array.bank) (λ fair. c.zero_blocks.ensures.honest.0 fair)
     c.args.table.now c.set.new.self c.take.new.self growth.volume growth.first growth.entry.blocks
     (array_view c.args.array.now) mid new c.put_table.result c.set.ensures.extents
     (λ fair. g.met.B.Bank.true_to _ (c.zero_blocks.ensures.honest.0 fair)) c.in_ok-zero_blocks.ensures.changes
     (c.put_table.ensures.changes c.args.table.now c.spelled-before.ensures (sym c.set.ensures.version))
 
 pub overflow_sub-extents_for : goal.overflow_sub-extents_for
-overflow_sub-extents_for g c = omega (arith, c.requires.may.more, c.extents_for.ensures, c.extents_for-2.ensures)
+overflow_sub-extents_for g c =
+    let growth = c.args.growth in
+    let more = more_take_more c.of-extents.result.blocks growth.first growth.entry.blocks c.of-extents.result.limits.some (omega (arith, c.requires.may.more)) in
+    omega (arith, more, c.extents_for.ensures, c.extents_for-2.ensures)
 
 pub take-requires-clause-volume : goal.take-requires-clause-volume
 take-requires-clause-volume g c = omega (arith, c.requires.may.of_table, most_volumes_most c.args.table.now.version)
 
 pub take-requires-clause-free : goal.take-requires-clause-free
-take-requires-clause-free g c = omega (arith, c.requires.may.fits, c.extents_for.ensures, c.extents_for-2.ensures)
+take-requires-clause-free g c =
+    let geometry = c.args.array.now.table.geometry in
+    let growth = c.args.growth in
+    omega (
+      arith,
+      c.requires.may.fits,
+      counted_by c.of-extents.result (extents_in geometry) c.extents_for.result c.extents_for-2.result growth.entry.blocks growth.first
+          c.of-extents.ensures c.extents_for.ensures c.extents_for-2.ensures,
+    )
 
 pub set-requires-clause-of_table : goal.set-requires-clause-of_table
 set-requires-clause-of_table g c = omega (arith, c.requires.may.of_table, most_volumes_most c.args.table.now.version)
 
 pub set-requires-clause-most : goal.set-requires-clause-most
 set-requires-clause-most g c =
-    let geometry = c.args.array.now.table.geometry in
-    omega (
-      arith,
-      c.take.ensures.extents,
-      kept_sized (extents_in c.args.array.now.table.geometry) c.args.table.now c.args.map.now c.requires.kept,
-      extents_most geometry.format geometry.members geometry.chunk geometry.stripes,
-    )
+    let extents = extents_in c.args.array.now.table.geometry in
+    omega (arith, c.take.ensures.extents, kept_sized extents c.args.table.now c.args.map.now c.requires.kept, extents.limits.most)
 
 pub zero_blocks-requires-clause-sized : goal.zero_blocks-requires-clause-sized
 zero_blocks-requires-clause-sized g c = omega (
@@ -110,7 +137,13 @@ pub returns-in_err-zero_blocks-clause-records : goal.returns-in_err-zero_blocks-
 returns-in_err-zero_blocks-clause-records g c = c.set.ensures.records
 
 pub returns-in_err-zero_blocks-clause-taken : goal.returns-in_err-zero_blocks-clause-taken
-returns-in_err-zero_blocks-clause-taken g c = rw (← c.extents_for.ensures, ← c.extents_for-2.ensures) c.take.ensures
+returns-in_err-zero_blocks-clause-taken g c =
+    let geometry = c.args.array.now.table.geometry in
+    let growth = c.args.growth in
+    subst (λ n. IsTaken c.args.map.now c.take.new.self growth.volume n)
+    (counted_by c.of-extents.result (extents_in geometry) c.extents_for.result c.extents_for-2.result growth.entry.blocks growth.first c.of-extents.ensures
+    c.extents_for.ensures c.extents_for-2.ensures)
+    c.take.ensures
 
 pub returns-clause-honest : goal.returns-clause-honest
 returns-clause-honest g c = (
@@ -122,4 +155,10 @@ pub returns-clause-records : goal.returns-clause-records
 returns-clause-records g c = c.set.ensures.records
 
 pub returns-clause-taken : goal.returns-clause-taken
-returns-clause-taken g c = rw (← c.extents_for.ensures, ← c.extents_for-2.ensures) c.take.ensures
+returns-clause-taken g c =
+    let geometry = c.args.array.now.table.geometry in
+    let growth = c.args.growth in
+    subst (λ n. IsTaken c.args.map.now c.take.new.self growth.volume n)
+    (counted_by c.of-extents.result (extents_in geometry) c.extents_for.result c.extents_for-2.result growth.entry.blocks growth.first c.of-extents.ensures
+    c.extents_for.ensures c.extents_for-2.ensures)
+    c.take.ensures

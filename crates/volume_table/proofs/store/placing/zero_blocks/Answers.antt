@@ -1,26 +1,36 @@
 -- Each commit makes some more blocks zero.
-use Rattle.std.proofs.Common.{◌≡◌, ◌≤◌, ℕ, ◌+◌, ◌-◌, length, take, replicate, sym, ◌∙◌, ap, subst, arith}
+use Rattle.std.proofs.Common.{◌≡◌, ◌≤◌, ℕ, List, Option, ◌+◌, ◌-◌, length, take, replicate, sym, ◌∙◌, ap, subst, arith}
 use Rattle.std.specs.Prelude.{Ok, Err}
 use Rattle.std.proofs.lemmas.Result.{err_from_is_err_and}
 use Rattle.std.proofs.lemmas.List.{length-take, take-replicate}
 use Rattle.layout_map.specs.declared.geometry.Geometry.{Geometry}
-use Rattle.volume_table.specs.Stands.{extents_in}
 use Rattle.volume_table.specs.Volumes.{Block, zero_block}
-use Rattle.volume_table.specs.ListChanges.{ChangesList}
-use Rattle.volume_table.specs.StoreChanges.{IsPartlyZero, IsZeroed}
+use Rattle.array_io.specs.Believed.ArrayCalls.{Answer}
+use Rattle.array_io.specs.Believed.Views.{ArrayView}
+use Rattle.extents.specs.declared.owned.Owned.{Owned}
+use Rattle.extents.specs.ExtentMaps.{HasPlace, place_of}
+use Rattle.volume_table.specs.ListChanges.{ChangesList, IsSameOr}
+use Rattle.volume_table.specs.StoreChanges.{IsPartlyZero, IsWrittenAt, IsZeroed}
 use Rattle.volume_table.proofs.ZeroedBlocks.{zeroing_begins, zeroing_goes_on, zeroing_refused}
 use Rattle.volume_table.proofs.store.placing.zero_blocks.Goals as goal
 use Rattle.volume_table.specs.declared.event.TheConstants.{MOST_BLOCKS_AT_ONCE}
 use Rattle.array_io.specs.Believed.OpenArray.{array_view}
-use Rattle.layout_map.specs.declared.sizes.TheConstants.{EXTENT_SECTORS}
+use Rattle.extents.specs.SetExtents.{extents_in}
 
 pub loop-at-init : goal.loop-at-init
-loop-at-init g c = zeroing_begins (g.B.Bank.honest c.args.array.now.bank) c.args.map.now c.args.volume c.args.first c.args.last _ c.requires.order
+loop-at-init g c = zeroing_begins (extents_in c.args.array.now.table.geometry) (g.B.Bank.honest c.args.array.now.bank) c.args.map.now c.args.volume c.args.first c.args.last _ c.requires.order
 
 pub write_blocks-requires-clause-sized : goal.write_blocks-requires-clause-sized
 write_blocks-requires-clause-sized g c =
-    subst (λ (geometry : Geometry). length c.args.map.now ≤ extents_in geometry) (sym c.loop-at.invariant.changes.goes_on.not_older.same_geometry)
+    subst (λ (geometry : Geometry). length c.args.map.now ≤ (extents_in geometry).count) (sym c.loop-at.invariant.changes.goes_on.not_older.same_geometry)
     c.requires.sized
+
+-- one commit writes so many zeros, where the extents of a set of this geometry lie
+abbrev WritesZeros : Geometry → List (Option Owned) → (volume at count : ℕ) → Type 0 → (old new : ArrayView) → Answer → Type 0
+WritesZeros geometry owners volume at count honest old new answer =
+    let zeros = take count (replicate MOST_BLOCKS_AT_ONCE (replicate 512 0)) in
+    ChangesList honest 1 (IsSameOr (IsWrittenAt (extents_in geometry) owners volume at zeros)) (IsWrittenAt (extents_in geometry) owners volume at zeros) old
+    new answer
 
 some_zeros : (count : ℕ) → count ≤ MOST_BLOCKS_AT_ONCE → take count (replicate MOST_BLOCKS_AT_ONCE (replicate 512 0)) ≡ replicate count zero_block
 unfolding zero_block
@@ -30,7 +40,9 @@ pub write_blocks-requires-clause-placed : goal.write_blocks-requires-clause-plac
 write_blocks-requires-clause-placed g c block least most =
     let long : length (take c.min-count.result (replicate {A = Block} MOST_BLOCKS_AT_ONCE (replicate {A = ℕ} 512 0))) ≤ c.min-count.result =
     omega (arith, length-take c.min-count.result (replicate {A = Block} MOST_BLOCKS_AT_ONCE (replicate {A = ℕ} 512 0))) in
-    c.requires.placed block (omega (arith, least, c.loop-at.invariant.least)) (omega (arith, most, long, c.min-count.ensures, c.loop-at-test.true))
+    subst (λ (geometry : Geometry). HasPlace c.args.map.now c.args.volume (place_of (extents_in geometry) block))
+    (sym c.loop-at.invariant.changes.goes_on.not_older.same_geometry)
+    (c.requires.placed block (omega (arith, least, c.loop-at.invariant.least)) (omega (arith, most, long, c.min-count.ensures, c.loop-at-test.true)))
 
 pub returns-in_err-write_blocks-clause-honest : goal.returns-in_err-write_blocks-clause-honest
 returns-in_err-write_blocks-clause-honest g c =
@@ -43,27 +55,32 @@ returns-in_err-write_blocks-clause-changes g c =
     let some : 1 ≤ c.min-count.result = omega (arith, c.min-count.ensures, c.loop-at-test.true) in
     let p = err_from_is_err_and c.from_residual.result c.from_residual.ensures.1 in
     subst (ChangesList (g.B.Bank.honest c.args.array.now.bank) (c.args.last - c.args.first)
-    (IsPartlyZero EXTENT_SECTORS c.args.map.now c.args.volume c.args.first c.args.last)
-    (IsZeroed EXTENT_SECTORS c.args.map.now c.args.volume c.args.first c.args.last)
+    (IsPartlyZero (extents_in c.args.array.now.table.geometry) c.args.map.now c.args.volume c.args.first c.args.last)
+    (IsZeroed (extents_in c.args.array.now.table.geometry) c.args.map.now c.args.volume c.args.first c.args.last)
     (array_view c.args.array.now)
     (array_view c.write_blocks.new.array))
     (sym (p.1 ∙ ap (λ s. Err s) p.2))
-    (zeroing_refused (g.B.Bank.honest c.args.array.now.bank) (g.B.Bank.honest c.loop-at.array.bank) c.args.map.now c.args.volume c.args.first c.args.last
+    (zeroing_refused (extents_in c.args.array.now.table.geometry) (g.B.Bank.honest c.args.array.now.bank) (g.B.Bank.honest c.loop-at.array.bank) c.args.map.now c.args.volume c.args.first c.args.last
     c.loop-at.at c.min-count.result
     (take c.min-count.result (replicate MOST_BLOCKS_AT_ONCE (replicate 512 0))) _ _ _ (some_zeros c.min-count.result few) within some c.loop-at.invariant
-    (g.met.B.Bank.true_to c.loop-at.array.bank) c.in_err-write_blocks.field-0.0 c.in_err-write_blocks.ensures.changes)
+    (g.met.B.Bank.true_to c.loop-at.array.bank) c.in_err-write_blocks.field-0.0
+    (subst (λ (geometry : Geometry). WritesZeros geometry c.args.map.now c.args.volume c.loop-at.at c.min-count.result
+    (g.B.Bank.honest c.loop-at.array.bank) (array_view c.loop-at.array) (array_view c.write_blocks.new.array) (Err c.in_err-write_blocks.field-0.0))
+    c.loop-at.invariant.changes.goes_on.not_older.same_geometry c.in_err-write_blocks.ensures.changes))
 
 pub loop-at-preserved : goal.loop-at-preserved
 loop-at-preserved g c =
     let few : c.min-count.result ≤ MOST_BLOCKS_AT_ONCE = omega (arith, c.min-count.ensures) in
     let within : c.loop-at.at + c.min-count.result ≤ c.args.last = omega (arith, c.min-count.ensures, c.loop-at-test.true) in
     let some : 1 ≤ c.min-count.result = omega (arith, c.min-count.ensures, c.loop-at-test.true) in
-    zeroing_goes_on (g.B.Bank.honest c.args.array.now.bank) (g.B.Bank.honest c.loop-at.array.bank) c.args.map.now c.args.volume c.args.first c.args.last
+    zeroing_goes_on (extents_in c.args.array.now.table.geometry) (g.B.Bank.honest c.args.array.now.bank) (g.B.Bank.honest c.loop-at.array.bank) c.args.map.now c.args.volume c.args.first c.args.last
     c.loop-at.at c.min-count.result
     (take c.min-count.result (replicate MOST_BLOCKS_AT_ONCE (replicate 512 0))) _ _ _ (some_zeros c.min-count.result few) within some c.loop-at.invariant
     (g.met.B.Bank.true_to c.loop-at.array.bank) (g.B.Bank.honest c.write_blocks.new.array.bank) c.in_ok-write_blocks.ensures.honest.0
     c.in_ok-write_blocks.ensures.honest.1
-    c.in_ok-write_blocks.ensures.changes
+    (subst (λ (geometry : Geometry). WritesZeros geometry c.args.map.now c.args.volume c.loop-at.at c.min-count.result
+    (g.B.Bank.honest c.loop-at.array.bank) (array_view c.loop-at.array) (array_view c.write_blocks.new.array) (Ok tt))
+    c.loop-at.invariant.changes.goes_on.not_older.same_geometry c.in_ok-write_blocks.ensures.changes)
 
 pub returns-clause-honest : goal.returns-clause-honest
 returns-clause-honest g c = (c.loop-at.invariant.forth, c.loop-at.invariant.back)
@@ -72,7 +89,7 @@ pub returns-clause-changes : goal.returns-clause-changes
 returns-clause-changes g c =
     let same : c.loop-at.at ≡ c.args.last = omega (arith, c.loop-at-test.false, c.loop-at.invariant.most) in
     subst (λ (at : ℕ). ChangesList (g.B.Bank.honest c.args.array.now.bank) (at - c.args.first)
-    (IsPartlyZero EXTENT_SECTORS c.args.map.now c.args.volume c.args.first c.args.last)
-    (IsZeroed EXTENT_SECTORS c.args.map.now c.args.volume c.args.first at)
+    (IsPartlyZero (extents_in c.args.array.now.table.geometry) c.args.map.now c.args.volume c.args.first c.args.last)
+    (IsZeroed (extents_in c.args.array.now.table.geometry) c.args.map.now c.args.volume c.args.first at)
     (array_view c.args.array.now)
     (array_view c.loop-at.array) (Ok tt)) same c.loop-at.invariant.changes

@@ -1,6 +1,8 @@
-use Rattle.std.proofs.Common.{◌<◌, ◌+◌, length, Ok, Err, refl, ap, arith, ◌∙◌}
-use Rattle.layout_map.specs.declared.geometry.Geometry.{Geometry}
+use Rattle.std.proofs.Common.{◌<◌, ◌+◌, length, Ok, Err, refl, sym, subst, arith, ◌∙◌}
 use Rattle.std.proofs.lemmas.Result.{err_from_is_err_and}
+use Rattle.extents.specs.declared.extent_layout.ExtentLayout.{ExtentLayout}
+use Rattle.extents.specs.SetExtents.{extents_in}
+use Rattle.extents.specs.ExtentMaps.{HasPlace, IsWhere, place_of}
 use Rattle.volume_table.specs.ListChanges.{IsSame}
 use Rattle.volume_table.proofs.ListChanges.{changes_none}
 use Rattle.volume_table.proofs.ReadBlocks.{block_of_set, one_more_block, read_gives, read_on}
@@ -18,14 +20,18 @@ loop-i-init g c = record {
 }
 
 pub where_is-requires : goal.where_is-requires
-where_is-requires g c = c.requires.placed (c.args.at + c.loop-i.i) (omega arith) (omega arith)
+where_is-requires g c =
+    let block = c.args.at + c.loop-i.i in
+    subst (λ (e : ExtentLayout). HasPlace c.args.map.now c.args.volume (place_of e block)) (sym c.of-extents.ensures)
+    (c.requires.placed block (omega arith) (omega arith))
 
 pub read-requires : goal.read-requires
 read-requires g c =
     let block = c.args.at + c.loop-i.i in
     block_of_set c.args.array.now.table c.loop-i.array.table c.args.map.now c.args.volume block c.where_is.result
-    (ap (λ (g : Geometry). g.format) c.loop-i.invariant.changes.goes_on.not_older.same_geometry ∙ c.requires.of_format_one) c.requires.sized
-    c.loop-i.invariant.changes.goes_on.not_older.same_geometry (c.requires.placed block (omega arith) (omega arith)) c.where_is.ensures
+    c.requires.sized
+    c.loop-i.invariant.changes.goes_on.not_older.same_geometry (c.requires.placed block (omega arith) (omega arith))
+    (subst (λ (e : ExtentLayout). IsWhere e c.args.map.now c.args.volume block c.where_is.result) c.of-extents.ensures c.where_is.ensures)
 
 pub returns-in_err-read-clause-changes : goal.returns-in_err-read-clause-changes
 returns-in_err-read-clause-changes g c =
@@ -49,8 +55,9 @@ loop-i-preserved g c =
       changes = read_on (g.B.Bank.honest c.args.array.now.bank) (g.B.Bank.honest c.loop-i.array.bank) c.loop-i.invariant.honest c.where_is.result old mid new
           c.read.new.to (Ok tt)
           (λ fair. g.met.B.Bank.true_to _ (c.loop-i.invariant.honest fair)) c.loop-i.invariant.changes c.in_ok-read.ensures.reads;
-      gives = λ fair lost V rests. one_more_block c.args.map.now c.args.volume c.args.at c.loop-i.i c.where_is.result c.loop-i.to V c.read.new.to within
-          (c.loop-i.invariant.gives fair lost V rests) c.where_is.ensures
+      gives = λ fair lost V rests. one_more_block (extents_in c.args.array.now.table.geometry) c.args.map.now c.args.volume c.args.at c.loop-i.i c.where_is.result c.loop-i.to V c.read.new.to within
+          (c.loop-i.invariant.gives fair lost V rests)
+          (subst (λ (e : ExtentLayout). IsWhere e c.args.map.now c.args.volume (c.args.at + c.loop-i.i) c.where_is.result) c.of-extents.ensures c.where_is.ensures)
           (read_gives (g.B.Bank.honest c.args.array.now.bank) (g.B.Bank.honest c.loop-i.array.bank) c.loop-i.invariant.honest c.where_is.result old mid new
           c.read.new.to c.loop-i.invariant.changes
           c.in_ok-read.ensures.reads fair lost V rests);

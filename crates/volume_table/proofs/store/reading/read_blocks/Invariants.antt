@@ -4,6 +4,7 @@ use Rattle.superblock.specs.Cases.{Lost}
 use Rattle.array_io.specs.Believed.Views.{RestsOn}
 use Rattle.array_io.specs.Believed.OpenArray.{array_view}
 use Rattle.volume_table.specs.ListChanges.{ChangesList, IsSame}
+use Rattle.extents.specs.SetExtents.{extents_in}
 use Rattle.volume_table.proofs.ReadBlocks.{AreReadBelow}
 use Rattle.volume_table.proofs.store.reading.read_blocks.Given as goal
 
@@ -16,5 +17,5 @@ invariant-loop-i g l = record {
       (array_view l.array) (Ok tt);
   gives : g.B.Bank.honest l.initial.array.bank → (lost : Option Lost) (V : List Bytes)
       → RestsOn (array_view l.initial.array) lost V
-      → AreReadBelow l.map l.volume l.at l.i l.to V;
+      → AreReadBelow (extents_in l.initial.array.table.geometry) l.map l.volume l.at l.i l.to V;
 }

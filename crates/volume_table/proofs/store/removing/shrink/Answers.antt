@@ -1,21 +1,24 @@
 -- The table without the record, and the map without its extents, are a table and its map again.
-use Rattle.layout_map.proofs.Places.{extents_most}
-use Rattle.volume_table.specs.Stands.{extents_in}
-use Rattle.volume_table.proofs.GrownTables.{kept_after, shrunk_is_table}
-use Rattle.std.proofs.Common.{sym, arith}
+use Rattle.volume_table.proofs.GrownTables.{kept_after, shrunk_has_places, shrunk_is_table}
+use Rattle.std.proofs.Common.{None, slice_set, sym, arith}
 use Rattle.volume_table.proofs.KeptMaps.{kept_sized}
 use Rattle.volume_table.proofs.store.removing.shrink.Goals as goal
+use Rattle.extents.specs.SetExtents.{extents_in}
 
 pub set-requires-clause-is_table : goal.set-requires-clause-is_table
 set-requires-clause-is_table g c =
     let geometry = c.args.array.now.table.geometry in
     shrunk_is_table (extents_in geometry) c.args.table.now c.args.map.now c.give_back.new.self c.args.volume
-    (extents_most geometry.format geometry.members geometry.chunk geometry.stripes) c.requires.kept c.requires.of_table c.give_back.ensures
+    c.requires.kept c.requires.of_table c.give_back.ensures
 
 pub returns-clause-kept : goal.returns-clause-kept
 returns-clause-kept g c =
-    kept_after c.args.array.now.table.geometry c.put_table.new.array.table.geometry c.args.table.now c.set.new.self c.args.map.now c.give_back.new.self
-    c.requires.kept c.give_back.ensures.extents c.set.ensures.extents
+    let geometry = c.args.array.now.table.geometry in
+    kept_after geometry c.put_table.new.array.table.geometry c.args.table.now c.set.new.self c.args.map.now c.give_back.new.self
+    (slice_set c.args.table.now.records c.args.volume None)
+    c.requires.kept c.give_back.ensures.extents c.set.ensures.extents c.set.ensures.records
+    (shrunk_has_places (extents_in geometry) c.args.table.now c.args.map.now c.give_back.new.self c.args.volume c.requires.kept c.requires.of_table
+    c.give_back.ensures)
     (c.put_table.ensures.changes c.args.table.now c.spelled-before.ensures (sym c.set.ensures.version)).goes_on.not_older.same_geometry
 
 pub set-requires-clause-of_table : goal.set-requires-clause-of_table
@@ -28,7 +31,7 @@ set-requires-clause-most g c =
       arith,
       c.give_back.ensures.extents,
       kept_sized (extents_in geometry) c.args.table.now c.args.map.now c.requires.kept,
-      extents_most geometry.format geometry.members geometry.chunk geometry.stripes,
+      (extents_in geometry).limits.most,
     )
 
 pub returns-clause-honest : goal.returns-clause-honest

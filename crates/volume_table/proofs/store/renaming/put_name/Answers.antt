@@ -1,22 +1,24 @@
 -- The table with the new name, and the map as it was, are a table and its map again.
-use Rattle.std.proofs.Common.{refl, sym, arith}
-use Rattle.layout_map.proofs.Places.{extents_most}
-use Rattle.volume_table.specs.Stands.{extents_in}
-use Rattle.volume_table.proofs.GrownTables.{kept_after, renamed_below, renamed_is_table}
+use Rattle.std.proofs.Common.{Some, refl, slice_set, sym, arith}
+use Rattle.volume_table.proofs.GrownTables.{kept_after, renamed_below, renamed_has_places, renamed_is_table}
 use Rattle.volume_table.proofs.KeptMaps.{kept_sized}
 use Rattle.volume_table.proofs.RenamedVolumes.{rename_differs}
 use Rattle.volume_table.proofs.store.renaming.put_name.Goals as goal
+use Rattle.extents.specs.SetExtents.{extents_in}
 
 pub set-requires-clause-is_table : goal.set-requires-clause-is_table
 set-requires-clause-is_table g c =
     let geometry = c.args.array.now.table.geometry in
     renamed_is_table (extents_in geometry) c.args.table.now c.args.map.now c.args.renaming.volume c.args.renaming.entry
-    (extents_most geometry.format geometry.members geometry.chunk geometry.stripes) c.requires.kept c.requires.may
+    c.requires.kept c.requires.may
 
 pub returns-clause-kept : goal.returns-clause-kept
 returns-clause-kept g c =
-    kept_after c.args.array.now.table.geometry c.put_table.new.array.table.geometry c.args.table.now c.set.new.self c.args.map.now c.args.map.now
-    c.requires.kept refl c.set.ensures.extents
+    let geometry = c.args.array.now.table.geometry in
+    kept_after geometry c.put_table.new.array.table.geometry c.args.table.now c.set.new.self c.args.map.now c.args.map.now
+    (slice_set c.args.table.now.records c.args.renaming.volume (Some c.args.renaming.entry))
+    c.requires.kept refl c.set.ensures.extents c.set.ensures.records
+    (renamed_has_places (extents_in geometry) c.args.table.now c.args.map.now c.args.renaming.volume c.args.renaming.entry c.requires.kept c.requires.may)
     (c.put_table.ensures.changes c.args.table.now c.spelled-before.ensures (sym c.set.ensures.version)).goes_on.not_older.same_geometry
 
 pub set-requires-clause-of_table : goal.set-requires-clause-of_table
@@ -28,7 +30,7 @@ set-requires-clause-most g c =
     omega (
       arith,
       kept_sized (extents_in geometry) c.args.table.now c.args.map.now c.requires.kept,
-      extents_most geometry.format geometry.members geometry.chunk geometry.stripes,
+      (extents_in geometry).limits.most,
     )
 
 pub returns-clause-honest : goal.returns-clause-honest

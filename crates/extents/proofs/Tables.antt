@@ -1,5 +1,6 @@
 -- What the checks find out is what makes a table.
-use Rattle.std.proofs.Common.{◌≡◌, ℕ, ◌<◌, ◌≤◌, Bool, true, false, not, List, Option, Some, None, length, get_or, refl, sym, ◌∙◌, ap, ◌⊎◌, inl, inr, ⊎_elim, eqb, arith}
+use Rattle.std.proofs.Common.{◌≡◌, ℕ, ◌<◌, ◌≤◌, Bool, true, false, not, List, Option, Some, None, length, get_or, refl, sym, ◌∙◌, ap, ◌⊎◌, inl, inr, ⊎_elim}
+use Rattle.std.proofs.Common.{eqb, arith}
 use Rattle.std.specs.Option.{MatchOption, option_eq, is_some}
 use Rattle.std.specs.Str.{bytes_eq}
 use Rattle.std.proofs.lemmas.Bool.{eqb-true, eq-eqb, cases_lt}

@@ -5,7 +5,7 @@ use Rattle.std.proofs.lemmas.Nat.{div-add-mod', mod_below, mul-le}
 use Rattle.layout_map.specs.declared.format.Format.{Format}
 use Rattle.layout_map.specs.declared.format.Format.TheVariants.{One, Two}
 use Rattle.layout_map.specs.declared.geometry.Geometry.{Geometry}
-use Rattle.layout_map.specs.declared.sizes.TheConstants.{RESERVED_SECTORS}
+use Rattle.layout_map.specs.declared.sizes.TheConstants.{EXTENT_SECTORS, MOST_EXTENTS, RESERVED_SECTORS}
 use Rattle.layout_map.specs.Placement.{extent_blocks, extents_of, first_extent, stripe_blocks}
 use Rattle.layout_map.proofs.Places.{chunk_least, data_sectors_most, extent_least, extents_fit, extents_most, stripe_least}
 use Rattle.extents.specs.declared.extent_layout.ExtentLayout.{ExtentLayout}
@@ -48,6 +48,15 @@ extents_in geometry = record {
   blocks = extent_blocks geometry.format geometry.members geometry.chunk geometry.stripes;
   count = extents_of geometry.format geometry.members geometry.chunk geometry.stripes;
   limits = lie_in_set geometry;
+}
+
+-- so many extents of 64 blocks each, from sector 64 on: those of a set of format 1
+abbrev pub of_64 : (count : ℕ) → count ≤ MOST_EXTENTS → ExtentLayout
+of_64 count most = record {
+  first = RESERVED_SECTORS;
+  blocks = EXTENT_SECTORS;
+  count = count;
+  limits = record { above = omega arith; some = omega arith; most = most; fits = omega arith };
 }
 
 -- A table of a set whose extents lie so: each record has exactly the extents that its blocks take, and no extent is used that the set doesn't have.

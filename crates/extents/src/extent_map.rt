@@ -86,8 +86,8 @@ impl ExtentMap {
         self.extents_of(volume).len() as u32
     }
 
-    /// The extents of a volume in order of place, each below 1,024: the one at place 0 first. Empty where the volume has
-    /// none.
+    /// The extents of a volume in order of place, each below 1,024: the one at place 0 first. Empty where the volume
+    /// has none.
     pub fn extents_of(&self, volume: u8) -> &[u16]
         ensures extents { AreExtentsOf self.now volume result.now }
         ensures below { (place : ℕ) → place < length result.now → slice_index result.now place < MOST_EXTENTS }

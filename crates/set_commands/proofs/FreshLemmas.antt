@@ -81,7 +81,7 @@ pub made_fresh : (id : List ℕ) (geometry : Geometry) (bank : BankView) (array 
     → IsQuietBeyond id 5 bank → Makes (Unit {0}) id geometry bank (recovery.Opened array) → IsMadeFresh array
 made_fresh id geometry bank array is_id members chunk stripes quiet makes = record {
   of_id = (makes.first array refl).of_id ∙ is_id;
-  of_format_one = (makes.its_slots array refl).of_format_one;
+  of_format_one = makes.of_format_one array refl;
   members = ap (λ (g : Geometry). g.members) same ∙ members;
   chunk = ap (λ (g : Geometry). g.chunk) same ∙ chunk;
   stripes = ap (λ (g : Geometry). g.stripes) same ∙ stripes;

@@ -2,7 +2,7 @@
 use crate::run_script;
 use crate::testing::streams::{Full, Script, WHOLE};
 use crate::testing::{ID, joined, same};
-use layout_map::{Format, Geometry};
+use layout_map::Geometry;
 use recovery::make;
 use sector_model::{Bank, Choice, Image, MemBank, Plan, Refusal};
 use std::process::Abort;
@@ -72,7 +72,6 @@ fn fresh_store_of(rt: &(impl Abort + AllocGlobal), id: [u8; 16], stripes: u32) -
     }
     let (bank, entry) = bank_of(rt, Image { slots });
     let array = make(bank, entry, id, geometry).ok().expect(rt, "a set");
-    assert!(rt; array.table.geometry.format == Format::One);
     Store::open(array).ok().expect(rt, "a store")
 }
 

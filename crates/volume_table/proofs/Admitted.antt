@@ -22,7 +22,8 @@ use Rattle.extents.proofs.Tables.{some_within}
 use Rattle.volume_table.specs.Names.{is_good_name}
 use Rattle.extents.specs.Versions.{most_name_bytes, most_volumes}
 use Rattle.volume_table.specs.Volumes.{AreVolumes, Block, Volume, VolumeList, VolumeMap, blocks_of, need, with_volume, zero_block}
-use Rattle.volume_table.specs.VolumeStep.{Command, Create, Extend, Remove, Rename, blocks_in, changed, checks_within, first_refusal, has_no_volume, is_bad_count}
+use Rattle.volume_table.specs.VolumeStep.{Command, Create, Extend, Remove, Rename, blocks_in, changed, checks_within, first_refusal, has_no_volume}
+use Rattle.volume_table.specs.VolumeStep.{is_bad_count}
 use Rattle.volume_table.specs.VolumeStep.{is_bad_size, refusal_of, zero_blocks}
 use Rattle.volume_table.specs.Law.{HasLength}
 use Rattle.volume_table.specs.Shows.{used_records}
@@ -37,7 +38,6 @@ use Rattle.volume_table.proofs.VolumeLemmas.{need-with_other}
 use Rattle.extents.specs.declared.record.TheConstants.{MOST_BLOCKS}
 use Rattle.volume_table.specs.declared.event.TheConstants.{MOST_BLOCKS_AT_ONCE}
 use Rattle.extents.specs.declared.volume_table.TheConstants.{MOST_VOLUMES}
-use Rattle.layout_map.specs.declared.sizes.TheConstants.{MOST_EXTENTS}
 
 -- a table has 64 records
 pub all_records : (table : VolumeTable) → length table.records ≡ MOST_VOLUMES
@@ -80,7 +80,8 @@ found_within table name number long at count found least most fits =
     }
 
 -- no volume has a name that no record has
-pub absent_by : (extents : ExtentLayout) (table : VolumeTable) (sectors : List Block) (volumes : VolumeMap) (name : List ℕ) → ShowsBy extents table sectors volumes
+pub absent_by : (extents : ExtentLayout) (table : VolumeTable) (sectors : List Block) (volumes : VolumeMap) (name : List ℕ)
+    → ShowsBy extents table sectors volumes
     → (HasRecord table.records name → ⊥)
     → blocks_of name volumes.volumes ≡ None
 absent_by extents table sectors volumes name by none =
@@ -268,7 +269,8 @@ volumes_are_full extents table sectors volumes by none =
     let same : most_volumes table.version ≡ most_volumes volumes.version = ap most_volumes (version_by extents table sectors volumes by) in
     omega (arith, same, used_by extents table sectors volumes by, all_used (most_volumes table.version) table.records (omega (arith, long, most)) none)
 
-pub volumes_are_fewer : (extents : ExtentLayout) (table : VolumeTable) (sectors : List Block) (volumes : VolumeMap) (number : ℕ) → ShowsBy extents table sectors volumes
+pub volumes_are_fewer : (extents : ExtentLayout) (table : VolumeTable) (sectors : List Block) (volumes : VolumeMap) (number : ℕ)
+    → ShowsBy extents table sectors volumes
     → IsFirstUnused table.version table.records number → length volumes.volumes < most_volumes volumes.version
 volumes_are_fewer extents table sectors volumes number by unused =
     let same : most_volumes table.version ≡ most_volumes volumes.version = ap most_volumes (version_by extents table sectors volumes by) in
@@ -292,7 +294,8 @@ pub new_by : (extents : ExtentLayout) (table : VolumeTable) (sectors : List Bloc
     → IsGoodNew table.version name count → IsGoodNew volumes.version name count
 new_by extents table sectors volumes name count by new = subst (λ (v : ℕ). IsGoodNew v name count) (version_by extents table sectors volumes by) new
 
-pub name_by : (extents : ExtentLayout) (table : VolumeTable) (sectors : List Block) (volumes : VolumeMap) (name : List ℕ) → ShowsBy extents table sectors volumes
+pub name_by : (extents : ExtentLayout) (table : VolumeTable) (sectors : List Block) (volumes : VolumeMap) (name : List ℕ)
+    → ShowsBy extents table sectors volumes
     → IsNameOf table.version name → IsNameOf volumes.version name
 name_by extents table sectors volumes name by is = subst (λ (v : ℕ). IsNameOf v name) (version_by extents table sectors volumes by) is
 
@@ -309,7 +312,8 @@ creation_long_name extents table sectors volumes name count by long =
     let same : most_name_bytes table.version ≡ most_name_bytes volumes.version = ap most_name_bytes (version_by extents table sectors volumes by) in
     creation_bad_name extents name count volumes (λ is. omega (arith, long, same, is.short))
 
-pub creation_bad_size : (extents : ExtentLayout) (name : List ℕ) (count : ℕ) (volumes : VolumeMap) → IsNameOf volumes.version name → (count ≡ 0) ⊎ (MOST_BLOCKS < count)
+pub creation_bad_size : (extents : ExtentLayout) (name : List ℕ) (count : ℕ) (volumes : VolumeMap) → IsNameOf volumes.version name
+    → (count ≡ 0) ⊎ (MOST_BLOCKS < count)
     → Some BadSize ≡ refusal_of extents (Create name count) volumes
 creation_bad_size extents name count volumes is bad =
     sym (cond-false (not (is_good_name volumes.version name)) (Some BadName) _ (name_is_good volumes.version name is)
@@ -356,7 +360,8 @@ room_for_one extents name count volumes new room =
     ∙ cond-false (nat_le (most_volumes volumes.version) (length volumes.volumes)) (Some TooManyVolumes) _
     (lt-leb (most_volumes volumes.version) (length volumes.volumes) room.fewer)
 
-pub creation_no_space : (extents : ExtentLayout) (free : ℕ) (name : List ℕ) (count : ℕ) (volumes : VolumeMap) → IsGoodNew volumes.version name count → HasRoomFor name volumes
+pub creation_no_space : (extents : ExtentLayout) (free : ℕ) (name : List ℕ) (count : ℕ) (volumes : VolumeMap) → IsGoodNew volumes.version name count
+    → HasRoomFor name volumes
     → free + need extents.blocks volumes.volumes ≡ extents.count → free < extents_for extents.blocks count
     → Some NoSpace ≡ refusal_of extents (Create name count) volumes
 creation_no_space extents free name count volumes new room all less =
@@ -364,8 +369,10 @@ creation_no_space extents free name count volumes new room all less =
     sym (room_for_one extents name count volumes new room
     ∙ cond-true (nat_lt extents.count needed) (Some NoSpace) None (lt-ltb extents.count needed (omega (arith, all, less))))
 
-pub creation_admitted : (extents : ExtentLayout) (free : ℕ) (name : List ℕ) (count : ℕ) (volumes : VolumeMap) → IsGoodNew volumes.version name count → HasRoomFor name volumes
-    → free + need extents.blocks volumes.volumes ≡ extents.count → extents_for extents.blocks count ≤ free → None ≡ refusal_of extents (Create name count) volumes
+pub creation_admitted : (extents : ExtentLayout) (free : ℕ) (name : List ℕ) (count : ℕ) (volumes : VolumeMap) → IsGoodNew volumes.version name count
+    → HasRoomFor name volumes
+    → free + need extents.blocks volumes.volumes ≡ extents.count → extents_for extents.blocks count ≤ free
+    → None ≡ refusal_of extents (Create name count) volumes
 creation_admitted extents free name count volumes new room all fits =
     let needed = need extents.blocks volumes.volumes + extents_for extents.blocks count in
     sym (room_for_one extents name count volumes new room
@@ -450,7 +457,8 @@ pub extension_no_space : (extents : ExtentLayout) (free : ℕ) (name : List ℕ)
 extension_no_space extents free name long growth volumes are has least most all less =
     let needed = need extents.blocks (changed (Extend name growth) volumes.volumes) in
     let above : extents.count < needed = omega (arith, all, less, grown_need extents name long growth volumes are has) in
-    sym (good_growth extents name long growth volumes has least most ∙ cond-true (nat_lt extents.count needed) (Some NoSpace) None (lt-ltb extents.count needed above))
+    sym (good_growth extents name long growth volumes has least most
+    ∙ cond-true (nat_lt extents.count needed) (Some NoSpace) None (lt-ltb extents.count needed above))
 
 pub extension_admitted : (extents : ExtentLayout) (free : ℕ) (name : List ℕ) (long growth : ℕ) (volumes : VolumeMap) → AreVolumes extents volumes
     → HasLength name long volumes.volumes → 1 ≤ growth → long + growth ≤ MOST_BLOCKS
@@ -459,7 +467,8 @@ pub extension_admitted : (extents : ExtentLayout) (free : ℕ) (name : List ℕ)
 extension_admitted extents free name long growth volumes are has least most all fits =
     let needed = need extents.blocks (changed (Extend name growth) volumes.volumes) in
     let within : needed ≤ extents.count = omega (arith, all, fits, grown_need extents name long growth volumes are has) in
-    sym (good_growth extents name long growth volumes has least most ∙ cond-false (nat_lt extents.count needed) (Some NoSpace) None (le-ltb extents.count needed within))
+    sym (good_growth extents name long growth volumes has least most
+    ∙ cond-false (nat_lt extents.count needed) (Some NoSpace) None (le-ltb extents.count needed within))
 
 -- ---- a rename
 
@@ -487,13 +496,15 @@ good_rename extents old new long volumes has is =
     cond-false (has_no_volume old volumes.volumes) (Some NoVolume) _ (is_there old long volumes.volumes has)
     ∙ cond-false (not (is_good_name volumes.version new)) (Some BadName) _ (name_is_good volumes.version new is)
 
-pub rename_exists : (extents : ExtentLayout) (old new : List ℕ) (long other : ℕ) (volumes : VolumeMap) → HasLength old long volumes.volumes → IsNameOf volumes.version new
+pub rename_exists : (extents : ExtentLayout) (old new : List ℕ) (long other : ℕ) (volumes : VolumeMap) → HasLength old long volumes.volumes
+    → IsNameOf volumes.version new
     → HasLength new other volumes.volumes
     → Some Exists ≡ refusal_of extents (Rename old new) volumes
 rename_exists extents old new long other volumes has is taken =
     sym (good_rename extents old new long volumes has is ∙ cond-true (is_some (blocks_of new volumes.volumes)) (Some Exists) None (ap is_some taken.found))
 
-pub rename_admitted : (extents : ExtentLayout) (old new : List ℕ) (long : ℕ) (volumes : VolumeMap) → HasLength old long volumes.volumes → IsNameOf volumes.version new
+pub rename_admitted : (extents : ExtentLayout) (old new : List ℕ) (long : ℕ) (volumes : VolumeMap) → HasLength old long volumes.volumes
+    → IsNameOf volumes.version new
     → blocks_of new volumes.volumes ≡ None
     → None ≡ refusal_of extents (Rename old new) volumes
 rename_admitted extents old new long volumes has is absent =

@@ -131,7 +131,8 @@ need-listed each volumes (None ∷ records) distinct as_long =
     omega (arith, rest)
 need-listed each volumes (Some first ∷ records) distinct as_long =
     let rest = need-listed each volumes records (distinct_rest (Some first) records distinct) (λ number entry used. as_long (suc number) entry used) in
-    let more = need-with_new each (volume_of volumes first) (listed volumes records) (rising_listed volumes records) (not_again volumes first records distinct) in
+    let more = need-with_new each (volume_of volumes first) (listed volumes records) (rising_listed volumes records)
+    (not_again volumes first records distinct) in
     let same : extents_for each (length (blocks_in first.name.bytes.items volumes)) ≡ extents_for each first.blocks =
     ap (extents_for each) (as_long 0 first refl) in
     omega (arith, rest, more, same)
@@ -145,7 +146,8 @@ record_blocks {extents} records owners sectors volumes shown number entry used =
     ap (λ o. length (unwrap_or o [])) was.named ∙ was.as_long
 
 -- the volumes of the records are the volumes
-pub listed_are : {extents : ExtentLayout} (records : List (Option Record)) (owners : List (Option Owned)) (sectors : List Block) (volumes : VolumeList) → Rising volumes
+pub listed_are : {extents : ExtentLayout} (records : List (Option Record)) (owners : List (Option Owned)) (sectors : List Block) (volumes : VolumeList)
+    → Rising volumes
     → AreShown extents records owners sectors volumes → listed volumes records ≡ volumes
 listed_are {extents} records owners sectors volumes rising shown =
     known_by_blocks (listed volumes records) volumes (rising_listed volumes records) rising (λ name.

@@ -70,7 +70,8 @@ pub growing_applies : (honest : Type 0) (command : Command) (old new : StoreView
     → ((volumes : VolumeMap) → Done ≡ answer command volumes.volumes) → entry.blocks ≤ MOST_BLOCKS
     → ((sectors : List Block) (volumes : VolumeMap) → ShowsBy (extents_for_store old) old.keeps sectors volumes
     → None ≡ refusal_of (extents_for_store old) command volumes)
-    → ((V W : List Block) (volumes : VolumeMap) → ShowsBy (extents_for_store old) old.keeps V volumes → IsGrown (extents_for_store old) new.keeps number first entry.blocks V W
+    → ((V W : List Block) (volumes : VolumeMap) → ShowsBy (extents_for_store old) old.keeps V volumes
+    → IsGrown (extents_for_store old) new.keeps number first entry.blocks V W
     → ShowsBy (extents_for_store old) new.keeps W (done command volumes))
     → Applies honest (OnVolumes command) old new (done_reply result)
 growing_applies honest command old new owners owners' number first entry result grown whole kind answers most admitted shows = by_result result grown
@@ -88,13 +89,15 @@ growing_applies honest command old new owners owners' number first entry result 
         → Applies honest (OnVolumes command) old new (done_reply result)
     by_result (Ok unit) is =
         done_with_volumes honest command (entry.blocks - first + 1) (MayGrow (extents_for_store old) old.keeps new.keeps number first entry.blocks)
-        (Grows (extents_for_store old) old.keeps new.keeps number first entry.blocks) old new Done whole (omega (arith, most)) is.going (is.goes refl) is.true_to is.changes kind
+        (Grows (extents_for_store old) old.keeps new.keeps number first entry.blocks) old new Done whole (omega (arith, most)) is.going (is.goes refl)
+        is.true_to is.changes kind
         admitted
         (λ fair lost V volumes rests by. answers volumes) on_the_way
         (λ V W volumes by leaves. shows V W volumes by (leaves (begins_with (extents_for_store old) old.keeps V volumes by)))
     by_result (Err refusal) is =
         ended_with_volumes honest command (entry.blocks - first + 1) (MayGrow (extents_for_store old) old.keeps new.keeps number first entry.blocks)
-        (Grows (extents_for_store old) old.keeps new.keeps number first entry.blocks) old new refusal whole (omega (arith, most)) is.going (is.ends refusal refl) is.true_to is.changes
+        (Grows (extents_for_store old) old.keeps new.keeps number first entry.blocks) old new refusal whole (omega (arith, most)) is.going
+        (is.ends refusal refl) is.true_to is.changes
         admitted on_the_way
 
 -- A create that is admitted.
@@ -111,7 +114,8 @@ create_applies honest name count old new owners owners' number first entry resul
     none_first : first ≡ 0
     none_first = subst (λ (r : Option Record). IsGrownFrom r first entry) unused grown.may.from
 
-    shows : (V W : List Block) (volumes : VolumeMap) → ShowsBy (extents_for_store old) old.keeps V volumes → IsGrown (extents_for_store old) new.keeps number first entry.blocks V W
+    shows : (V W : List Block) (volumes : VolumeMap) → ShowsBy (extents_for_store old) old.keeps V volumes
+        → IsGrown (extents_for_store old) new.keeps number first entry.blocks V W
         → ShowsBy (extents_for_store old) new.keeps W (done (Create name count) volumes)
     shows V W volumes by is =
         subst (λ (n : ℕ). ShowsBy (extents_for_store old) new.keeps W (done (Create name n) volumes)) same_count

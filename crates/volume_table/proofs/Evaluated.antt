@@ -1,5 +1,5 @@
 -- What the evaluation of a logical list finds is what the list shows.
-use Rattle.std.proofs.Common.{◌≡◌, ⊎_elim, ℕ, ◌/◌, ◌<◌, ◌≤◌, min, List, [], ◌++◌, length, take, drop, get_or, All, Option, Some, None, refl, sym, ap, subst}
+use Rattle.std.proofs.Common.{◌≡◌, ⊎_elim, ℕ, ◌<◌, ◌≤◌, min, List, [], ◌++◌, length, take, drop, get_or, All, Option, Some, None, refl, sym, ap, subst}
 use Rattle.std.proofs.Common.{◌∙◌, arith, Bor}
 use Rattle.std.specs.List.{slice_get}
 use Rattle.std.specs.Option.{option_map, option_and_then, option_copied}
@@ -69,7 +69,8 @@ no_record extents sectors volumes name table shows same none =
     none (record { number = number; entry = entry; used = ap (λ (t : VolumeTable). record_of t.records number) same ∙ used; named = named }))
 
 -- so it has no number of blocks
-pub no_count : (extents : ExtentLayout) (sectors : List Block) (volumes : VolumeMap) (name : List ℕ) (table : VolumeTable) (shows : Shows extents sectors volumes)
+pub no_count : (extents : ExtentLayout) (sectors : List Block) (volumes : VolumeMap) (name : List ℕ) (table : VolumeTable)
+    (shows : Shows extents sectors volumes)
     → table ≡ shows.table
     → (HasRecord table.records name → ⊥) → block_count name volumes ≡ None
 no_count extents sectors volumes name table shows same none = ap (option_map length) (no_record extents sectors volumes name table shows same none)
@@ -126,7 +127,8 @@ no_block extents sectors volumes name number count at table shows same found bey
     rw volume.is (slice_get_past volume.blocks at (omega (arith, beyond, volume.as_long)))
 
 -- and an extent for each of them
-pub has_extent : (extents : ExtentLayout) (name : List ℕ) (number count at : ℕ) (table : VolumeTable) → ∥ HaveTheirPlaces extents.blocks table.records table.extents ∥₁ → IsRecordFor table.records name number count → at < count
+pub has_extent : (extents : ExtentLayout) (name : List ℕ) (number count at : ℕ) (table : VolumeTable)
+    → ∥ HaveTheirPlaces extents.blocks table.records table.extents ∥₁ → IsRecordFor table.records name number count → at < count
     → ((extent : ℕ) → IsAt table.extents extent number (place_of extents at) → ⊥) → ⊥
 has_extent extents name number count at table places found within none = ∥∥₁_elim places (hlevel props) (λ placed.
     let has : HasPlaces table.extents number (extents_of extents.blocks (record_of table.records number)) = placed number in

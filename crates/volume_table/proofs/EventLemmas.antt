@@ -28,7 +28,8 @@ after_one_more extents events volumes n d within =
     after_in_parts extents events volumes n 1 ∙ ap (λ rest. after extents rest (after extents events volumes n) 1) (drop_more events n d within)
 
 -- a refused event changes nothing
-pub after_refused : (extents : ExtentLayout) (events : List Event) (volumes : VolumeMap) (n : ℕ) (command : Command) (refusal : Refusal) (d : Event) → n < length events
+pub after_refused : (extents : ExtentLayout) (events : List Event) (volumes : VolumeMap) (n : ℕ) (command : Command) (refusal : Refusal) (d : Event)
+    → n < length events
     → get_or events n d ≡ OnVolumes command
     → reply_to extents command (after extents events volumes n) ≡ Refused refusal → after extents events volumes (n + 1) ≡ after extents events volumes n
 after_refused extents events volumes n command refusal d within is_this refused =

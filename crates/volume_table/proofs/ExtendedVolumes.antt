@@ -1,5 +1,5 @@
 -- An extend, by what its calls of the array do.
-use Rattle.std.proofs.Common.{◌≡◌, inl, inr, ℕ, zero, suc, ◌+◌, ◌-◌, ◌/◌, ◌<◌, ◌≤◌, List, [], ◌∷◌, ◌++◌, length, get_or, Option, Some, None, Err, refl, sym}
+use Rattle.std.proofs.Common.{◌≡◌, inl, inr, ℕ, zero, suc, ◌+◌, ◌-◌, ◌<◌, ◌≤◌, List, [], ◌∷◌, ◌++◌, length, get_or, Option, Some, None, Err, refl, sym}
 use Rattle.std.proofs.Common.{◌∙◌, ap, subst, arith}
 use Rattle.std.proofs.Props.{props}
 use Rattle.std.proofs.Math.Logic.{∥∥₁_elim}
@@ -36,7 +36,8 @@ use Rattle.volume_table.proofs.TableLemmas.{extend_is_shown}
 use Rattle.extents.specs.declared.record.TheConstants.{MOST_BLOCKS}
 
 -- an extent that the volume had at a place is the one that it has there in the new table
-old_extent : (extents : ExtentLayout) (old new : VolumeTable) (number first : ℕ) (entry one : Record) (j extent : ℕ) → IsGrowth extents old new number first entry
+old_extent : (extents : ExtentLayout) (old new : VolumeTable) (number first : ℕ) (entry one : Record) (j extent : ℕ)
+    → IsGrowth extents old new number first entry
     → IsOfSet extents old → record_of old.records number ≡ Some one
     → j < one.blocks → IsAt new.extents extent number (place_of extents j) → IsAt old.extents extent number (place_of extents j)
 old_extent extents old new number first entry one j extent growth of_set used below at =
@@ -123,7 +124,8 @@ applies_to : (honest : Type 0) (name : List ℕ) (growth_by : ℕ) (old new : St
     → entry.blocks ≡ first + growth_by → entry.blocks ≤ MOST_BLOCKS
     → ((sectors : List Block) (volumes : VolumeMap) → ShowsBy (extents_for_store old) old.keeps sectors volumes
     → None ≡ refusal_of (extents_for_store old) (Extend name growth_by) volumes)
-    → ((V W : List Block) (volumes : VolumeMap) → ShowsBy (extents_for_store old) old.keeps V volumes → IsGrown (extents_for_store old) new.keeps number first entry.blocks V W
+    → ((V W : List Block) (volumes : VolumeMap) → ShowsBy (extents_for_store old) old.keeps V volumes
+    → IsGrown (extents_for_store old) new.keeps number first entry.blocks V W
     → ShowsBy (extents_for_store old) new.keeps W (done (Extend name growth_by) volumes))
 applies_to honest name growth_by old new owners owners' number first entry result grown found named blocks most admitted V W volumes by is =
     let one : Record = found.entry in

@@ -1,5 +1,5 @@
 -- The extents that are free are those that the volumes do not need.
-use Rattle.std.proofs.Common.{◌≡◌, ⊎_elim, ℕ, zero, suc, ◌+◌, ◌<◌, ◌≤◌, List, [], ◌∷◌, ◌++◌, length, take, get_or, Option, None, refl, sym, ap, ◌∙◌, arith}
+use Rattle.std.proofs.Common.{◌≡◌, ⊎_elim, ℕ, zero, suc, ◌+◌, ◌≤◌, List, [], ◌∷◌, ◌++◌, length, take, get_or, Option, None, refl, sym, ap, ◌∙◌, arith}
 use Rattle.std.proofs.Props.{props}
 use Rattle.std.proofs.Math.Logic.{∥∥₁_elim}
 use Rattle.std.proofs.lemmas.Bool.{cases_lt}
@@ -9,7 +9,7 @@ use Rattle.extents.specs.declared.owned.Owned.{Owned}
 use Rattle.extents.specs.declared.record.Record.{Record}
 use Rattle.extents.specs.ExtentLaws.{counted_below, IsCounted}
 use Rattle.extents.specs.ExtentMaps.{IsExtentMap, free_of, count_of}
-use Rattle.extents.specs.Owners.{owner_of, IsAt, HasPlaces}
+use Rattle.extents.specs.Owners.{owner_of, HasPlaces}
 use Rattle.extents.specs.VolumeTables.{record_of, extents_of, HaveTheirPlaces, IsVolumeTable}
 use Rattle.extents.proofs.CountLemmas.{count_of_places}
 use Rattle.extents.proofs.ExtentLawLemmas.{extents_are_counted}
@@ -17,7 +17,6 @@ use Rattle.volume_table.specs.Volumes.{Block, VolumeMap, need}
 use Rattle.volume_table.specs.Shows.{Shows, records_need}
 use Rattle.volume_table.proofs.CountLemmas.{records_are_counted}
 use Rattle.extents.specs.declared.volume_table.TheConstants.{MOST_VOLUMES}
-use Rattle.layout_map.specs.declared.sizes.TheConstants.{MOST_EXTENTS}
 
 -- what stands after a list is its default
 get_or_past : {X : Type 0} (xs : List X) (k : ℕ) (d : X) → length xs ≤ k → get_or xs k d ≡ d
@@ -55,7 +54,8 @@ table_is_extent_map extents version records owners table free =
     }
 
 -- the extents of records, and of one more
-records_need-append : (each : ℕ) (records more : List (Option Record)) → records_need each (records ++ more) ≡ records_need each records + records_need each more
+records_need-append : (each : ℕ) (records more : List (Option Record))
+    → records_need each (records ++ more) ≡ records_need each records + records_need each more
 records_need-append each [] more = omega arith
 records_need-append each (entry ∷ records) more = omega (arith, records_need-append each records more)
 
@@ -78,7 +78,8 @@ counted_are_needed each owners records (suc n) counts within =
 
 free_by_table : (extents : ExtentLayout) (version : ℕ) (records : List (Option Record)) (owners : List (Option Owned))
     → IsVolumeTable version records owners → HaveTheirPlaces extents.blocks records owners
-    → ((extent : ℕ) → extents.count ≤ extent → owner_of owners extent ≡ None) → free_of (take extents.count owners) + records_need extents.blocks records ≡ extents.count
+    → ((extent : ℕ) → extents.count ≤ extent → owner_of owners extent ≡ None)
+    → free_of (take extents.count owners) + records_need extents.blocks records ≡ extents.count
 free_by_table extents version records owners table placed free =
     let its = take extents.count owners in
     let each = extents.blocks in

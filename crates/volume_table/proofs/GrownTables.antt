@@ -1,5 +1,5 @@
 -- The table of volumes and the map of its extents, when a volume gets extents, when it gives its own back, and when it gets another name.
-use Rattle.std.proofs.Common.{◌≡◌, ◌≢◌, ◌⊎◌, inl, inr, ⊎_elim, ℕ, ◌+◌, ◌-◌, ◌/◌, ◌<◌, ◌≤◌, List, length, take, slice_set, Option, Some, None, refl, sym, ap}
+use Rattle.std.proofs.Common.{◌≡◌, ◌≢◌, ◌⊎◌, inl, inr, ⊎_elim, ℕ, ◌+◌, ◌-◌, ◌<◌, ◌≤◌, List, length, take, slice_set, Option, Some, None, refl, sym, ap}
 use Rattle.std.proofs.Common.{◌∙◌, subst, Ok, Err, arith}
 use Rattle.std.proofs.Props.{props}
 use Rattle.std.proofs.Math.Logic.{∥∥₁_elim}
@@ -70,7 +70,8 @@ kept_by_owners extents table owners long same placed = record {
   same = sym (take_padded owners) ∙ ap (λ n. take n (owners_padded owners)) long ∙ ap (take extents.count) (sym same);
   of_set = record {
     free_beyond = λ extent beyond.
-        ap (λ (its : List (Option Owned)). owner_of its extent) same ∙ owner_padded owners extent ∙ get_or_past owners extent None (omega (arith, beyond, long));
+        ap (λ (its : List (Option Owned)). owner_of its extent) same ∙ owner_padded owners extent
+        ∙ get_or_past owners extent None (omega (arith, beyond, long));
     placed = subst (λ (its : List (Option Owned)). ∥ HaveTheirPlaces extents.blocks table.records its ∥₁) (sym same) placed;
   };
 }
@@ -218,7 +219,8 @@ taken_places_of extents table owners new number first n entry kept placed is_tab
     let had = extents_of extents.blocks (record_of table.records number) in
     let its : HasPlaces owners number had = places_by_owner table.extents owners number had (kept_owner extents table owners kept) (placed number) in
     let count : count_of owners number ≡ had = count_of_places owners number had its in
-    let was : had ≡ extents_for extents.blocks first = extents_before extents.blocks (record_of table.records number) first entry extents.limits.some may.from in
+    let was : had ≡ extents_for extents.blocks first = extents_before extents.blocks (record_of table.records number) first entry extents.limits.some
+    may.from in
     let more : extents_for extents.blocks first ≤ extents_for extents.blocks entry.blocks =
     more_take_more extents.blocks first entry.blocks extents.limits.some (omega (arith, may.more)) in
     let keeps : TakingKeeps owners new number n = taking_keeps owners new number n (kept_is_map extents table owners kept is_table)
@@ -348,7 +350,8 @@ renamed_has_places extents table owners number entry kept may = ∥∥₁_elim k
 -- ---- the lists on the way
 
 -- an owner list with the same owners has the same blocks
-blocks_by_owner : {extents : ExtentLayout} (owners other : List (Option Owned)) (number first last sector : ℕ) → ((extent : ℕ) → owner_of other extent ≡ owner_of owners extent)
+blocks_by_owner : {extents : ExtentLayout} (owners other : List (Option Owned)) (number first last sector : ℕ)
+    → ((extent : ℕ) → owner_of other extent ≡ owner_of owners extent)
     → IsOfBlocks extents owners number first last sector → IsOfBlocks extents other number first last sector
 blocks_by_owner {extents} owners other number first last sector same is = record {
   block = is.block;
@@ -433,12 +436,14 @@ zeroed_then_put extents honest still fair before table owners number first last 
     (grows_then before table owners number first last same)
 
 -- or some of them, where the making was refused
-pub zeroed_in_part : (extents : ExtentLayout) (honest : Type 0) (before table : VolumeTable) (owners : List (Option Owned)) (number first last : ℕ) (old new : ArrayView)
+pub zeroed_in_part : (extents : ExtentLayout) (honest : Type 0) (before table : VolumeTable) (owners : List (Option Owned)) (number first last : ℕ)
+    (old new : ArrayView)
     (refusal : Refusal)
     → table.extents ≡ owners_padded owners
     → ChangesList honest (last - first) (IsPartlyZero extents owners number first last) (IsZeroed extents owners number first last) old new
     (Err refusal)
-    → ChangesList honest (last - first + 1) (MayGrow extents before table number first last) (Grows extents before table number first last) old new (Err refusal)
+    → ChangesList honest (last - first + 1) (MayGrow extents before table number first last) (Grows extents before table number first last) old new
+    (Err refusal)
 zeroed_in_part extents honest before table owners number first last old new refusal is_map zeroes =
     changes_refused honest (last - first) (last - first + 1) (IsPartlyZero extents owners number first last)
     (IsZeroed extents owners number first last)

@@ -1,5 +1,5 @@
 -- What a list shows on the way to a volume with new blocks, and then.
-use Rattle.std.proofs.Common.{◌≡◌, ◌≢◌, inl, inr, ℕ, ◌/◌, ◌<◌, ◌≤◌, List, [], length, get_or, take, slice_set, Option, Some, None, refl, sym, ◌∙◌, ap, subst}
+use Rattle.std.proofs.Common.{◌≡◌, ◌≢◌, inl, inr, ℕ, ◌<◌, ◌≤◌, List, [], length, get_or, take, slice_set, Option, Some, None, refl, sym, ◌∙◌, ap, subst}
 use Rattle.std.proofs.Common.{arith}
 use Rattle.std.proofs.lemmas.List.{ext_get_or, get_or-take, length-take, get_or-set_same, get_or-set_other, get_or-replicate, length-replicate}
 use Rattle.sector_model.specs.declared.refusal.Refusal.{Refusal}
@@ -38,7 +38,8 @@ pub record IsGrowth (extents : ExtentLayout) (old new : VolumeTable) (number fir
   pub was : (extent other place : ℕ) → other ≢ number → IsAt new.extents extent other place → IsAt old.extents extent other place
   pub of_set : IsOfSet extents new
 
-pub is_growth : (extents : ExtentLayout) (old new : VolumeTable) (owners owners' : List (Option Owned)) (number first n : ℕ) (entry : Record) → new.version ≡ old.version
+pub is_growth : (extents : ExtentLayout) (old new : VolumeTable) (owners owners' : List (Option Owned)) (number first n : ℕ) (entry : Record)
+    → new.version ≡ old.version
     → number < length old.records → AreKept extents old owners → AreKept extents new owners'
     → new.records ≡ slice_set old.records number (Some entry) → IsTaken owners owners' number n → IsGrownFrom (record_of old.records number) first entry
     → IsGrowth extents old new number first entry
@@ -56,7 +57,8 @@ is_growth extents old new owners owners' number first n entry version long kept 
 }
 
 -- a sector is of one extent, and at one place in it
-module _ (extents : ExtentLayout) (old new : VolumeTable) (number first : ℕ) (entry : Record) (growth : IsGrowth extents old new number first entry) (last : ℕ) where
+module _ (extents : ExtentLayout) (old new : VolumeTable) (number first : ℕ) (entry : Record) (growth : IsGrowth extents old new number first entry)
+    (last : ℕ) where
   -- a block that a volume has is none of the new ones
   not_new : (other : ℕ) (one : Record) (j extent : ℕ) → record_of old.records other ≡ Some one → j < one.blocks
       → IsAt old.extents extent other (place_of extents j)

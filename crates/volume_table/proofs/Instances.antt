@@ -8,7 +8,6 @@ use Rattle.sector_model.specs.declared.refusal.Refusal.TheVariants.{NoSet, BadTa
 use Rattle.array_io.specs.Believed.Holds.{row_count}
 use Rattle.array_io.specs.Believed.Views.{EndsIt}
 use Rattle.superblock.specs.Cases.{Lost}
-use Rattle.extents.specs.declared.extent_layout.ExtentLayout.{ExtentLayout}
 use Rattle.extents.specs.declared.volume_table.VolumeTable.{VolumeTable}
 use Rattle.volume_table.specs.Volumes.{Block, VolumeMap, need}
 use Rattle.volume_table.specs.VolumeStep.{Blocks, Done, Event, Progressed, Refused, Reply, Scrubbed, Volumes}
@@ -93,20 +92,24 @@ run_without_memory honest events store acks goes = record {
 -- a status that the table of the array and the table of volumes tell is that of each store that goes on
 pub status_is_told : TablesHaveOneSpelling → (store : StoreView) → store.ended ≡ None
     → TellsStatus store (Ok (status_by store (row_count store.array.table) (extents_for_store store).count
-    ((extents_for_store store).count - records_need (extents_for_store store).blocks store.keeps.records) (used_records store.keeps.records) store.keeps.version))
+    ((extents_for_store store).count - records_need (extents_for_store store).blocks store.keeps.records) (used_records store.keeps.records)
+    store.keeps.version))
 status_is_told one_spelling store goes =
-    counts_told store (row_count store.array.table) (extents_for_store store).count ((extents_for_store store).count - records_need (extents_for_store store).blocks store.keeps.records)
+    counts_told store (row_count store.array.table) (extents_for_store store).count
+    ((extents_for_store store).count - records_need (extents_for_store store).blocks store.keeps.records)
     (used_records store.keeps.records) store.keeps.version goes refl refl counted
   where
     same_table : (those : VolumeMap) (lost : Option Lost) (rests : IsSettledOn store lost those) → rests.shown.table ≡ store.keeps
     same_table those lost rests = one_spelling rests.logical rests.shown.table store.keeps rests.shown.spelled rests.spelled
 
     counted : (lost : Option Lost) (those : VolumeMap) → IsSettledOn store lost those
-        → ((extents_for_store store).count - records_need (extents_for_store store).blocks store.keeps.records ≡ (extents_for_store store).count - need (extents_for_store store).blocks those.volumes)
+        → ((extents_for_store store).count - records_need (extents_for_store store).blocks store.keeps.records ≡ (extents_for_store store).count - need
+        (extents_for_store store).blocks those.volumes)
         × (used_records store.keeps.records ≡ length those.volumes) × (store.keeps.version ≡ those.version)
     counted lost those rests =
         let are = records_are_counted (extents_for_store store) rests.logical those rests.shown in (
-          ap (λ (t : VolumeTable). (extents_for_store store).count - records_need (extents_for_store store).blocks t.records) (sym (same_table those lost rests))
+          ap (λ (t : VolumeTable). (extents_for_store store).count - records_need (extents_for_store store).blocks t.records)
+              (sym (same_table those lost rests))
               ∙ ap (λ n. (extents_for_store store).count - n) (sym are.1),
           ap (λ (t : VolumeTable). used_records t.records) (sym (same_table those lost rests)) ∙ sym are.0,
           ap (λ (t : VolumeTable). t.version) (sym (same_table those lost rests)) ∙ rests.shown.of_version,

@@ -1,5 +1,5 @@
 -- The map of extents that a store keeps: the blocks of its volumes have extents in it.
-use Rattle.std.proofs.Common.{◌≡◌, ◌⊎◌, inl, inr, ℕ, zero, suc, ◌+◌, ◌/◌, ◌≤◌, List, [], ◌∷◌, length, Option, Some, None, sym, ◌∙◌, ap, refl, arith}
+use Rattle.std.proofs.Common.{◌≡◌, ◌⊎◌, inl, inr, ℕ, zero, suc, ◌+◌, ◌≤◌, List, [], ◌∷◌, length, Option, Some, None, sym, ◌∙◌, ap, refl, arith}
 use Rattle.std.proofs.Props.{props}
 use Rattle.std.proofs.Math.Logic.{∥∥₁_elim}
 use Rattle.std.proofs.lemmas.Bool.{cases_eq, cases_lt}
@@ -65,7 +65,8 @@ found_place owners volume place has = elim (find_place owners volume place) [
 ]
 
 -- each of the blocks that are to be read or written has an extent
-pub within_is_placed : (extents : ExtentLayout) (table : VolumeTable) (owners : List (Option Owned)) (name : List ℕ) (number at count : ℕ) → AreKept extents table owners
+pub within_is_placed : (extents : ExtentLayout) (table : VolumeTable) (owners : List (Option Owned)) (name : List ℕ) (number at count : ℕ)
+    → AreKept extents table owners
     → ∥ IsWithinVolume table.records name number at count ∥₁ → AllPlaced extents owners number at (at + count)
 within_is_placed extents table owners name number at count kept within block least below =
     found_place owners number (place_of extents block) (∥∥₁_elim kept.of_set.placed (hlevel props) (λ placed. ∥∥₁_elim within (hlevel props) (λ it.

@@ -203,7 +203,8 @@ list_is_refused honest store going = record {
 
 -- A list that is answered is that of the volumes, and nothing is done.
 pub list_applies : (honest : Type 0) (store : StoreView) (items : List Listed) → store.ended ≡ None → (honest → IsTrueTo store.array.panel store.array.history)
-    → ((extents : ExtentLayout) (sectors : List Block) (volumes : VolumeMap) → ShowsBy extents store.keeps sectors volumes → told items ≡ lengths_of volumes.volumes)
+    → ((extents : ExtentLayout) (sectors : List Block) (volumes : VolumeMap) → ShowsBy extents store.keeps sectors volumes
+    → told items ≡ lengths_of volumes.volumes)
     → Applies honest (OnVolumes Names) store store (Volumes (told items))
 list_applies honest store items going true_to are =
     done_with_volumes honest Names 0 IsSame IsSame store store (Volumes (told items)) tt (omega arith) going going true_to

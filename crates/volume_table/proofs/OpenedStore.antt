@@ -26,7 +26,7 @@ use Rattle.extents.specs.SetExtents.{extents_in, IsOfSet}
 use Rattle.extents.specs.declared.owned.Owned.{Owned}
 use Rattle.extents.specs.declared.volume_table.VolumeTable.{VolumeTable}
 use Rattle.extents.specs.ExtentMaps.{IsExtentMap, count_of}
-use Rattle.extents.specs.Owners.{IsAt, owner_of}
+use Rattle.extents.specs.Owners.{IsAt}
 use Rattle.extents.specs.TableSpelling.{Spell, first_sector, table_sectors}
 use Rattle.extents.specs.Versions.{IsVersion, table_length}
 use Rattle.extents.proofs.ExtentLawLemmas.{extents_are_counted}

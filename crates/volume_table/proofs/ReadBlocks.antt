@@ -1,5 +1,5 @@
 -- Blocks of a volume are read one after another.
-use Rattle.std.proofs.Common.{◌≡◌, ⊎_elim, ℕ, ◌+◌, ◌/◌, ◌<◌, ◌≤◌, List, [], length, get_or, set, Option, Ok, refl, sym, ap, subst, ◌∙◌, arith}
+use Rattle.std.proofs.Common.{◌≡◌, ⊎_elim, ℕ, ◌+◌, ◌<◌, ◌≤◌, List, [], length, get_or, set, Option, Ok, refl, sym, ap, subst, ◌∙◌, arith}
 use Rattle.std.proofs.lemmas.Bool.{cases_eq}
 use Rattle.std.proofs.lemmas.List.{get_or-set_same, get_or-set_other}
 use Rattle.sector_model.specs.Bank.{IsTrueTo}
@@ -57,7 +57,8 @@ abbrev pub AreReadBelow : ExtentLayout → List (Option Owned) → (number at n 
 AreReadBelow extents owners number at n blocks sectors = (j extent : ℕ) → j < n → IsAt owners extent number (place_of extents (at + j))
     → get_or blocks j [] ≡ get_or sectors (sector_of_block extents extent (at + j)) []
 
-pub one_more_block : (extents : ExtentLayout) (owners : List (Option Owned)) (number at n sector : ℕ) (blocks V : List Block) (block : Block) → n < length blocks
+pub one_more_block : (extents : ExtentLayout) (owners : List (Option Owned)) (number at n sector : ℕ) (blocks V : List Block) (block : Block)
+    → n < length blocks
     → AreReadBelow extents owners number at n blocks V
     → IsWhere extents owners number (at + n) sector → block ≡ get_or V sector [] → AreReadBelow extents owners number at (n + 1) (set blocks n block) V
 one_more_block extents owners number at n sector blocks V block within so_far where_is is j extent below here = ⊎_elim this other (cases_eq j n)

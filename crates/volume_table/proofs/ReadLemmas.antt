@@ -1,5 +1,5 @@
 -- What a list says of the names, lengths and blocks of its volumes.
-use Rattle.std.proofs.Common.{◌≡◌, ◌≢◌, ℕ, ◌+◌, ◌/◌, ◌<◌, List, [], length, take, drop, get_or, Option, Some, None, refl, sym, ap, subst, ◌∙◌, arith}
+use Rattle.std.proofs.Common.{◌≡◌, ◌≢◌, ℕ, ◌+◌, ◌<◌, List, [], length, take, drop, get_or, Option, Some, None, refl, sym, ap, subst, ◌∙◌, arith}
 use Rattle.std.proofs.lemmas.List.{length-take, length-drop, get_or-take, get_or-drop}
 use Rattle.std.specs.List.Sorted.{IsStrictlySortedBy}
 use Rattle.std.proofs.lemmas.List.Elements.{All-nil}
@@ -28,7 +28,8 @@ absent_is_shown extents sectors volumes name shows none = by_case (blocks_of nam
     by_case (Some blocks) e = let has : HasRecord shows.table.records name =
         shows.shown.all name blocks e in absurd (none has.number has.entry has.used has.named)
 
-pub length_is_shown : (extents : ExtentLayout) (sectors : List Block) (volumes : VolumeMap) (number : ℕ) (entry : Record) (shows : Shows extents sectors volumes)
+pub length_is_shown : (extents : ExtentLayout) (sectors : List Block) (volumes : VolumeMap) (number : ℕ) (entry : Record)
+    (shows : Shows extents sectors volumes)
     → record_of shows.table.records number ≡ Some entry → HasLength entry.name.bytes.items entry.blocks volumes.volumes
 length_is_shown extents sectors volumes number entry shows used =
     let was : IsOfVolume extents shows.table.extents sectors volumes.volumes number entry = shows.shown.used number entry used in

@@ -1,5 +1,5 @@
 -- A read of a volume's blocks, by what its calls of the array do.
-use Rattle.std.proofs.Common.{◌≡◌, ◌⊎◌, inl, ℕ, zero, suc, ◌+◌, ◌*◌, ◌/◌, ◌%◌, ◌<◌, List, [], ◌∷◌, length, take, drop, get_or, Option, None, Some, Ok, Err}
+use Rattle.std.proofs.Common.{◌≡◌, ◌⊎◌, inl, ℕ, zero, suc, ◌+◌, ◌<◌, List, [], ◌∷◌, length, take, drop, get_or, Option, None, Some, Ok, Err}
 use Rattle.std.proofs.Common.{refl, sym, ap, subst, ◌∙◌, arith}
 use Rattle.std.specs.Prelude.{Contains, OnOk}
 use Rattle.std.proofs.lemmas.List.{ext_get_or}
@@ -84,7 +84,8 @@ read_applies honest name at before blocks old new owners number result going kep
     left V W volumes shown same = rw (keeps, same) shown
 
     by_result : (result : Answer) → ChangesList honest 0 IsSame IsSame old.array new.array result
-        → (honest → OnOk result ((lost : Option Lost) (V : List Block) → RestsOn old.array lost V → AreReadFrom (extents_for_store old) owners number at blocks V))
+        → (honest → OnOk result ((lost : Option Lost) (V : List Block) → RestsOn old.array lost V
+        → AreReadFrom (extents_for_store old) owners number at blocks V))
         → (result ≡ Ok tt → new.ended ≡ None) → ((refusal : Refusal) → result ≡ Err refusal → new.ended ≡ Some refusal)
         → ReadsBlocks honest name at before blocks old new result
     by_result (Ok done) changes gives goes ends =

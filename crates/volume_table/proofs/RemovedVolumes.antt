@@ -1,5 +1,5 @@
 -- A volume is removed, by what its calls of the array do.
-use Rattle.std.proofs.Common.{◌≡◌, ◌⊎◌, inl, inr, ℕ, ◌+◌, ◌*◌, ◌%◌, List, [], ◌∷◌, slice_set, Option, Some, None, Ok, Err, refl, sym, ◌∙◌, ap, subst, arith}
+use Rattle.std.proofs.Common.{◌≡◌, ◌⊎◌, inl, inr, ℕ, List, [], ◌∷◌, slice_set, Option, Some, None, Ok, Err, refl, sym, ◌∙◌, ap, subst, arith}
 use Rattle.std.specs.Prelude.{Contains}
 use Rattle.std.proofs.lemmas.Bool.{cases_eq}
 use Rattle.std.proofs.lemmas.List.{get_or-set_other, get_or-set_same}
@@ -52,7 +52,8 @@ was_at owners left number other extent place given there = by_owner (owner_of ow
     ]
 
 -- all other records stay, with the extents and the blocks of their volumes
-others_stay : (extents : ExtentLayout) (old new : VolumeTable) (owners left : List (Option Owned)) (number : ℕ) (before now : List Block) → AreKept extents old owners
+others_stay : (extents : ExtentLayout) (old new : VolumeTable) (owners left : List (Option Owned)) (number : ℕ) (before now : List Block)
+    → AreKept extents old owners
     → AreKept extents new left
     → new.records ≡ slice_set old.records number None → IsGivenBack owners left number → HasTable new before now
     → ChangesOneRecord extents old.records new.records old.extents new.extents before now number
@@ -101,7 +102,8 @@ pub remove_applies : (honest : Type 0) (name : List ℕ) (old new : StoreView) (
     → AreKept (extents_for_store old) old.keeps owners → AreKept (extents_for_store new) new.keeps left → new.keeps.version ≡ old.keeps.version
     → ∥ HasRecordAt old.keeps.records name number ∥₁
     → new.keeps.records ≡ slice_set old.keeps.records number None → IsGivenBack owners left number
-    → ((extents : ExtentLayout) (sectors : List Block) (volumes : VolumeMap) → ShowsBy extents old.keeps sectors volumes → None ≡ refusal_of extents (Remove name) volumes)
+    → ((extents : ExtentLayout) (sectors : List Block) (volumes : VolumeMap) → ShowsBy extents old.keeps sectors volumes
+    → None ≡ refusal_of extents (Remove name) volumes)
     → (honest → IsTrueTo new.array.panel new.array.history)
     → ChangesList honest 1 (MayPutTable old.keeps new.keeps) (PutsTable old.keeps new.keeps) old.array new.array result
     → (result ≡ Ok tt → new.ended ≡ None) → ((refusal : Refusal) → result ≡ Err refusal → new.ended ≡ Some refusal) → RemovesVolume honest name old new result

@@ -37,7 +37,8 @@ use Rattle.volume_table.proofs.TableLemmas.{rename_is_shown}
 use Rattle.std.proofs.lemmas.List.{get_or-set_other}
 
 -- a table in which the record of a name has another, with the map of extents that it had
-pub record IsRenamed (extents : ExtentLayout) (old new : VolumeTable) (owners : List (Option Owned)) (name name_after : List ℕ) (number : ℕ) (entry : Record) : Type 0
+pub record IsRenamed (extents : ExtentLayout) (old new : VolumeTable) (owners : List (Option Owned)) (name name_after : List ℕ) (number : ℕ)
+    (entry : Record) : Type 0
   where
     pub kept : AreKept extents old owners
     pub kept_then : AreKept extents new owners

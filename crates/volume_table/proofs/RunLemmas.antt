@@ -22,7 +22,8 @@ chain_keeps_volumes (_ ∷ events) (_ ∷ acks) old new (then_done mid event rep
     through.settled tt goes lost volumes rests in
     let later = chain_keeps_volumes events acks mid new chain left.lost (left_by (extents_for_store old) event volumes) left.settled in
     let same : extents_for_store mid ≡ extents_for_store old = ap extents_in through.goes_on.not_older.same_geometry in
-    let rest = subst (λ (extents : ExtentLayout). IsSettledAfterEvents extents chain left.lost (left_by (extents_for_store old) event volumes)) same later.1 in (
+    let rest = subst (λ (extents : ExtentLayout). IsSettledAfterEvents extents chain left.lost (left_by (extents_for_store old) event volumes)) same
+    later.1 in (
       ap suc later.0,
       record { lost = rest.lost; is_lost = (left.lost, left.is_lost, rest.is_lost); settled = rest.settled },
     )

@@ -105,7 +105,8 @@ all_done made devices (then_done {old = old} mid event reply done rest) volumes 
     record { safe = then.safe; right = (right_answer made devices event reply old mid volumes safe done, then.right) }
 
 -- the volumes after all events, and after one more
-all_are : (extents : ExtentLayout) (volumes : VolumeMap) (events : List Event) → left_by_all extents events volumes ≡ after extents events volumes (length events)
+all_are : (extents : ExtentLayout) (volumes : VolumeMap) (events : List Event)
+    → left_by_all extents events volumes ≡ after extents events volumes (length events)
 all_are extents volumes events = ap (λ (l : List Event). left_by_all extents l volumes) (sym (take-length events))
 
 but_last : (extents : ExtentLayout) (volumes : VolumeMap) (events : List Event) (event : Event)
@@ -123,7 +124,8 @@ no_map volumes (k, below, is) = omega (arith, below)
 one_of_one : (only volumes : VolumeMap) → Contains (only ∷ []) volumes → only ≡ volumes
 one_of_one only volumes among = elim (Contains-push_cases [] only volumes among) [ inl none ↦ absurd (no_map volumes none) | inr is ↦ is ]
 
-prefix_of_all : (extents : ExtentLayout) (volumes : VolumeMap) (events : List Event) (left : VolumeMap) → Contains (left_by_all extents events volumes ∷ []) left
+prefix_of_all : (extents : ExtentLayout) (volumes : VolumeMap) (events : List Event) (left : VolumeMap)
+    → Contains (left_by_all extents events volumes ∷ []) left
     → IsAfterPrefix extents record { volumes = volumes; events = events; acknowledged = length events } left
 prefix_of_all extents volumes events left among = record {
   n = length events;
@@ -301,7 +303,8 @@ safe_assembly made devices maps world panel array fate of_bank safe is =
 
 -- so does a run
 run_keeps : (made : Table) (devices : ℕ) (before : Before) (maps : List VolumeMap) (panel : Panel) (world left : World)
-    → ((volumes : VolumeMap) → Contains maps volumes → IsAfterPrefix (extents_in made.geometry) before volumes) → made.geometry.format ≡ One → panel.devices ≡ devices
+    → ((volumes : VolumeMap) → Contains maps volumes → IsAfterPrefix (extents_in made.geometry) before volumes) → made.geometry.format ≡ One
+    → panel.devices ≡ devices
     → IsSafe made devices maps world
     → (run : Run made.id (slots_of made) panel world left) → (later : Before → Type 0) → KeepsLater made devices left later
     → RunKeeps made.id (extents_in made.geometry) (slots_of made) before run later
@@ -321,7 +324,8 @@ run_keeps made devices before maps panel world left each one of_bank safe (assem
 
 -- and so do all
 pub runs_keep : (made : Table) (devices : ℕ) (before : Before) (maps : List VolumeMap) (world : World)
-    → ((volumes : VolumeMap) → Contains maps volumes → IsAfterPrefix (extents_in made.geometry) before volumes) → made.geometry.format ≡ One → IsSafe made devices maps world
+    → ((volumes : VolumeMap) → Contains maps volumes → IsAfterPrefix (extents_in made.geometry) before volumes) → made.geometry.format ≡ One
+    → IsSafe made devices maps world
     → (runs : Runs made.id devices (slots_of made) world) → RunsKeep made.id (extents_in made.geometry) devices (slots_of made) before runs
 runs_keep made devices before maps world each one safe no_more = tt
 runs_keep made devices before maps world each one safe (next_run begun left panel begins same of_bank run runs) =

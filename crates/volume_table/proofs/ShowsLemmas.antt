@@ -1,5 +1,5 @@
 -- What a logical list shows.
-use Rattle.std.proofs.Common.{◌≡◌, ◌≢◌, ◌⊎◌, ◌↔◌, inl, inr, ⊎_elim, ℕ, zero, suc, ◌+◌, ◌-◌, ◌/◌, ◌%◌, ◌<◌, ◌≤◌, Bool, true, false, nat_lt, ◌&&◌, List, [], ◌∷◌}
+use Rattle.std.proofs.Common.{◌≡◌, ◌≢◌, ◌⊎◌, ◌↔◌, inl, inr, ⊎_elim, ℕ, zero, suc, ◌+◌, ◌-◌, ◌<◌, ◌≤◌, Bool, true, false, nat_lt, ◌&&◌, List, [], ◌∷◌}
 use Rattle.std.proofs.Common.{length, take, get_or, All, Option, Some, None, refl, sym, ap, subst, ◌∙◌, arith, IsTrue}
 use Rattle.std.specs.List.{list_all}
 use Rattle.std.proofs.Props.{props}
@@ -14,7 +14,7 @@ use Rattle.extents.specs.declared.owned.Owned.{Owned}
 use Rattle.extents.specs.declared.record.Record.{Record}
 use Rattle.extents.specs.declared.volume_table.VolumeTable.{VolumeTable}
 use Rattle.extents.specs.Names.{is_letter, is_digit, is_name_byte, IsGoodName}
-use Rattle.extents.specs.Owners.{owner_of, IsAt, HasPlaces}
+use Rattle.extents.specs.Owners.{IsAt, HasPlaces}
 use Rattle.extents.specs.Versions.{most_name_bytes, table_length}
 use Rattle.extents.specs.VolumeTables.{AreDistinct, HasRecord, HaveTheirPlaces, IsVolumeTable, extents_for, extents_of, record_of}
 use Rattle.extents.proofs.Blocks.{block_is_one, place_is_below, sector_is_of_one}
@@ -173,7 +173,8 @@ written_volume {extents} owners before left number at written old new stand chan
         ∙ sym (changes.inside k [] less) ∙ ap (λ n. get_or new n []) there
 
 -- the others
-other_volume : {extents : ExtentLayout} (owners : List (Option Owned)) (before left : List Block) (number other at : ℕ) (written blocks : List Block) → other ≢ number
+other_volume : {extents : ExtentLayout} (owners : List (Option Owned)) (before left : List Block) (number other at : ℕ) (written blocks : List Block)
+    → other ≢ number
     → AreBlocksIn extents before owners other blocks → HasWritten extents owners number at written before left
     → AreBlocksIn extents left owners other blocks
 other_volume {extents} owners before left number other at written blocks differ stand has j extent within at_extent =
@@ -182,7 +183,8 @@ other_volume {extents} owners before left number other at written blocks differ 
     ∙ stand j extent within at_extent
 
 -- the record of another name is another record
-write_is_shown_by : (extents : ExtentLayout) (records : List (Option Record)) (owners : List (Option Owned)) (before left : List Block) (volumes : VolumeMap) (number : ℕ)
+write_is_shown_by : (extents : ExtentLayout) (records : List (Option Record)) (owners : List (Option Owned)) (before left : List Block) (volumes : VolumeMap)
+    (number : ℕ)
     (entry : Record) (at : ℕ) (written : List Block)
     → AreDistinct records → AreShown extents records owners before volumes.volumes → record_of records number ≡ Some entry
     → reply_to extents (Write entry.name.bytes.items at written) volumes ≡ Done → HasWritten extents owners number at written before left
@@ -242,7 +244,8 @@ write_is_shown_by extents records owners before left volumes number entry at wri
     by_other other blocks found false e = shown.all other blocks (sym (stays other e) ∙ found)
 
 -- the table stands below all blocks
-table_stays : {extents : ExtentLayout} (version : ℕ) (before left : List Block) (owners : List (Option Owned)) (number at : ℕ) (written : List Block) → length left ≡ length before
+table_stays : {extents : ExtentLayout} (version : ℕ) (before left : List Block) (owners : List (Option Owned)) (number at : ℕ) (written : List Block)
+    → length left ≡ length before
     → HasWritten extents owners number at written before left
     → take (table_length version) left ≡ take (table_length version) before
 table_stays {extents} version before left owners number at written as_long has =

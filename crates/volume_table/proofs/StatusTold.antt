@@ -1,5 +1,5 @@
 -- What a store tells of its set is true of it.
-use Rattle.std.proofs.Common.{◌≡◌, ℕ, ◌+◌, ◌-◌, ◌≤◌, cond, List, ◌∷◌, length, take, Option, Some, None, Ok, refl, sym, ap, ◌∙◌, arith}
+use Rattle.std.proofs.Common.{◌≡◌, ℕ, ◌+◌, ◌-◌, cond, List, ◌∷◌, length, take, Option, Some, None, Ok, refl, sym, ap, ◌∙◌, arith}
 use Rattle.std.specs.Prelude.{count_by, is_some}
 use Rattle.std.proofs.lemmas.List.Recursion.{is_count_by}
 use Rattle.std.proofs.lemmas.Option.{none-some}
@@ -50,7 +50,8 @@ status_by store rows extents free volumes version = record {
 -- it is the status of a store that goes on, where the rows and the counts are right
 pub counts_told : (store : StoreView) (rows extents free volumes version : ℕ) → store.ended ≡ None → rows ≡ row_count store.array.table
     → extents ≡ (extents_for_store store).count
-    → ((lost : Option Lost) (those : VolumeMap) → IsSettledOn store lost those → (free ≡ (extents_for_store store).count - need (extents_for_store store).blocks those.volumes)
+    → ((lost : Option Lost) (those : VolumeMap) → IsSettledOn store lost those
+    → (free ≡ (extents_for_store store).count - need (extents_for_store store).blocks those.volumes)
     × (volumes ≡ length those.volumes) × (version ≡ those.version))
     → TellsStatus store (Ok (status_by store rows extents free volumes version))
 counts_told store rows extents free volumes version goes of_rows of_extents counted = record {
@@ -85,7 +86,8 @@ status_told store owners rows extents free volumes version goes kept of_rows of_
     its_table lost those rests = one_table rests.logical rests.shown.table store.keeps rests.shown.spelled rests.spelled
 
     counted : (lost : Option Lost) (those : VolumeMap) → IsSettledOn store lost those
-        → (free ≡ (extents_for_store store).count - need (extents_for_store store).blocks those.volumes) × (volumes ≡ length those.volumes) × (version ≡ those.version)
+        → (free ≡ (extents_for_store store).count - need (extents_for_store store).blocks those.volumes) × (volumes ≡ length those.volumes)
+        × (version ≡ those.version)
     counted lost those rests =
         let its : ExtentLayout = extents_for_store store in
         let all : free_of (take its.count rests.shown.table.extents) + need its.blocks those.volumes ≡ its.count =

@@ -218,7 +218,8 @@ create_keeps extents name count volumes may are =
       within = omega (arith, need-with_new extents.blocks new volumes.volumes are.rising may.no_such, same, may.fits);
     }
 
-extend_keeps : (extents : ExtentLayout) (name : List ℕ) (growth : ℕ) (volumes : VolumeMap) → MayExtend extents name growth volumes.volumes → AreVolumes extents volumes
+extend_keeps : (extents : ExtentLayout) (name : List ℕ) (growth : ℕ) (volumes : VolumeMap) → MayExtend extents name growth volumes.volumes
+    → AreVolumes extents volumes
     → AreVolumes extents (done (Extend name growth) volumes)
 extend_keeps extents name growth volumes may are =
     let old = blocks_in name volumes.volumes in
@@ -278,7 +279,8 @@ write_keeps extents name at written volumes whole within are =
       within = omega (arith, need-with_other extents.blocks new volumes.volumes old are.rising within.found, same, are.within);
     }
 
-rename_keeps : (extents : ExtentLayout) (old new : List ℕ) (volumes : VolumeMap) → MayBeRenamed volumes.version old new volumes.volumes → AreVolumes extents volumes
+rename_keeps : (extents : ExtentLayout) (old new : List ℕ) (volumes : VolumeMap) → MayBeRenamed volumes.version old new volumes.volumes
+    → AreVolumes extents volumes
     → AreVolumes extents (done (Rename old new) volumes)
 rename_keeps extents old new volumes may are =
     let blocks = blocks_in old volumes.volumes in
@@ -295,7 +297,13 @@ rename_keeps extents old new volumes may are =
       each = All-with_volume (IsVolume volumes.version) named others one
           (All-filter (λ volume. not (is_same_name old volume.name)) (IsVolume volumes.version) volumes.volumes are.each);
       rising = rising_with_volume named others rising;
-      within = omega (arith, need-with_new extents.blocks named others rising no_such, need-without_one extents.blocks old volumes.volumes blocks are.rising may.found, are.within);
+      within = omega (
+        arith,
+        need-with_new extents.blocks named others rising no_such,
+        need-without_one extents.blocks old volumes.volumes blocks are.rising
+            may.found,
+        are.within,
+      );
     }
 
 -- version 2 has room for what each version has
@@ -361,7 +369,8 @@ no_refusal_answered (Rename old new) volumes refusal e = absurd (grind arith)
 no_refusal_answered Names volumes refusal e = absurd (grind arith)
 no_refusal_answered Upgrade volumes refusal e = absurd (grind arith)
 
-pub refused_changes_nothing : (extents : ExtentLayout) (command : Command) (volumes : VolumeMap) (refusal : Refusal) → reply_to extents command volumes ≡ Refused refusal
+pub refused_changes_nothing : (extents : ExtentLayout) (command : Command) (volumes : VolumeMap) (refusal : Refusal)
+    → reply_to extents command volumes ≡ Refused refusal
     → volumes_after extents command volumes ≡ volumes
 refused_changes_nothing extents command volumes refusal refused = by_case (refusal_of extents command volumes) refused
   where
@@ -374,7 +383,8 @@ either_way : (o : Option Refusal) (volumes : VolumeMap) → unless_refused o vol
 either_way None volumes = refl
 either_way (Some refusal) volumes = refl
 
-pub read_changes_nothing : (extents : ExtentLayout) (name : List ℕ) (at count : ℕ) (volumes : VolumeMap) → volumes_after extents (Read name at count) volumes ≡ volumes
+pub read_changes_nothing : (extents : ExtentLayout) (name : List ℕ) (at count : ℕ) (volumes : VolumeMap)
+    → volumes_after extents (Read name at count) volumes ≡ volumes
 read_changes_nothing extents name at count volumes = either_way (refusal_of extents (Read name at count) volumes) volumes
 
 -- no command but an upgrade changes the version

@@ -1,5 +1,6 @@
 -- What a logical list shows after its table is changed.
-use Rattle.std.proofs.Common.{◌≡◌, ◌≢◌, ⊎_elim, inl, inr, ℕ, ◌/◌, ◌≤◌, Bool, true, false, List, [], ◌++◌, take, get_or, slice_set, IsTrue, Option, Some, None, refl, sym}
+use Rattle.std.proofs.Common.{◌≡◌, ◌≢◌, ⊎_elim, inl, inr, ℕ, ◌≤◌, Bool, true, false, List, [], ◌++◌, take, get_or, slice_set, IsTrue, Option, Some, None}
+use Rattle.std.proofs.Common.{refl, sym}
 use Rattle.std.proofs.Common.{ap, subst, ◌∙◌, arith}
 use Rattle.std.proofs.Props.{props}
 use Rattle.std.proofs.Math.Logic.{∥∥₁_elim}
@@ -84,14 +85,16 @@ other_record {extents} records new_records owners new_owners before left volumes
     }
 
 -- the record of another volume, in the new table
-other_volume : {extents : ExtentLayout} (records new_records : List (Option Record)) (owners new_owners : List (Option Owned)) (before left : List Block) (number : ℕ) (name : List ℕ)
+other_volume : {extents : ExtentLayout} (records new_records : List (Option Record)) (owners new_owners : List (Option Owned)) (before left : List Block)
+    (number : ℕ) (name : List ℕ)
     → ChangesOneRecord extents records new_records owners new_owners before left number
     → ((entry : Record) → record_of records number ≡ Some entry → entry.name.bytes.items ≡ name → ⊥) → HasRecord records name → HasRecord new_records name
 other_volume {extents} records new_records owners new_owners before left number name changes not_this has =
     let differ : has.number ≢ number = λ same. not_this has.entry (ap (record_of records) (sym same) ∙ has.used) has.named in
     record { number = has.number; entry = has.entry; used = changes.same_records has.number differ ∙ has.used; named = has.named }
 
-put_is_shown_by : {extents : ExtentLayout} (records new_records : List (Option Record)) (owners new_owners : List (Option Owned)) (before left : List Block) (volumes : VolumeList)
+put_is_shown_by : {extents : ExtentLayout} (records new_records : List (Option Record)) (owners new_owners : List (Option Owned)) (before left : List Block)
+    (volumes : VolumeList)
     (new : Volume) (number : ℕ)
     → AreShown extents records owners before volumes → AreDistinct new_records
     → ChangesOneRecord extents records new_records owners new_owners before left number
@@ -156,7 +159,8 @@ put_is_shown extents before left volumes new table number shows limits spelled o
           (distinct_names table.version table.records table.extents table.is_table) changes is_of was_named;
     }
 
-removal_is_shown_by : {extents : ExtentLayout} (records new_records : List (Option Record)) (owners new_owners : List (Option Owned)) (before left : List Block) (volumes : VolumeList)
+removal_is_shown_by : {extents : ExtentLayout} (records new_records : List (Option Record)) (owners new_owners : List (Option Owned))
+    (before left : List Block) (volumes : VolumeList)
     (number : ℕ) (entry : Record)
     → AreShown extents records owners before volumes → AreDistinct records
     → ChangesOneRecord extents records new_records owners new_owners before left number → record_of records number ≡ Some entry
@@ -262,7 +266,8 @@ remove_is_shown extents before left volumes table number entry shows used replie
 -- ---- a rename
 
 -- the volume is taken away with its record, and put back with the record of its new name
-renaming_is_shown_by : {extents : ExtentLayout} (records new_records : List (Option Record)) (owners new_owners : List (Option Owned)) (before left : List Block) (volumes : VolumeList)
+renaming_is_shown_by : {extents : ExtentLayout} (records new_records : List (Option Record)) (owners new_owners : List (Option Owned))
+    (before left : List Block) (volumes : VolumeList)
     (number : ℕ) (entry : Record) (name : List ℕ)
     → AreShown extents records owners before volumes → AreDistinct records → AreDistinct new_records → record_of records number ≡ Some entry
     → ChangesName records new_records number entry name
@@ -339,7 +344,8 @@ renamed_of_set extents was table number entry name used changes same_owner of_se
       | inr apart ↦ ap (extents_of extents.blocks) (changes.others volume apart)
     ]
 
-pub rename_is_shown : (extents : ExtentLayout) (before left : List Block) (volumes : VolumeMap) (name : List ℕ) (table : VolumeTable) (number : ℕ) (entry : Record)
+pub rename_is_shown : (extents : ExtentLayout) (before left : List Block) (volumes : VolumeMap) (name : List ℕ) (table : VolumeTable) (number : ℕ)
+    (entry : Record)
     (shows : Shows extents before volumes)
     → record_of shows.table.records number ≡ Some entry
     → reply_to extents (Rename entry.name.bytes.items name) volumes ≡ Done
@@ -377,7 +383,8 @@ good_later version name good =
 volume_later : (version : ℕ) (volume : Volume) → IsVolume version volume → IsVolume 2 volume
 volume_later version volume is = record { good = good_later version volume.name is.good; least = is.least; most = is.most; whole = is.whole }
 
-limits_later : (extents : ExtentLayout) (volumes : VolumeMap) → AreVolumes extents volumes → AreVolumes extents (record { version = 2; volumes = volumes.volumes })
+limits_later : (extents : ExtentLayout) (volumes : VolumeMap) → AreVolumes extents volumes
+    → AreVolumes extents (record { version = 2; volumes = volumes.volumes })
 limits_later extents volumes limits = record {
   is_version = (omega arith, omega arith);
   few = omega (arith, limits.few, more_volumes volumes.version);

@@ -8,7 +8,6 @@ use Rattle.extents.specs.declared.extent_layout.ExtentLayout.{ExtentLayout}
 use Rattle.extents.specs.SetExtents.{extents_in}
 use Rattle.extents.specs.declared.owned.Owned.{Owned}
 use Rattle.extents.specs.declared.volume_table.VolumeTable.{VolumeTable}
-use Rattle.extents.specs.Owners.{owner_of}
 use Rattle.extents.specs.TableSpelling.{Spell}
 use Rattle.extents.specs.Versions.{table_length}
 use Rattle.extents.proofs.TableLaws.{one_table}
@@ -43,7 +42,8 @@ kept_upgraded geometry now old new owners same is kept = subst (λ (g : Geometry
 }
 
 -- the list that has it shows the same volumes, with the new version
-upgraded_is_shown : (extents : ExtentLayout) (old new : VolumeTable) (V W : List Block) (volumes : VolumeMap) → IsUpgraded old new → (by : ShowsBy extents old V volumes)
+upgraded_is_shown : (extents : ExtentLayout) (old new : VolumeTable) (V W : List Block) (volumes : VolumeMap) → IsUpgraded old new
+    → (by : ShowsBy extents old V volumes)
     → HasTable new V W
     → ShowsBy extents new W (done Upgrade volumes)
 upgraded_is_shown extents old new V W volumes is by has =
@@ -97,7 +97,8 @@ upgrade_kept old new (Ok unit) differs is one_entry = record {
 upgrade_kept old new (Err refusal) differs is one_entry = tt
 
 -- a map of version 2 is as it was
-nothing_changes : (extents : ExtentLayout) (table : VolumeTable) (V : List Block) (volumes : VolumeMap) → table.version ≡ LAST_VERSION → ShowsBy extents table V volumes
+nothing_changes : (extents : ExtentLayout) (table : VolumeTable) (V : List Block) (volumes : VolumeMap) → table.version ≡ LAST_VERSION
+    → ShowsBy extents table V volumes
     → volumes ≡ done Upgrade volumes
 nothing_changes extents table V volumes is shown =
     let version : volumes.version ≡ 2 = sym shown.shows.of_version ∙ ap (λ (t : VolumeTable). t.version) shown.by ∙ is in

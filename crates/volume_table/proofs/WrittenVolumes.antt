@@ -54,7 +54,8 @@ table_stays : {extents : ExtentLayout} (version : ℕ) (owners : List (Option Ow
     → take (table_length version) left ≡ take (table_length version) before
 table_stays {extents} version owners number at blocks before left is =
     first_same (table_length version) before left is.as_long
-    (λ sector below. is.written.outside sector (λ j extent within there same. absurd (omega (arith, below, same, table_length_most version, extents.limits.above))))
+    (λ sector below. is.written.outside sector (λ j extent within there same. absurd
+    (omega (arith, below, same, table_length_most version, extents.limits.above))))
 
 -- a list with blocks written shows the volumes after the write, by the same table
 write_shows : (extents : ExtentLayout) (table : VolumeTable) (owners : List (Option Owned)) (name : List ℕ) (number at : ℕ) (blocks before left : List Block)
@@ -89,7 +90,8 @@ pub write_applies : (honest : Type 0) (name : List ℕ) (at : ℕ) (blocks : Lis
     → ((extents : ExtentLayout) (sectors : List Block) (volumes : VolumeMap) → ShowsBy extents old.keeps sectors volumes
     → None ≡ refusal_of extents (Write name at blocks) volumes)
     → (honest → IsTrueTo new.array.panel new.array.history)
-    → ChangesList honest 1 (IsSameOr (IsWrittenAt (extents_for_store old) owners number at blocks)) (IsWrittenAt (extents_for_store old) owners number at blocks) old.array
+    → ChangesList honest 1 (IsSameOr (IsWrittenAt (extents_for_store old) owners number at blocks))
+    (IsWrittenAt (extents_for_store old) owners number at blocks) old.array
     new.array result
     → new.keeps ≡ old.keeps → (result ≡ Ok tt → new.ended ≡ None) → ((refusal : Refusal) → result ≡ Err refusal → new.ended ≡ Some refusal)
     → WritesBlocks honest name at blocks old new result

@@ -168,7 +168,8 @@ module _ (extents : ExtentLayout) (owners : List (Option Owned)) (number first a
   }
 
 -- what is zero up to some block is partly zero up to a later one
-partly_later : {extents : ExtentLayout} (owners : List (Option Owned)) (number first at last : ℕ) (V U : List Block) → at ≤ last → IsZeroed extents owners number first at V U
+partly_later : {extents : ExtentLayout} (owners : List (Option Owned)) (number first at last : ℕ) (V U : List Block) → at ≤ last
+    → IsZeroed extents owners number first at V U
     → IsPartlyZero extents owners number first last V U
 partly_later {extents} owners number first at last V U within zeroed = record {
   as_long = zeroed.partly.as_long;
@@ -197,13 +198,14 @@ none_zeroed {extents} owners number first V = record {
 }
 
 -- Between the commits: the blocks below `at` are zero.
-pub record IsZeroing (extents : ExtentLayout) (honest still : Type 0) (owners : List (Option Owned)) (number first last at : ℕ) (old now : ArrayView) : Type 0 where
-  pub forth : honest → still
-  pub back : still → honest
-  pub least : first ≤ at
-  pub most : at ≤ last
-  pub changes : ChangesList honest (at - first) (IsPartlyZero extents owners number first last) (IsZeroed extents owners number first at) old now
-      (Ok tt)
+pub record IsZeroing (extents : ExtentLayout) (honest still : Type 0) (owners : List (Option Owned)) (number first last at : ℕ) (old now : ArrayView) : Type 0
+  where
+    pub forth : honest → still
+    pub back : still → honest
+    pub least : first ≤ at
+    pub most : at ≤ last
+    pub changes : ChangesList honest (at - first) (IsPartlyZero extents owners number first last) (IsZeroed extents owners number first at) old now
+        (Ok tt)
 
 pub zeroing_begins : (extents : ExtentLayout) (honest : Type 0) (owners : List (Option Owned)) (number first last : ℕ) (old : ArrayView) → first ≤ last
     → IsZeroing extents honest honest owners number first last first old old
@@ -216,7 +218,8 @@ zeroing_begins extents honest owners number first last old order = record {
       (λ V. record { as_long = refl; each = λ sector. inl refl }) (none_zeroed owners number first);
 }
 
-module _ (extents : ExtentLayout) (honest still : Type 0) (owners : List (Option Owned)) (number first last at count : ℕ) (blocks : List Block) (old mid new : ArrayView)
+module _ (extents : ExtentLayout) (honest still : Type 0) (owners : List (Option Owned)) (number first last at count : ℕ) (blocks : List Block)
+    (old mid new : ArrayView)
     (zeros : AreZero blocks count) (within : at + count ≤ last)
     (some : 1 ≤ count) (zeroing : IsZeroing extents honest still owners number first last at old mid) (true_mid : still → IsTrueTo mid.panel mid.history) where
   both : (answer : Answer) → ChangesList still 1 (IsSameOr (IsWrittenAt extents owners number at blocks))

@@ -59,7 +59,8 @@ IsGrownFrom None first entry = first ≡ 0
 IsGrownFrom (Some before) first entry = (before.blocks ≡ first) × (before.name.bytes.items ≡ entry.name.bytes.items)
 
 -- The record may be put at this number, with blocks from `first` on that are new: no other record has its name, and there are free extents.
-pub record MayGrowTo (extents : ExtentLayout) (version : ℕ) (records : List (Option Record)) (owners : List (Option Owned)) (number first : ℕ) (entry : Record) : Type 0 where
+pub record MayGrowTo (extents : ExtentLayout) (version : ℕ) (records : List (Option Record)) (owners : List (Option Owned)) (number first : ℕ)
+    (entry : Record) : Type 0 where
   pub of_table : number < most_volumes version
   pub short : length entry.name.bytes.items ≤ most_name_bytes version
   pub from : IsGrownFrom (record_of records number) first entry

@@ -69,7 +69,8 @@ pub record IsServed {slots : ℕ} {events : List Event} {replies : List Reply} {
   pub right : AreRight extents volumes does
 
 -- A session keeps the promise, and what comes after it by what then went before.
-abbrev pub SessionKeeps : (extents : ExtentLayout) (slots : ℕ) → Before → {array : ArrayView} {fate : Fate} {left : World} → Session slots array fate left → (Before → Type 0)
+abbrev pub SessionKeeps : (extents : ExtentLayout) (slots : ℕ) → Before → {array : ArrayView} {fate : Fate} {left : World} → Session slots array fate left
+    → (Before → Type 0)
     → Type 0
 SessionKeeps extents slots before (unopened crashes) later = later before
 SessionKeeps extents slots before {array = array} {fate = fate} (in_opening outcome opens true_to crashes) later =
@@ -82,7 +83,8 @@ SessionKeeps extents slots before (in_event first serving events replies event s
     × (IsSingleFailure slots (lost_in event serving.store.array.table serving.fate.lost) store.array.history → reply ≢ Refused TwoLost)
     × later (record { volumes = volumes; events = events ++ event ∷ []; acknowledged = length events })
 
-abbrev pub RunKeeps : (id : List ℕ) (extents : ExtentLayout) (slots : ℕ) → Before → {panel : Panel} {world left : World} → Run id slots panel world left → (Before → Type 0)
+abbrev pub RunKeeps : (id : List ℕ) (extents : ExtentLayout) (slots : ℕ) → Before → {panel : Panel} {world left : World} → Run id slots panel world left
+    → (Before → Type 0)
     → Type 0
 RunKeeps id extents slots before (only_read h reads crashes) later = later before
 RunKeeps id extents slots before {panel = panel} {world = world} (in_assembling outcome assembles crashes) later =

@@ -15,12 +15,14 @@ CommandsKeepLimits = (extents : ExtentLayout) (command : Command) (volumes : Vol
 
 -- a refused command changes nothing
 abbrev pub RefusedChangesNothing : Type 0
-RefusedChangesNothing = (extents : ExtentLayout) (command : Command) (volumes : VolumeMap) (refusal : Refusal) → reply_to extents command volumes ≡ Refused refusal
+RefusedChangesNothing = (extents : ExtentLayout) (command : Command) (volumes : VolumeMap) (refusal : Refusal)
+    → reply_to extents command volumes ≡ Refused refusal
     → volumes_after extents command volumes ≡ volumes
 
 -- neither does a read or a list
 abbrev pub ReadChangesNothing : Type 0
-ReadChangesNothing = (extents : ExtentLayout) (name : List ℕ) (at count : ℕ) (volumes : VolumeMap) → volumes_after extents (Read name at count) volumes ≡ volumes
+ReadChangesNothing = (extents : ExtentLayout) (name : List ℕ) (at count : ℕ) (volumes : VolumeMap)
+    → volumes_after extents (Read name at count) volumes ≡ volumes
 
 abbrev pub ListChangesNothing : Type 0
 ListChangesNothing = (extents : ExtentLayout) (volumes : VolumeMap) → volumes_after extents Names volumes ≡ volumes
@@ -43,7 +45,8 @@ OthersStay = (extents : ExtentLayout) (command : Command) (volumes : VolumeMap) 
 
 -- what was just written is read
 abbrev pub WrittenIsRead : Type 0
-WrittenIsRead = (extents : ExtentLayout) (name : List ℕ) (at : ℕ) (written : List Block) (volumes : VolumeMap) → reply_to extents (Write name at written) volumes ≡ Done
+WrittenIsRead = (extents : ExtentLayout) (name : List ℕ) (at : ℕ) (written : List Block) (volumes : VolumeMap)
+    → reply_to extents (Write name at written) volumes ≡ Done
     → reply_to extents (Read name at (length written)) (volumes_after extents (Write name at written) volumes) ≡ Blocks written
 
 -- a volume after a write to it, block by block
@@ -89,7 +92,8 @@ pub record ListsExactly (volumes : VolumeList) (listed : List (List ℕ × ℕ))
   pub all : (name : List ℕ) (count : ℕ) → HasLength name count volumes → Contains listed (name, count)
 
 abbrev pub ListIsExact : Type 0
-ListIsExact = (extents : ExtentLayout) (volumes : VolumeMap) (listed : List (List ℕ × ℕ)) → AreVolumes extents volumes → reply_to extents Names volumes ≡ Volumes listed
+ListIsExact = (extents : ExtentLayout) (volumes : VolumeMap) (listed : List (List ℕ × ℕ)) → AreVolumes extents volumes
+    → reply_to extents Names volumes ≡ Volumes listed
     → ListsExactly volumes.volumes listed
 
 -- what is there is listed
@@ -104,7 +108,8 @@ CreatedIsListed = (extents : ExtentLayout) (name : List ℕ) (count : ℕ) (volu
 
 -- growth keeps the blocks and appends zero blocks
 abbrev pub ExtendedHasZeros : Type 0
-ExtendedHasZeros = (extents : ExtentLayout) (name : List ℕ) (growth : ℕ) (volumes : VolumeMap) (before : List Block) → reply_to extents (Extend name growth) volumes ≡ Done
+ExtendedHasZeros = (extents : ExtentLayout) (name : List ℕ) (growth : ℕ) (volumes : VolumeMap) (before : List Block)
+    → reply_to extents (Extend name growth) volumes ≡ Done
     → blocks_of name volumes.volumes ≡ Some before
     → blocks_of name (volumes_after extents (Extend name growth) volumes).volumes ≡ Some (before ++ zero_blocks growth)
 
@@ -137,7 +142,8 @@ UpgradeKeepsVolumes = (extents : ExtentLayout) (volumes : VolumeMap) → (reply_
 
 -- no other command changes the version
 abbrev pub VersionStays : Type 0
-VersionStays = (extents : ExtentLayout) (command : Command) (volumes : VolumeMap) → command ≢ Upgrade → (volumes_after extents command volumes).version ≡ volumes.version
+VersionStays = (extents : ExtentLayout) (command : Command) (volumes : VolumeMap) → command ≢ Upgrade
+    → (volumes_after extents command volumes).version ≡ volumes.version
 
 -- volumes within the limits are known by the version and the blocks of each name
 abbrev pub KnownByBlocks : Type 0
@@ -165,7 +171,8 @@ AfterOfPrefix = (extents : ExtentLayout) (events : List Event) (volumes : Volume
 
 -- a refused event changes nothing
 abbrev pub AfterRefused : Type 0
-AfterRefused = (extents : ExtentLayout) (events : List Event) (volumes : VolumeMap) (n : ℕ) (command : Command) (refusal : Refusal) (d : Event) → n < length events
+AfterRefused = (extents : ExtentLayout) (events : List Event) (volumes : VolumeMap) (n : ℕ) (command : Command) (refusal : Refusal) (d : Event)
+    → n < length events
     → slice_index_or events n d ≡ OnVolumes command
     → reply_to extents command (after extents events volumes n) ≡ Refused refusal → after extents events volumes (n + 1) ≡ after extents events volumes n
 

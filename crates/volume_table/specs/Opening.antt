@@ -1,5 +1,5 @@
 -- What opening a store promises.
-use Rattle.std.specs.Prelude.{◌≡◌, ℕ, ◌≤◌, List, [], ◌∷◌, Option, None}
+use Rattle.std.specs.Prelude.{◌≡◌, List, [], ◌∷◌, Option, None}
 use Rattle.sector_model.specs.declared.refusal.Refusal.{Refusal}
 use Rattle.sector_model.specs.declared.refusal.Refusal.TheVariants.{BadTable, TwoLost, Worn}
 use Rattle.sector_model.specs.Bank.{IsLater, Panel}

@@ -1,9 +1,9 @@
 -- Small runs of commands, worked out by hand.
-use Rattle.std.specs.Prelude.{◌≡◌, ℕ, ◌+◌, ◌/◌, ◌%◌, ◌≤◌, false, List, [], ◌∷◌, ◌++◌, map, replicate, codes, None}
+use Rattle.std.specs.Prelude.{◌≡◌, ℕ, ◌+◌, ◌/◌, ◌%◌, false, List, [], ◌∷◌, ◌++◌, map, replicate, codes, None}
 use Rattle.std.specs.List.{range_with_len}
 use Rattle.std.proofs.Common.{arith}
-use Rattle.layout_map.specs.declared.sizes.TheConstants.{MOST_EXTENTS}
 use Rattle.extents.specs.declared.extent_layout.ExtentLayout.{ExtentLayout}
+use Rattle.extents.specs.SetExtents.{of_64}
 use Rattle.sector_model.specs.declared.refusal.Refusal.TheVariants.{BadName, BadSize, Exists, TooManyVolumes, NoSpace, NoVolume, BadCount, OutOfRange}
 use Rattle.sector_model.specs.declared.refusal.Refusal.TheVariants.{WouldLose, NotMissing, Incomplete}
 use Rattle.layout_map.specs.declared.format.Format.TheVariants.{One}
@@ -13,15 +13,6 @@ use Rattle.volume_table.specs.VolumeStep.{Command, Create, Extend, Remove, Read,
 use Rattle.volume_table.specs.VolumeStep.{OnSet, Reply, Done, Blocks, Volumes, Progressed, Scrubbed, Refused, reply_to, volumes_after}
 use Rattle.rebuild.specs.Rebuilding.{Complete, Position}
 use Rattle.volume_table.specs.SetReplies.{SetState, Devices, set_reply, set_after}
-
--- so many extents of 64 blocks each
-abbrev pub of_64 : (count : ℕ) → count ≤ MOST_EXTENTS → ExtentLayout
-of_64 count most = record {
-  first = 64;
-  blocks = 64;
-  count = count;
-  limits = record { above = omega arith; some = omega arith; most = most; fits = omega arith };
-}
 
 -- the extents of a set of 3 members, 8 sectors a chunk and 32 stripes, of format 1 and of format 2
 abbrev pub seven : ExtentLayout
@@ -52,11 +43,13 @@ OneBlockTooMany = replies seven (Create (codes "a") 449 ∷ Names ∷ []) no_vol
 abbrev pub SmallerExtents : Type 0
 SmallerExtents = (replies twenty_eight (Create (codes "a") 449 ∷ Create (codes "a") 448 ∷ Create (codes "b") 1 ∷ []) no_volumes
     ≡ Refused NoSpace ∷ Done ∷ Refused NoSpace ∷ [])
-    × (replies twenty_eight (Create (codes "a") 17 ∷ Create (codes "b") 417 ∷ Create (codes "b") 416 ∷ Extend (codes "a") 15 ∷ Extend (codes "a") 1 ∷ []) no_volumes
+    × (replies twenty_eight (Create (codes "a") 17 ∷ Create (codes "b") 417 ∷ Create (codes "b") 416 ∷ Extend (codes "a") 15 ∷ Extend (codes "a") 1 ∷ [])
+    no_volumes
     ≡ Done ∷ Refused NoSpace ∷ Done ∷ Done ∷ Refused NoSpace ∷ [])
 
 abbrev pub ExtendIntoNewExtent : Type 0
-ExtendIntoNewExtent = replies seven (Create (codes "a") 64 ∷ Extend (codes "a") 1 ∷ Read (codes "a") 64 1 ∷ []) no_volumes ≡ Done ∷ Done ∷ Blocks (zero_block ∷ [])
+ExtendIntoNewExtent = replies seven (Create (codes "a") 64 ∷ Extend (codes "a") 1 ∷ Read (codes "a") 64 1 ∷ []) no_volumes ≡ Done ∷ Done
+    ∷ Blocks (zero_block ∷ [])
     ∷ []
 
 -- growth keeps the last block and appends zeros
@@ -75,7 +68,8 @@ ReusedIsZero = (block : Block) → replies seven
 
 -- 32 blocks are written at most, and 1 at least
 abbrev pub ThirtyTwoBlocks : Type 0
-ThirtyTwoBlocks = (block : Block) → replies seven (Create (codes "a") 128 ∷ Write (codes "a") 48 (replicate 32 block) ∷ Write (codes "a") 48 (replicate 33 block)
+ThirtyTwoBlocks = (block : Block) → replies seven (Create (codes "a") 128 ∷ Write (codes "a") 48 (replicate 32 block)
+    ∷ Write (codes "a") 48 (replicate 33 block)
     ∷ Write (codes "a") 48 [] ∷ []) no_volumes
     ≡ Done ∷ Done ∷ Refused BadCount ∷ Refused BadCount ∷ []
 
@@ -92,7 +86,8 @@ RefusedCommands = replies seven (Create (codes "A") 0 ∷ Create (codes "a") 0 �
 
 -- 65,536 blocks are a volume that needs 1,024 extents
 abbrev pub LargestVolume : Type 0
-LargestVolume = (reply_to (of_64 1024 (omega arith)) (Create (codes "a") 65536) no_volumes ≡ Done) × (reply_to (of_64 1023 (omega arith)) (Create (codes "a") 65536) no_volumes ≡ Refused NoSpace)
+LargestVolume = (reply_to (of_64 1024 (omega arith)) (Create (codes "a") 65536) no_volumes ≡ Done)
+    × (reply_to (of_64 1023 (omega arith)) (Create (codes "a") 65536) no_volumes ≡ Refused NoSpace)
 
 -- 32 blocks are read at most, and 1 at least; the name is looked at first, then the number, then the range
 abbrev pub ReadsAtTheLimits : Type 0
@@ -112,7 +107,8 @@ numbered_name n = 118 ∷ (48 + n / 10) ∷ (48 + n % 10) ∷ []
 
 -- 32 volumes of a block each need 32 of 33 extents, and there may be no 33rd volume
 abbrev pub ThirtyTwoVolumes : Type 0
-ThirtyTwoVolumes = replies (of_64 33 (omega arith)) (map (λ n. Create (numbered_name n) 1) (range_with_len 0 32) ++ Create (codes "w") 1 ∷ []) no_volumes ≡ replicate 32 Done
+ThirtyTwoVolumes = replies (of_64 33 (omega arith)) (map (λ n. Create (numbered_name n) 1) (range_with_len 0 32) ++ Create (codes "w") 1 ∷ [])
+    no_volumes ≡ replicate 32 Done
     ++ Refused TooManyVolumes ∷ []
 
 -- with a table of version 2 there may be 64

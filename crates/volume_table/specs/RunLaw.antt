@@ -16,7 +16,8 @@ IsLostOver (then_done {old = old} mid event reply ack applies goes counted rest)
     (next : Option Lost) × IsLostAfter (lost_in event old.array.table before) mid.array.table next × IsLostOver rest next after
 
 -- a store is settled on the volumes after all events of a chain, with the slot lost that its table then lacks
-pub record IsSettledAfterEvents {events : List Event} {acks : List ℕ} {old new : StoreView} (extents : ExtentLayout) (chain : Chain (Unit {0}) events acks old new)
+pub record IsSettledAfterEvents {events : List Event} {acks : List ℕ} {old new : StoreView} (extents : ExtentLayout)
+    (chain : Chain (Unit {0}) events acks old new)
     (first : Option Lost) (before : VolumeMap) : Type 0 where
   pub lost : Option Lost
   pub is_lost : IsLostOver chain first lost
@@ -36,7 +37,8 @@ StandsOneMore extents done event old new lost before = StandsThroughout old.arra
 
 -- One of the events of a chain, with those before it and those after it: while it is done, each case that a crash may leave stands for the
 -- volumes before it or for those after it.
-pub record StandsInEvent (extents : ExtentLayout) (done : List Event) (event : Event) (undone : List Event) (acks : List ℕ) (old new : StoreView) (first : Option Lost)
+pub record StandsInEvent (extents : ExtentLayout) (done : List Event) (event : Event) (undone : List Event) (acks : List ℕ) (old new : StoreView)
+    (first : Option Lost)
     (before : VolumeMap) : Type 0 where
   pub mid : StoreView
   pub next : StoreView

@@ -1,5 +1,5 @@
 -- Which volumes a logical list shows: its first sectors are a table of them, and their blocks stand in the extents that the table gives them.
-use Rattle.std.specs.Prelude.{◌≡◌, ◌≢◌, ℕ, ◌+◌, ◌*◌, ◌/◌, ◌%◌, ◌<◌, ◌≤◌, List, [], ◌∷◌, length, slice_index_or, Option, Some, None}
+use Rattle.std.specs.Prelude.{◌≡◌, ◌≢◌, ℕ, ◌+◌, ◌<◌, List, [], ◌∷◌, length, slice_index_or, Option, Some, None}
 use Rattle.extents.specs.declared.extent_layout.ExtentLayout.{ExtentLayout}
 use Rattle.extents.specs.declared.owned.Owned.{Owned}
 use Rattle.extents.specs.declared.record.Record.{Record}
@@ -17,14 +17,16 @@ AreBlocksIn extents sectors owners number blocks = (j extent : ℕ) → j < leng
     → slice_index_or sectors (sector_of_block extents extent j) [] ≡ slice_index_or blocks j []
 
 -- a used record is of a volume that has its name and its length, and whose blocks stand in its extents
-pub record IsOfVolume (extents : ExtentLayout) (owners : List (Option Owned)) (sectors : List Block) (volumes : VolumeList) (number : ℕ) (entry : Record) : Type 0 where
+pub record IsOfVolume (extents : ExtentLayout) (owners : List (Option Owned)) (sectors : List Block) (volumes : VolumeList) (number : ℕ)
+    (entry : Record) : Type 0 where
   pub blocks : List Block
   pub named : blocks_of entry.name.bytes.items volumes ≡ Some blocks
   pub as_long : length blocks ≡ entry.blocks
   pub stand : AreBlocksIn extents sectors owners number blocks
 
 -- the used records are those of the volumes
-pub record AreShown (extents : ExtentLayout) (records : List (Option Record)) (owners : List (Option Owned)) (sectors : List Block) (volumes : VolumeList) : Type 0 where
+pub record AreShown (extents : ExtentLayout) (records : List (Option Record)) (owners : List (Option Owned)) (sectors : List Block)
+    (volumes : VolumeList) : Type 0 where
   pub used : (number : ℕ) (entry : Record) → record_of records number ≡ Some entry → IsOfVolume extents owners sectors volumes number entry
   pub all : (name : List ℕ) (blocks : List Block) → blocks_of name volumes ≡ Some blocks → HasRecord records name
 
@@ -51,14 +53,16 @@ HaveSameBlocks extents owners number entry before left = (j extent : ℕ) → j 
     → slice_index_or left (sector_of_block extents extent j) [] ≡ slice_index_or before (sector_of_block extents extent j) []
 
 -- all records but one stay as they were, with the extents and the blocks of their volumes
-pub record ChangesOneRecord (extents : ExtentLayout) (records new_records : List (Option Record)) (owners new_owners : List (Option Owned)) (before left : List Block)
+pub record ChangesOneRecord (extents : ExtentLayout) (records new_records : List (Option Record)) (owners new_owners : List (Option Owned))
+    (before left : List Block)
     (number : ℕ) : Type 0 where
   pub same_records : (other : ℕ) → other ≢ number → record_of new_records other ≡ record_of records other
   pub same_extents : (other extent place : ℕ) → other ≢ number → IsAt new_owners extent other place → IsAt owners extent other place
   pub same_blocks : (other : ℕ) (entry : Record) → other ≢ number → record_of records other ≡ Some entry → HaveSameBlocks extents owners other entry before left
 
 -- a record is of this volume, whose blocks stand in its extents
-pub record IsRecordOf (extents : ExtentLayout) (records : List (Option Record)) (owners : List (Option Owned)) (sectors : List Block) (number : ℕ) (volume : Volume) : Type 0
+pub record IsRecordOf (extents : ExtentLayout) (records : List (Option Record)) (owners : List (Option Owned)) (sectors : List Block) (number : ℕ)
+    (volume : Volume) : Type 0
   where
     pub entry : Record
     pub used : record_of records number ≡ Some entry

@@ -1,5 +1,5 @@
 -- What a logical list shows.
-use Rattle.std.specs.Prelude.{◌≡◌, ◌≢◌, ◌↔◌, ℕ, ◌+◌, ◌/◌, ◌<◌, ◌≤◌, IsTrue, List, [], ◌++◌, length, take, slice_index_or, All, Option, Some, None}
+use Rattle.std.specs.Prelude.{◌≡◌, ◌≢◌, ◌↔◌, ℕ, ◌+◌, ◌<◌, ◌≤◌, IsTrue, List, [], ◌++◌, length, take, slice_index_or, All, Option, Some, None}
 use Rattle.extents.specs.declared.extent_layout.ExtentLayout.{ExtentLayout}
 use Rattle.extents.specs.SetExtents.{IsOfSet}
 use Rattle.extents.specs.declared.owned.Owned.{Owned}
@@ -25,7 +25,8 @@ GoodNamesAreTheTables = (version : ℕ) (name : List ℕ) → IsTrue (is_good_na
 
 -- by one table a list shows one map of volumes
 abbrev pub ShownAreOne : Type 0
-ShownAreOne = (extents : ExtentLayout) (records : List (Option Record)) (owners : List (Option Owned)) (sectors : List Block) (version : ℕ) (first second : VolumeMap)
+ShownAreOne = (extents : ExtentLayout) (records : List (Option Record)) (owners : List (Option Owned)) (sectors : List Block) (version : ℕ)
+    (first second : VolumeMap)
     → ∥ HaveTheirPlaces extents.blocks records owners ∥₁ → first.version ≡ version → second.version ≡ version
     → AreVolumes extents first → AreVolumes extents second → AreShown extents records owners sectors first.volumes
     → AreShown extents records owners sectors second.volumes → first ≡ second

@@ -1,6 +1,5 @@
 //! An open store: the volumes of a set, by their table and the map of their extents.
 ghost use Rattle.std.specs.Prelude.{◌≡◌, ◌↔◌, IsTrue, Ok, Err, Some};
-ghost use Rattle.layout_map.specs.declared.format.Format.TheVariants.{One};
 ghost use Rattle.sector_model.specs.declared.refusal.Refusal.{Refusal};
 ghost use Rattle.array_io.specs.Believed.Views.{EndsIt, HasEnded};
 ghost use Rattle.volume_table.specs.Admission.{AreKept};
@@ -48,7 +47,6 @@ pub struct Store<B: Bank> {
     /// The refusal that ended the store, 15 or 16, if one did.
     pub ended: Option<Refusal>,
     pub ghost kept: { AreKept (extents_in array.table.geometry) table map },
-    pub ghost of_format_one: { array.table.geometry.format ≡ One },
 }
 
 impl<B: Bank> Store<B> {

@@ -4,7 +4,7 @@ use crate::console::{Output, Replies, Script};
 use crate::ended;
 use crate::testing::streams::{Full, WHOLE};
 use crate::testing::{ID, same};
-use layout_map::{Format, Geometry};
+use layout_map::Geometry;
 use recovery::make;
 use sector_model::{Image, MemBank, Plan, Refusal};
 use set_commands::run_script;
@@ -26,7 +26,6 @@ fn fresh_store(rt: &(impl Abort + AllocGlobal)) -> Store<MemBank> {
     let entry = Entry::new(rt.alloc()).expect(rt, "memory");
     let geometry = Geometry::new(3, 8, 32).expect(rt, "a geometry");
     let array = make(bank, entry, ID, geometry).ok().expect(rt, "a set");
-    assert!(rt; array.table.geometry.format == Format::One);
     Store::open(array).ok().expect(rt, "a store")
 }
 

@@ -1,6 +1,5 @@
 //! A volume gets new blocks.
 ghost use Rattle.std.specs.Prelude.{◌≡◌, ◌≤◌, ◌↔◌, ◌+◌, ◌-◌, Some, slice_set};
-ghost use Rattle.layout_map.specs.declared.format.Format.TheVariants.{One};
 ghost use Rattle.array_io.specs.Believed.OpenArray.{IsHonest, array_view};
 ghost use Rattle.extents.specs.ExtentMaps.{IsTaken};
 ghost use Rattle.extents.specs.VolumeTables.{extents_for};
@@ -35,7 +34,6 @@ pub fn grow<B: Bank>(
     map: &mut ExtentMap,
     growth: Growth,
 ) -> Result<(), Refusal>
-    requires of_format_one { array.old.table.geometry.format ≡ One }
     requires kept { AreKept (extents_in array.old.table.geometry) table.old map.old }
     requires may { MayGrowTo (extents_in array.old.table.geometry) table.old.version table.old.records map.old
         growth.volume growth.first growth.entry }
@@ -46,8 +44,9 @@ pub fn grow<B: Bank>(
     ensures taken { IsTaken map.old map.new growth.volume (let each = (extents_in array.old.table.geometry).blocks in
         extents_for each growth.entry.blocks - extents_for each growth.first) }
     ensures changes { ChangesList (IsHonest array.old) (growth.entry.blocks - growth.first + 1)
-        (MayGrow (extents_in array.old.table.geometry) table.old table.new growth.volume growth.first growth.entry.blocks)
-        (Grows (extents_in array.old.table.geometry) table.old table.new growth.volume growth.first growth.entry.blocks)
+        (MayGrow (extents_in array.old.table.geometry) table.old table.new growth.volume growth.first
+        growth.entry.blocks) (Grows (extents_in array.old.table.geometry) table.old table.new growth.volume
+        growth.first growth.entry.blocks)
         (array_view array.old) (array_view array.new) result }
 {
     let before = spelled(table);

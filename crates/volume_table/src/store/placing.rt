@@ -76,7 +76,8 @@ pub fn zero_blocks<B: Bank>(
     ensures honest { IsHonest array.old ↔ IsHonest array.new }
     ensures changes { ChangesList (IsHonest array.old) (last - first)
         (IsPartlyZero (extents_in array.old.table.geometry) map.now volume first last)
-        (IsZeroed (extents_in array.old.table.geometry) map.now volume first last) (array_view array.old) (array_view array.new) result }
+        (IsZeroed (extents_in array.old.table.geometry) map.now volume first last) (array_view array.old)
+        (array_view array.new) result }
 {
     let zeros = [[0; 512]; MOST_BLOCKS_AT_ONCE];
     let mut at = first;

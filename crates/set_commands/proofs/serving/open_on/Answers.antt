@@ -33,6 +33,3 @@ returns-in-Ok-open-clause-honest g c =
     let array = c.in-Ok.ensures.honest_array in
     let store = c.in-Ok-open.ensures.honest_store in
     (λ honest. store.0 (array.0 honest), λ honest. array.1 (store.1 honest))
-
-pub open-requires : goal.open-requires
-open-requires g c = c.in-Ok.ensures.assembled.of_format_one _ refl

@@ -8,6 +8,3 @@ returns-in-Ok-clause-fresh c = opened_fresh _ _ c.in_ok-fresh_array.ensures.fres
 -- src/serving/fresh.rt:47:1
 pub returns-in-Err-clause-err : goal.returns-in-Err-clause-err
 returns-in-Err-clause-err c = open_refused _ _ c.in-Err.unopened.refusal c.in_ok-fresh_array.ensures.fresh c.in-Err.ensures.refused
-
-pub open-requires : goal.open-requires
-open-requires c = c.in_ok-fresh_array.ensures.fresh.of_format_one

@@ -22,7 +22,8 @@ returns-in_err-growth-clause-extends g c =
     (store_view before)
     c.in_err-growth.field-0.0 c.in_default.is c.in_err-growth.ensures.listed
     (λ sectors volumes by.
-    decided_by (Some c.in_err-growth.field-0.0) before.table before.map (Extend c.args.name.now c.args.by) c.of-extents.result (extents_in shape) c.of-extents.ensures
+    decided_by (Some c.in_err-growth.field-0.0) before.table before.map (Extend c.args.name.now c.args.by) c.of-extents.result (extents_in shape)
+    c.of-extents.ensures
     c.in_err-growth.ensures.decides sectors volumes before.kept by))
 
 pub returns-clause-honest : goal.returns-clause-honest
@@ -80,4 +81,4 @@ grow-answer-requires-clause-may g c =
     c.in_ok-growth.growth.entry) c.of-extents.ensures c.in_ok-growth.ensures.may
 
 pub invariant_of-self : goal.invariant_of-self
-invariant_of-self g c = record { kept = c.args.self.now.kept; of_format_one = c.args.self.now.of_format_one }
+invariant_of-self g c = record { kept = c.args.self.now.kept }

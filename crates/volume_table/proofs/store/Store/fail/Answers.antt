@@ -1,4 +1,4 @@
-use Rattle.std.proofs.Common.{◌≡◌, ◌<◌, None, sym, subst, ◌∙◌, ap}
+use Rattle.std.proofs.Common.{◌≡◌, ◌<◌, None, sym, subst}
 use Rattle.sector_model.specs.declared.refusal.Refusal.TheVariants.{NotMissing, WouldLose}
 use Rattle.layout_map.specs.declared.geometry.Geometry.{Geometry}
 use Rattle.superblock.specs.NextTables.{slots_of}
@@ -45,14 +45,7 @@ invariant_of-self g c =
             (sym (marks_geometry (g.B.Bank.honest was.array.bank) c.args.slot (g.B.Bank.panel was.array.bank) (g.B.Bank.panel new.bank) was.array.table
             new.table
             (g.B.Bank.history was.array.bank) (g.B.Bank.history new.bank) c.mark_slot-answer.result c.mark_slot-answer.ensures.marks)) was.kept,
-        (
-          ap (λ (s : Geometry). s.format)
-              (marks_geometry (g.B.Bank.honest was.array.bank) c.args.slot (g.B.Bank.panel was.array.bank) (g.B.Bank.panel new.bank) was.array.table
-              new.table
-              (g.B.Bank.history was.array.bank) (g.B.Bank.history new.bank) c.mark_slot-answer.result c.mark_slot-answer.ensures.marks)
-              ∙ was.of_format_one,
-          tt,
-        ),
+        tt,
       ),
     )
 

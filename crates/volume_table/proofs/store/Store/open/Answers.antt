@@ -1,5 +1,4 @@
-use Rattle.layout_map.specs.declared.geometry.Geometry.{Geometry}
-use Rattle.std.proofs.Common.{◌≡◌, ◌≤◌, take, ap, refl, sym, ◌∙◌, subst, arith}
+use Rattle.std.proofs.Common.{◌≡◌, take, ap, refl, sym, ◌∙◌, subst, arith}
 use Rattle.std.proofs.lemmas.Option.{none-some}
 use Rattle.array_io.specs.Believed.Views.{ArrayView}
 use Rattle.array_io.specs.Believed.OpenArray.{array_view}
@@ -58,7 +57,6 @@ invariant_of-result g c = record {
     same = c.new-map.ensures ∙ ap (λ (e : ExtentLayout). take e.count c.in-Some.table.extents) c.of-extents.ensures;
     of_set = subst (λ (e : ExtentLayout). IsOfSet e c.in-Some.table) c.of-extents.ensures c.in-Some.ensures.of_set;
   };
-  of_format_one = ap (λ (g : Geometry). g.format) c.in_default.ensures.changes.goes_on.not_older.same_geometry ∙ c.requires;
 }
 
 pub returns-clause-honest_store : goal.returns-clause-honest_store

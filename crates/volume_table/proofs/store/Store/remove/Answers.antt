@@ -57,5 +57,4 @@ shrink-answer-requires-clause-kept g c = c.args.self.now.kept
 pub invariant_of-self : goal.invariant_of-self
 invariant_of-self g c = record {
   kept = c.shrink-answer.ensures.kept;
-  of_format_one = ap (λ (g : Geometry). g.format) c.shrink-answer.ensures.changes.goes_on.not_older.same_geometry ∙ c.args.self.now.of_format_one;
 }

@@ -56,7 +56,6 @@ put_name-answer-requires-clause-may g c = c.in_ok-renaming.ensures.may
 pub invariant_of-self : goal.invariant_of-self
 invariant_of-self g c = record {
   kept = c.put_name-answer.ensures.kept;
-  of_format_one = ap (λ (g : Geometry). g.format) c.put_name-answer.ensures.changes.goes_on.not_older.same_geometry ∙ c.args.self.now.of_format_one;
 }
 
 pub returns-clause-kept : goal.returns-clause-kept

@@ -25,7 +25,6 @@ pub invariant_of-self : goal.invariant_of-self
 invariant_of-self g c = record {
   kept = subst (λ (s : Geometry). AreKept (extents_in s) c.args.self.now.table c.args.self.now.map)
       (sym c.scrub-answer.ensures.scrubs.goes_on.not_older.same_geometry) c.args.self.now.kept;
-  of_format_one = ap (λ (g : Geometry). g.format) c.scrub-answer.ensures.scrubs.goes_on.not_older.same_geometry ∙ c.args.self.now.of_format_one;
 }
 
 pub returns-clause-honest : goal.returns-clause-honest

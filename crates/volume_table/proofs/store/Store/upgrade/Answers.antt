@@ -45,8 +45,6 @@ invariant_of-self g c =
       kept = kept_upgraded its.array.table.geometry c.put_whole_table-answer.new.array.table.geometry its.table c.upgrade.new.self its.map
           (c.put_whole_table-answer.ensures.changes its.table).goes_on.not_older.same_geometry
           record { version = c.upgrade.ensures.version; records = c.upgrade.ensures.records; extents = c.upgrade.ensures.extents } its.kept;
-      of_format_one = ap (λ (g : Geometry). g.format) (c.put_whole_table-answer.ensures.changes its.table).goes_on.not_older.same_geometry
-          ∙ its.of_format_one;
     }
 
 pub returns-then-self-eq-LAST_VERSION-clause-kept : goal.returns-then-self-eq-LAST_VERSION-clause-kept

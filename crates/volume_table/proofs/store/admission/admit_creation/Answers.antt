@@ -103,7 +103,8 @@ returns-clause-may c =
     (sym c.is_some.ensures ∙ c.if-is_some.false) c.record_named.ensures in
     let up = c.extents_for.ensures in
     let free = c.free_count.ensures in
-    may_create_at c.args.extents.now table c.args.map.now c.in-Some-first_unused.volume _ name c.in-Some-first_unused.ensures (omega arith) c.in-Some.ensures.same its_name.short
+    may_create_at c.args.extents.now table c.args.map.now c.in-Some-first_unused.volume _ name c.in-Some-first_unused.ensures (omega arith)
+    c.in-Some.ensures.same its_name.short
     none
     (omega (arith, up, free, c.if-extents_for-free_count.false))
 

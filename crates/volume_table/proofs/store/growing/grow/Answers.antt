@@ -50,7 +50,8 @@ pub returns-in_err-zero_blocks-clause-changes : goal.returns-in_err-zero_blocks-
 returns-in_err-zero_blocks-clause-changes g c =
     let growth = c.args.growth in
     let p = err_from_is_err_and c.from_residual.result c.from_residual.ensures.1 in
-    rw (p.1, p.2) (zeroed_in_part (extents_in c.args.array.now.table.geometry) (g.B.Bank.honest c.args.array.now.bank) c.args.table.now c.set.new.self c.take.new.self growth.volume growth.first
+    rw (p.1, p.2) (zeroed_in_part (extents_in c.args.array.now.table.geometry) (g.B.Bank.honest c.args.array.now.bank) c.args.table.now c.set.new.self
+    c.take.new.self growth.volume growth.first
     growth.entry.blocks
     (array_view c.args.array.now)
     (array_view c.zero_blocks.new.array)
@@ -76,7 +77,8 @@ returns-clause-changes g c =
     let growth = c.args.growth in
     let mid = array_view c.zero_blocks.new.array in
     let new = array_view c.put_table.new.array in
-    zeroed_then_put (extents_in c.args.array.now.table.geometry) (g.B.Bank.honest c.args.array.now.bank) (g.B.Bank.honest c.zero_blocks.new.array.bank) (λ fair. c.zero_blocks.ensures.honest.0 fair)
+    zeroed_then_put (extents_in c.args.array.now.table.geometry) (g.B.Bank.honest c.args.array.now.bank) (g.B.Bank.honest c.zero_blocks.new.array.bank)
+    (λ fair. c.zero_blocks.ensures.honest.0 fair)
     c.args.table.now c.set.new.self c.take.new.self growth.volume growth.first growth.entry.blocks
     (array_view c.args.array.now) mid new c.put_table.result c.set.ensures.extents
     (λ fair. g.met.B.Bank.true_to _ (c.zero_blocks.ensures.honest.0 fair)) c.in_ok-zero_blocks.ensures.changes
@@ -85,7 +87,8 @@ returns-clause-changes g c =
 pub overflow_sub-extents_for : goal.overflow_sub-extents_for
 overflow_sub-extents_for g c =
     let growth = c.args.growth in
-    let more = more_take_more c.of-extents.result.blocks growth.first growth.entry.blocks c.of-extents.result.limits.some (omega (arith, c.requires.may.more)) in
+    let more = more_take_more c.of-extents.result.blocks growth.first growth.entry.blocks c.of-extents.result.limits.some
+    (omega (arith, c.requires.may.more)) in
     omega (arith, more, c.extents_for.ensures, c.extents_for-2.ensures)
 
 pub take-requires-clause-volume : goal.take-requires-clause-volume

@@ -1,4 +1,4 @@
-use Rattle.std.proofs.Common.{◌≡◌, ℕ, ◌+◌, List, length, sym, subst}
+use Rattle.std.proofs.Common.{ℕ, ◌+◌, List, length, sym, subst}
 use Rattle.sector_model.specs.History.{Bytes}
 use Rattle.array_io.specs.Believed.ArrayCalls.{Commits, MayCommit}
 use Rattle.array_io.specs.Believed.OpenArray.{array_view}

@@ -18,7 +18,8 @@ use Rattle.array_io.specs.Believed.OpenArray.{array_view}
 use Rattle.extents.specs.SetExtents.{extents_in}
 
 pub loop-at-init : goal.loop-at-init
-loop-at-init g c = zeroing_begins (extents_in c.args.array.now.table.geometry) (g.B.Bank.honest c.args.array.now.bank) c.args.map.now c.args.volume c.args.first c.args.last _ c.requires.order
+loop-at-init g c = zeroing_begins (extents_in c.args.array.now.table.geometry) (g.B.Bank.honest c.args.array.now.bank) c.args.map.now c.args.volume
+    c.args.first c.args.last _ c.requires.order
 
 pub write_blocks-requires-clause-sized : goal.write_blocks-requires-clause-sized
 write_blocks-requires-clause-sized g c =
@@ -60,7 +61,8 @@ returns-in_err-write_blocks-clause-changes g c =
     (array_view c.args.array.now)
     (array_view c.write_blocks.new.array))
     (sym (p.1 ∙ ap (λ s. Err s) p.2))
-    (zeroing_refused (extents_in c.args.array.now.table.geometry) (g.B.Bank.honest c.args.array.now.bank) (g.B.Bank.honest c.loop-at.array.bank) c.args.map.now c.args.volume c.args.first c.args.last
+    (zeroing_refused (extents_in c.args.array.now.table.geometry) (g.B.Bank.honest c.args.array.now.bank) (g.B.Bank.honest c.loop-at.array.bank)
+    c.args.map.now c.args.volume c.args.first c.args.last
     c.loop-at.at c.min-count.result
     (take c.min-count.result (replicate MOST_BLOCKS_AT_ONCE (replicate 512 0))) _ _ _ (some_zeros c.min-count.result few) within some c.loop-at.invariant
     (g.met.B.Bank.true_to c.loop-at.array.bank) c.in_err-write_blocks.field-0.0
@@ -73,7 +75,8 @@ loop-at-preserved g c =
     let few : c.min-count.result ≤ MOST_BLOCKS_AT_ONCE = omega (arith, c.min-count.ensures) in
     let within : c.loop-at.at + c.min-count.result ≤ c.args.last = omega (arith, c.min-count.ensures, c.loop-at-test.true) in
     let some : 1 ≤ c.min-count.result = omega (arith, c.min-count.ensures, c.loop-at-test.true) in
-    zeroing_goes_on (extents_in c.args.array.now.table.geometry) (g.B.Bank.honest c.args.array.now.bank) (g.B.Bank.honest c.loop-at.array.bank) c.args.map.now c.args.volume c.args.first c.args.last
+    zeroing_goes_on (extents_in c.args.array.now.table.geometry) (g.B.Bank.honest c.args.array.now.bank) (g.B.Bank.honest c.loop-at.array.bank) c.args.map.now
+    c.args.volume c.args.first c.args.last
     c.loop-at.at c.min-count.result
     (take c.min-count.result (replicate MOST_BLOCKS_AT_ONCE (replicate 512 0))) _ _ _ (some_zeros c.min-count.result few) within some c.loop-at.invariant
     (g.met.B.Bank.true_to c.loop-at.array.bank) (g.B.Bank.honest c.write_blocks.new.array.bank) c.in_ok-write_blocks.ensures.honest.0

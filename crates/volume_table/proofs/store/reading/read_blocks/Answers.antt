@@ -55,9 +55,11 @@ loop-i-preserved g c =
       changes = read_on (g.B.Bank.honest c.args.array.now.bank) (g.B.Bank.honest c.loop-i.array.bank) c.loop-i.invariant.honest c.where_is.result old mid new
           c.read.new.to (Ok tt)
           (λ fair. g.met.B.Bank.true_to _ (c.loop-i.invariant.honest fair)) c.loop-i.invariant.changes c.in_ok-read.ensures.reads;
-      gives = λ fair lost V rests. one_more_block (extents_in c.args.array.now.table.geometry) c.args.map.now c.args.volume c.args.at c.loop-i.i c.where_is.result c.loop-i.to V c.read.new.to within
+      gives = λ fair lost V rests. one_more_block (extents_in c.args.array.now.table.geometry) c.args.map.now c.args.volume c.args.at c.loop-i.i
+          c.where_is.result c.loop-i.to V c.read.new.to within
           (c.loop-i.invariant.gives fair lost V rests)
-          (subst (λ (e : ExtentLayout). IsWhere e c.args.map.now c.args.volume (c.args.at + c.loop-i.i) c.where_is.result) c.of-extents.ensures c.where_is.ensures)
+          (subst (λ (e : ExtentLayout). IsWhere e c.args.map.now c.args.volume (c.args.at + c.loop-i.i) c.where_is.result) c.of-extents.ensures
+          c.where_is.ensures)
           (read_gives (g.B.Bank.honest c.args.array.now.bank) (g.B.Bank.honest c.loop-i.array.bank) c.loop-i.invariant.honest c.where_is.result old mid new
           c.read.new.to c.loop-i.invariant.changes
           c.in_ok-read.ensures.reads fair lost V rests);

@@ -5,7 +5,7 @@ use crate::testing::{all, front, same};
 use array_io::Array;
 use array_io::oracle::logical_in;
 use extents::Owned;
-use layout_map::{Format, Geometry};
+use layout_map::Geometry;
 use rebuild::Progress;
 use recovery::{assemble, make};
 use scrub::ScrubReport;
@@ -236,7 +236,6 @@ fn bank_of(rt: &(impl Abort + AllocGlobal), image: Image) -> MemBank {
 
 // A store over this set.
 fn opened(rt: &impl Abort, array: Array<MemBank>) -> TestStore {
-    assert!(rt; array.table.geometry.format == Format::One);
     Store::open(array).ok().expect(rt, "the store is opened")
 }
 

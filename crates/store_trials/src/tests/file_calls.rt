@@ -7,7 +7,7 @@ mod recorded;
 
 use super::{ID, SET_A, Shape};
 use crate::testing::{all, same};
-use layout_map::{Format, Geometry};
+use layout_map::Geometry;
 use recorded::FileCall::{Read, Sync, Write};
 use recorded::{FileCall, Recorded, RecordedBank, bank_over};
 use recovery::{assemble, make};
@@ -42,7 +42,6 @@ fn made_on(rt: &(impl Abort + AllocGlobal), record: &RefCell<Recorded>, geometry
     let entry = Entry::new(rt.alloc()).expect(rt, "memory");
     let array = make(bank_over(rt, record), entry, ID, geometry);
     let array = array.ok().expect(rt, "the set is made");
-    assert!(rt; array.table.geometry.format == Format::One);
     let mut store = Store::open(array).ok().expect(rt, "the store is opened");
     same(rt, store.create(b"a", 64), Ok(()));
 }
@@ -55,7 +54,6 @@ fn opened_on<'a>(
     let entry = Entry::new(rt.alloc()).expect(rt, "memory");
     let array = assemble(bank_over(rt, record), entry, ID);
     let array = array.ok().expect(rt, "the set is assembled");
-    assert!(rt; array.table.geometry.format == Format::One);
     let store = Store::open(array).ok().expect(rt, "the store is opened");
     let mut record = record.try_borrow_mut().expect(rt, "a record");
     record.calls.clear();

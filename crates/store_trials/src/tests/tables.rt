@@ -4,7 +4,6 @@ use super::Call::{Create, Extend, Remove};
 use super::Step::{Do, Holds, Table};
 use super::{SET_A, Step, assembled, check_new, fresh_store, image_now};
 use crate::testing::same;
-use layout_map::Format;
 use sector_model::{Bank, Image, Refusal};
 use std::process::Abort;
 use volume_table::Store;
@@ -72,7 +71,6 @@ fn check_damaged(rt: &(impl Abort + AllocGlobal), logical: usize, by: u8, sector
     damage(rt, &mut image, logical, by);
     let array = assembled(rt, image);
     let (now, room) = (array.bank.now(), array.bank.room);
-    assert!(rt; array.table.geometry.format == Format::One);
     let returned = Store::open(array).err().expect(rt, "no store is opened");
     let calls = returned.bank.now().saturating_sub(now);
     let got = (logical, returned.refusal, calls, returned.bank.room);

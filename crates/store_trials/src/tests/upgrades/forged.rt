@@ -6,7 +6,7 @@ use super::super::every_call::{begun, fresh_image};
 use super::super::{SET_A, Step, Volumes, assembled, check, fresh_store, image_now, next_run};
 use super::{ONE, ONE_VOLUME, SPELLED, check_spelled};
 use crate::testing::{all, front, same};
-use layout_map::{Format, Geometry};
+use layout_map::Geometry;
 use parity::xor_into;
 use scrub::ScrubReport;
 use sector_model::{Bank, Image, Refusal, Sector};
@@ -86,7 +86,6 @@ fn with_first_byte(rt: &impl Abort, mut image: Image, by: u8) -> Image {
 fn check_opened(rt: &(impl Abort + AllocGlobal), image: Image, byte: u8, wanted: Result<u8, u64>) {
     let array = assembled(rt, image);
     let (now, room) = (array.bank.now(), array.bank.room);
-    assert!(rt; array.table.geometry.format == Format::One);
     match Store::open(array) {
         Ok(store) => same(rt, (byte, Ok(store.table.version)), (byte, wanted)),
         Err(returned) => {

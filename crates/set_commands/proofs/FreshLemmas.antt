@@ -14,7 +14,7 @@ use Rattle.sector_model.proofs.Copies.{slots_past}
 use Rattle.layout_map.specs.declared.format.Format.{Format}
 use Rattle.layout_map.specs.declared.format.Format.TheVariants.{One}
 use Rattle.layout_map.specs.declared.geometry.Geometry.{Geometry}
-use Rattle.layout_map.specs.Placement.{extents_of}
+use Rattle.layout_map.specs.Placement.{extent_blocks, extents_of, first_extent}
 use Rattle.superblock.specs.Cases.{HasNone}
 use Rattle.superblock.specs.Counted.{Content}
 use Rattle.superblock.specs.Spelling.{superblock_sector}
@@ -26,13 +26,16 @@ use Rattle.recovery.specs.Making.{BankView, IsNoMake, IsQuietBeyond, Makes, bank
 use Rattle.volume_table.specs.Opening.{IsNoOpening, Opened, Opens, Returned}
 use Rattle.volume_table.specs.Shows.{Shows}
 use Rattle.volume_table.specs.Volumes.{no_volumes}
-use Rattle.volume_table.specs.Stands.{IsSettledAfter, StoreView, extents_in}
+use Rattle.volume_table.specs.Stands.{IsSettledAfter, StoreView}
 use Rattle.volume_table.proofs.FreshLemmas.{fresh_set_shows_none}
-use Rattle.set_commands.specs.Fresh.{HasNoVolumes, IsFreshEnd, IsFreshRefusal, IsMadeFresh, RunsFresh, fresh_devices, fresh_id, zero_device}
+use Rattle.set_commands.specs.Fresh.{HasNoVolumes, IsFreshEnd, IsFreshRefusal, IsMadeFresh, RunsFresh, fresh_devices, fresh_extents, fresh_id, zero_device}
 use Rattle.set_commands.specs.Run.{HasRun, IsScriptRefusal, Streams}
 use Rattle.set_commands.specs.ScriptLaw.{EndsSettled, Runs}
 use Rattle.set_commands.specs.Serving.{IsEarly, IsEnd}
 use Rattle.set_commands.proofs.ScriptLaws.{script_keeps_volumes}
+use Rattle.extents.specs.declared.extent_layout.ExtentLayout.{ExtentLayout}
+use Rattle.extents.specs.SetExtents.{extents_in}
+use Rattle.extents.proofs.Same.{same_layout}
 
 -- so many sectors of zeros
 abbrev pub zeros : ℕ → List Bytes
@@ -113,11 +116,20 @@ make_refused id geometry bank back refusal one members five makes =
 -- ---- its store is opened
 
 -- the number of extents of these sizes
-extents_are : (format : Format) (members chunk stripes : ℕ) → format ≡ One → members ≡ 3 → chunk ≡ 8 → stripes ≡ 32
+count_is : (format : Format) (members chunk stripes : ℕ) → format ≡ One → members ≡ 3 → chunk ≡ 8 → stripes ≡ 32
     → extents_of format members chunk stripes ≡ 7
-extents_are format members chunk stripes one three eight more =
+count_is format members chunk stripes one three eight more =
     ap (λ (f : Format). extents_of f members chunk stripes) one ∙ ap (λ (n : ℕ). extents_of One n chunk stripes) three
     ∙ ap (λ (n : ℕ). extents_of One 3 n stripes) eight ∙ ap (λ (n : ℕ). extents_of One 3 8 n) more
+
+-- and where they lie
+extents_are : (geometry : Geometry) → geometry.format ≡ One → geometry.members ≡ 3 → geometry.chunk ≡ 8 → geometry.stripes ≡ 32
+    → extents_in geometry ≡ fresh_extents
+unfolding extents_in
+extents_are geometry one three eight more =
+    same_layout (extents_in geometry) fresh_extents (ap (λ (f : Format). first_extent f geometry.members geometry.chunk) one)
+    (ap (λ (f : Format). extent_blocks f geometry.members geometry.chunk geometry.stripes) one)
+    (count_is geometry.format geometry.members geometry.chunk geometry.stripes one three eight more)
 
 pub opened_fresh : (array : ArrayView) (store : StoreView) → IsMadeFresh array → Opens (Unit {0}) array (Opened store) → ∥ HasNoVolumes store ∥₁
 opened_fresh array store fresh opens = ∥∥₁_map (fresh_set_shows_none array.table.geometry) by_shown
@@ -130,8 +142,7 @@ opened_fresh array store fresh opens = ∥∥₁_map (fresh_set_shows_none array
           lost = after.lost;
           settled = after.settled;
           extents = ap extents_in (opens.goes_on store refl).not_older.same_geometry
-              ∙ extents_are array.table.geometry.format array.table.geometry.members array.table.geometry.chunk array.table.geometry.stripes
-              fresh.of_format_one fresh.members fresh.chunk fresh.stripes;
+              ∙ extents_are array.table.geometry fresh.of_format_one fresh.members fresh.chunk fresh.stripes;
         }
 
 -- its zeros are a table, of no volume
@@ -161,7 +172,7 @@ runs_fresh script first last was is told ran none = ∥∥₁_map none by_none
         (script_keeps_volumes ran.lines ran.replies first last ran.serves none.lost no_volumes none.settled).1 in record {
           replies = ran.replies;
           after = ends.after;
-          runs = subst₂ (λ (extents : ℕ) (lines : List (List ℕ)). Runs extents lines no_volumes ran.replies ends.after) none.extents
+          runs = subst₂ (λ (extents : ExtentLayout) (lines : List (List ℕ)). Runs extents lines no_volumes ran.replies ends.after) none.extents
               (sym (ran.read script told).all) ends.runs;
           written = ran.written;
         }

@@ -11,7 +11,7 @@ use Rattle.recovery.specs.Making as recovery
 use Rattle.recovery.specs.Making.{BankView}
 use Rattle.volume_table.specs.Volumes.{VolumeMap}
 use Rattle.volume_table.specs.VolumeStep.{Event, Refused, Reply, left_by}
-use Rattle.volume_table.specs.Stands.{IsSettledOn, StoreView, extents_in}
+use Rattle.volume_table.specs.Stands.{IsSettledOn, StoreView}
 use Rattle.volume_table.specs.StoreCalls.{Applies, lost_in}
 use Rattle.volume_table.specs.Opening.{Opened, Returned}
 use Rattle.volume_table.specs.Runs as runs
@@ -21,6 +21,8 @@ use Rattle.volume_table.proofs.SafeRuns.{headline}
 use Rattle.set_commands.specs.Invocations.{AnswersRightly, BankKeeps, DoneOn, EndsOn, EndsServing, HeadlineOfTheProgram, Invocations}
 use Rattle.set_commands.specs.Invocations.{InvocationsKeep, Served, answered, crashed_in, here, kept_by, later, next_bank, no_more, none_asked}
 use Rattle.set_commands.specs.Invocations.{not_assembled, not_opened, only_read, served, then_answered, then_ended, then_no_event}
+use Rattle.extents.specs.declared.extent_layout.ExtentLayout.{ExtentLayout}
+use Rattle.extents.specs.SetExtents.{extents_in}
 
 -- ---- what is left of a session from an open store on
 
@@ -32,7 +34,8 @@ data Rest (slots : ℕ) (serving : Serving) (left : World) : (answered crashed :
       → Crashes slots (lost_in event last.store.array.table last.fate.lost) last.fate last.store.array.history store.array.history left
       → Rest slots serving left events (event ∷ [])
 
-abbrev right_in : {slots : ℕ} {serving : Serving} {left : World} {events crashed : List Event} → ℕ → VolumeMap → Rest slots serving left events crashed → Type 0
+abbrev right_in : {slots : ℕ} {serving : Serving} {left : World} {events crashed : List Event} → ExtentLayout → VolumeMap
+    → Rest slots serving left events crashed → Type 0
 right_in extents volumes (between replies last does crashes) = AreRight extents volumes does
 right_in {slots = slots} extents volumes (in_one replies last event store reply does applies true_to crashes) = AreRight extents volumes does
     × (IsSingleFailure slots (lost_in event last.store.array.table last.fate.lost) store.array.history → reply ≢ Refused TwoLost)
@@ -44,7 +47,8 @@ one_more {mid = mid} event reply done (between replies last does crashes) = betw
 one_more {mid = mid} event reply done (in_one replies last other store answer does applies true_to crashes) =
     in_one (reply ∷ replies) last other store answer (then_done mid event reply done does) applies true_to crashes
 
-right_more : {slots : ℕ} {old mid : Serving} {left : World} {events crashed : List Event} (extents : ℕ) (volumes : VolumeMap) (event : Event) (reply : Reply)
+right_more : {slots : ℕ} {old mid : Serving} {left : World} {events crashed : List Event} (extents : ExtentLayout) (volumes : VolumeMap) (event : Event)
+    (reply : Reply)
     (done : runs.IsDone slots event reply old mid) (rest : Rest slots mid left events crashed) → right_in extents volumes (one_more event reply done rest)
     → IsRight extents volumes event mid.store reply × right_in extents (left_by extents event volumes) rest
 unfolding one_more
@@ -64,7 +68,8 @@ rest_of slots (then_no_event rest) fate left ends = rest_of slots rest fate left
 rest_of slots (then_ended {old = old} {new = new} event reply applies last) fate left ends =
     in_one [] (record { store = old; fate = fate }) event new reply none_done applies ends.true_to ends.crashes
 
-rightly : (slots extents : ℕ) (volumes : VolumeMap) {replies : List Reply} {old new : StoreView} (asks : Served replies old new) (fate : Fate) (left : World)
+rightly : (slots : ℕ) (extents : ExtentLayout) (volumes : VolumeMap) {replies : List Reply} {old new : StoreView} (asks : Served replies old new)
+    (fate : Fate) (left : World)
     (ends : EndsServing slots asks fate left)
     → right_in extents volumes (rest_of slots asks fate left ends) → AnswersRightly slots extents volumes asks fate left ends
 unfolding one_more rest_of
@@ -85,7 +90,8 @@ session_by {first = first} {events = events} opened (between replies last does c
 session_by {first = first} {events = events} opened (in_one replies last event store reply does applies true_to crashes) =
     runs.in_event first last events replies event store reply opened does applies true_to crashes
 
-session_keeps : {slots : ℕ} {array : ArrayView} {fate : Fate} {first : Serving} {left : World} {events crashed : List Event} (extents : ℕ) (before : Before)
+session_keeps : {slots : ℕ} {array : ArrayView} {fate : Fate} {first : Serving} {left : World} {events crashed : List Event} (extents : ExtentLayout)
+    (before : Before)
     (opened : IsServing slots array fate first) (rest : Rest slots first left events crashed) (Later : Before → Type 0)
     → SessionKeeps extents slots before (session_by opened rest) Later
     → (volumes : VolumeMap) × IsAfterPrefix extents before volumes × IsSettledOn first.store first.fate.lost volumes × right_in extents volumes rest
@@ -118,7 +124,7 @@ module _ (id : List ℕ) (slots : ℕ) (panel : Panel) (begun left : World) wher
       runs.assembled array next (record { assembles = assembles; goes_over = over })
       (session_by (record { opens = opens; goes_over = over' }) (rest_of slots asks then left ends))
 
-  run_keeps : (extents : ℕ) (before : Before) {replies : List Reply} (done : DoneOn id (begun_with panel begun.image) replies)
+  run_keeps : (extents : ExtentLayout) (before : Before) {replies : List Reply} (done : DoneOn id (begun_with panel begun.image) replies)
       (ends : EndsOn slots done begun.fate left) (Later Other : Before → Type 0) → ((next : Before) → Later next → Other next)
       → RunKeeps id extents slots before (run_of done ends) Later → BankKeeps slots extents before done begun.fate left ends Other
   unfolding run_of
@@ -145,7 +151,7 @@ runs_of id devices slots no_more = runs.no_more
 runs_of id devices slots (next_bank begun left panel replies begins same of_bank done ends rest) =
     runs.next_run begun left panel begins same of_bank (run_of id slots panel begun left done ends) (runs_of id devices slots rest)
 
-keep : (id : List ℕ) (extents devices slots : ℕ) (before : Before) {world : World} (invocations : Invocations id devices slots world)
+keep : (id : List ℕ) (extents : ExtentLayout) (devices slots : ℕ) (before : Before) {world : World} (invocations : Invocations id devices slots world)
     → RunsKeep id extents devices slots before (runs_of id devices slots invocations) → InvocationsKeep id extents devices slots before invocations
 unfolding runs_of
 keep id extents devices slots before no_more keeps = tt

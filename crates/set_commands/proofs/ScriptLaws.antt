@@ -4,13 +4,15 @@ use Rattle.sector_model.specs.declared.refusal.Refusal.TheVariants.{BadName}
 use Rattle.superblock.specs.Cases.{Lost}
 use Rattle.volume_table.specs.Volumes.{VolumeMap}
 use Rattle.volume_table.specs.VolumeStep.{Command, Create, Event, OnVolumes, Refused, Reply, volumes_after}
-use Rattle.volume_table.specs.Stands.{IsSettledAfter, IsSettledOn, StoreView, extents_in}
+use Rattle.volume_table.specs.Stands.{IsSettledAfter, IsSettledOn, StoreView}
 use Rattle.volume_table.specs.StoreCalls.{EndsStore, GoesThrough, extents_for_store}
 use Rattle.volume_table.specs.StoreFunctions.{Chain, none_done, then_done}
 use Rattle.volume_table.proofs.StoreSteps.{refused_at_once}
 use Rattle.report.specs.Grammar.{IsBadLine}
 use Rattle.report.specs.Script.{Answers, IsDoneLine, IsRefusedLine, Serves, none_read, then_read}
 use Rattle.set_commands.specs.ScriptLaw.{AreCommandsOf, EndsSettled, IsRightReply, IsRunOf, KeepsInLine, KeepsVolumes, Runs, StandsInLine}
+use Rattle.extents.specs.declared.extent_layout.ExtentLayout.{ExtentLayout}
+use Rattle.extents.specs.SetExtents.{extents_in}
 
 -- what a line keeps, also where it ended the store
 abbrev Keeps : List ℕ → (old new : StoreView) → Reply → Option Lost → VolumeMap → Type 0
@@ -81,7 +83,7 @@ script_keeps_volumes (_ ∷ lines) (_ ∷ replies) old new (then_read mid line r
       record {
         after = later.1.after;
         lost = later.1.lost;
-        runs = (kept.0, kept.1.leaves, keeps.right, subst (λ (extents : ℕ). Runs extents lines kept.0 replies later.1.after) same later.1.runs);
+        runs = (kept.0, kept.1.leaves, keeps.right, subst (λ (extents : ExtentLayout). Runs extents lines kept.0 replies later.1.after) same later.1.runs);
         settled = later.1.settled;
       },
     )

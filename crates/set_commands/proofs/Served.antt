@@ -56,7 +56,7 @@ opens_for honest other old outcome so opens = record {
   stays = λ store is. stays_for honest other old store.array ⊥ so (opens.stays store is);
   moments = λ fair. opens.moments (so fair);
   settled = λ fair. opens.settled (so fair);
-  within = opens.within;
+  of_set = opens.of_set;
   spelled = λ fair. opens.spelled (so fair);
   cause = λ back refusal is. no_opening_for honest other old back refusal so (opens.cause back refusal is);
 }

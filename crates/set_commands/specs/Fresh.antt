@@ -1,6 +1,7 @@
 -- A set in memory that was just made, and a script over it.
 use Rattle.std.specs.Prelude.{◌≡◌, ◌⊎◌, ℕ, ◌+◌, List, [], ◌∷◌, replicate, Option, Some, None}
 use Rattle.std.specs.Io.KnownBytes.{Appends}
+use Rattle.std.proofs.Common.{arith}
 use Rattle.sector_model.specs.declared.refusal.Refusal.{Refusal}
 use Rattle.sector_model.specs.declared.refusal.Refusal.TheVariants.{Memory, NotUsable}
 use Rattle.sector_model.specs.History.{Bytes}
@@ -10,6 +11,8 @@ use Rattle.layout_map.specs.Formats.{journal_sectors}
 use Rattle.superblock.specs.Cases.{Lost}
 use Rattle.array_io.specs.Believed.Fresh.{zeros_of}
 use Rattle.array_io.specs.Believed.Views.{ArrayView, EndsIt, RestsOn}
+use Rattle.extents.specs.declared.extent_layout.ExtentLayout.{ExtentLayout}
+use Rattle.extents.specs.SetExtents.{of_64}
 use Rattle.volume_table.specs.Volumes.{VolumeMap, no_volumes}
 use Rattle.volume_table.specs.VolumeStep.{Reply}
 use Rattle.volume_table.specs.Stands.{IsSettledOn, StoreView}
@@ -22,9 +25,9 @@ use Rattle.set_commands.specs.ScriptLaw.{Runs}
 abbrev pub fresh_id : List ℕ
 fresh_id = 0 ∷ 1 ∷ 2 ∷ 3 ∷ 4 ∷ 5 ∷ 6 ∷ 7 ∷ 8 ∷ 9 ∷ 10 ∷ 11 ∷ 12 ∷ 13 ∷ 14 ∷ 15 ∷ []
 
--- a set of 3 members, chunk 8 and 32 stripes has so many extents
-abbrev pub fresh_extents : ℕ
-fresh_extents = 7
+-- the extents of a set of 3 members, chunk 8 and 32 stripes
+abbrev pub fresh_extents : ExtentLayout
+fresh_extents = of_64 7 (omega arith)
 
 -- a device of so many sectors, all zeros
 abbrev pub zero_device : ℕ → Option (List Bytes)

@@ -14,11 +14,13 @@ use Rattle.recovery.specs.Making.{BankView, IsQuietBeyond, Makes}
 use Rattle.recovery.specs.Assembling.{Assembles}
 use Rattle.volume_table.specs.Volumes.{VolumeMap}
 use Rattle.volume_table.specs.VolumeStep.{Event, Refused, Reply, left_by}
-use Rattle.volume_table.specs.Stands.{IsSettledOn, StoreView, extents_in}
+use Rattle.volume_table.specs.Stands.{IsSettledOn, StoreView}
 use Rattle.volume_table.specs.StoreCalls.{Applies, EndsStore, lost_in}
 use Rattle.volume_table.specs.Opening.{Opened, Opens, Returned}
 use Rattle.volume_table.specs.Runs.{Crashes, Fate, GoesOver, World, begun_with, case_of}
 use Rattle.volume_table.specs.Headline.{Before, IsAfterPrefix, IsAssembledUnlessWorn, IsOpenedUnlessWorn, IsRight, nothing_before, nothing_lost}
+use Rattle.extents.specs.declared.extent_layout.ExtentLayout.{ExtentLayout}
+use Rattle.extents.specs.SetExtents.{extents_in}
 
 -- ---- what a command does on a bank
 
@@ -127,7 +129,8 @@ pub data Invocations (id : List ℕ) (devices slots : ℕ) : World → Type 0 wh
       → Invocations id devices slots left → Invocations id devices slots world
 
 -- What was answered before the crash was answered rightly, from these volumes on; and with one slot lost at most no store is ended by 15.
-abbrev pub AnswersRightly : (slots extents : ℕ) → VolumeMap → {replies : List Reply} {old new : StoreView} (asks : Served replies old new) (fate : Fate)
+abbrev pub AnswersRightly : (slots : ℕ) (extents : ExtentLayout) → VolumeMap
+    → {replies : List Reply} {old new : StoreView} (asks : Served replies old new) (fate : Fate)
     (left : World) → EndsServing slots asks fate left → Type 0
 AnswersRightly slots extents volumes none_asked fate left ends = Unit {0}
 AnswersRightly slots extents volumes (then_answered mid event reply applies goes rest) fate left (here is) = Unit {0}
@@ -148,13 +151,15 @@ kept_by slots volumes asks fate left ends = record {
 
 -- A store was opened, and is settled on volumes after a prefix of the events before that has each one answered; it answered rightly; and then what comes later
 -- is kept.
-abbrev pub ServingKeeps : (slots extents : ℕ) → Before → {replies : List Reply} {old new : StoreView} (asks : Served replies old new) (fate : Fate)
+abbrev pub ServingKeeps : (slots : ℕ) (extents : ExtentLayout) → Before
+    → {replies : List Reply} {old new : StoreView} (asks : Served replies old new) (fate : Fate)
     (left : World) → EndsServing slots asks fate left → (Before → Type 0) → Type 0
 ServingKeeps slots extents before {old = old} asks fate left ends Later =
     (volumes : VolumeMap) × IsAfterPrefix extents before volumes × IsSettledOn old fate.lost volumes × AnswersRightly slots extents volumes asks fate left ends
     × Later (kept_by slots volumes asks fate left ends)
 
-abbrev pub BankKeeps : (slots extents : ℕ) → Before → {id : List ℕ} {bank : BankView} {replies : List Reply} (done : DoneOn id bank replies) (fate : Fate)
+abbrev pub BankKeeps : (slots : ℕ) (extents : ExtentLayout) → Before
+    → {id : List ℕ} {bank : BankView} {replies : List Reply} (done : DoneOn id bank replies) (fate : Fate)
     (left : World) → EndsOn slots done fate left → (Before → Type 0) → Type 0
 BankKeeps slots extents before (only_read after reads) fate left ends Later = Later before
 BankKeeps slots extents before {id = id} {bank = bank} (not_assembled after refusal assembles) fate left ends Later =
@@ -168,7 +173,7 @@ BankKeeps slots extents before (served array first last assembles opens asks) fa
     ServingKeeps slots extents before asks then left ends Later
 
 -- Invocations keep the promise.
-abbrev pub InvocationsKeep : (id : List ℕ) (extents devices slots : ℕ) → Before → {world : World} → Invocations id devices slots world → Type 0
+abbrev pub InvocationsKeep : (id : List ℕ) (extents : ExtentLayout) (devices slots : ℕ) → Before → {world : World} → Invocations id devices slots world → Type 0
 InvocationsKeep id extents devices slots before no_more = Unit {0}
 InvocationsKeep id extents devices slots before (next_bank begun left panel replies begins same of_bank done ends rest) =
     BankKeeps slots extents before done begun.fate left ends (λ then. InvocationsKeep id extents devices slots then rest)

@@ -2,6 +2,7 @@
 use Rattle.std.specs.Prelude.{◌≡◌, ◌⊎◌, ℕ, ◌≤◌, List, [], ◌∷◌, length, Option}
 use Rattle.sector_model.specs.declared.refusal.Refusal.TheVariants.{BadLine}
 use Rattle.superblock.specs.Cases.{IsLostAfter, Lost}
+use Rattle.extents.specs.declared.extent_layout.ExtentLayout.{ExtentLayout}
 use Rattle.volume_table.specs.Volumes.{VolumeMap}
 use Rattle.volume_table.specs.VolumeStep.{Command, Event, OnVolumes, Refused, Reply, reply_to, volumes_after}
 use Rattle.volume_table.specs.Stands.{IsSettledAfter, IsSettledOn, StandsThroughout, StoreView}
@@ -12,18 +13,18 @@ use Rattle.report.specs.Script.{Answers, Serves, none_read, then_read}
 use Rattle.report.specs.declared.lines.TheConstants.{LONGEST_LINE}
 
 -- the volumes that a line leaves: those that its command leaves, or the same where it says none
-abbrev pub Leaves : (extents : ℕ) (line : List ℕ) (old new : VolumeMap) → Type 0
+abbrev pub Leaves : (extents : ExtentLayout) (line : List ℕ) (old new : VolumeMap) → Type 0
 Leaves extents line old new = ((command : Command) × (length line ≤ LONGEST_LINE) × Says line command × (new ≡ volumes_after extents command old))
     ⊎ (IsBadLine line × (new ≡ old))
 
 -- the volume machine answers a line so, but that there may be no memory for a list
-abbrev pub IsRightReply : (extents : ℕ) (line : List ℕ) → VolumeMap → Reply → Type 0
+abbrev pub IsRightReply : (extents : ExtentLayout) (line : List ℕ) → VolumeMap → Reply → Type 0
 IsRightReply extents line volumes reply = ((command : Command) × (length line ≤ LONGEST_LINE) × Says line command
     × ((reply ≡ reply_to extents command volumes) ⊎ LacksMemory command reply))
     ⊎ (IsBadLine line × (reply ≡ Refused BadLine))
 
 -- These lines are answered by the volume machine one after another, and leave these volumes.
-abbrev pub Runs : (extents : ℕ) → List (List ℕ) → VolumeMap → List Reply → VolumeMap → Type 0
+abbrev pub Runs : (extents : ExtentLayout) → List (List ℕ) → VolumeMap → List Reply → VolumeMap → Type 0
 Runs extents [] old [] new = new ≡ old
 Runs extents (line ∷ lines) old (reply ∷ replies) new = (mid : VolumeMap) × Leaves extents line old mid × IsRightReply extents line old reply
     × Runs extents lines mid replies new

@@ -1,10 +1,11 @@
 //! Logical lists that were spelled out by hand, and the volumes in them.
 use crate::testing::{all, front, same};
+use extents::ExtentLayout;
 use sector_model::Sector;
 use std::process::Abort;
 use volume_table::oracle::{block_shown, blocks_in_volume, table_shown};
 
-// The logical sectors of a set with two extents, which are sectors 64 to 127 and 128 to 191.
+// The logical sectors of a set with two extents of 64 blocks, which are sectors 64 to 127 and 128 to 191.
 type Logical = [Sector; 192];
 
 // The record of the volume `a` of 65 blocks.
@@ -14,6 +15,24 @@ const RECORD: &[u8] =
 
 // Extent 0 is at place 1 of the volume of record 0, and extent 1 at place 0.
 const ENTRIES: &[u8] = b"\x01\x00\x01\x00\x01\x00\x00\x00";
+
+// So many extents of 64 blocks each, from sector 64 on.
+fn of_64(count: u8) -> ExtentLayout {
+    ExtentLayout {
+        first: 64,
+        blocks: 64,
+        count: u32::from(count),
+    }
+}
+
+// The extents of a set in which they are smaller: 8 of 16 blocks each, from sector 64 on.
+fn eight_of_16() -> ExtentLayout {
+    ExtentLayout {
+        first: 64,
+        blocks: 16,
+        count: 8,
+    }
+}
 
 // No volume: each sector of an extent has its own number in each byte, and all others are zero.
 fn no_volume() -> Logical {
@@ -38,14 +57,11 @@ type Block<'a> = (&'a [u8], u32, Option<u8>);
 // Checks that a list shows a table, with `a` of so many blocks, and these blocks.
 fn check_list(rt: &impl Abort, logical: &[Sector], count: Option<u32>, blocks: &[Block]) {
     let got = (
-        table_shown(logical, 2).is_some(),
-        blocks_in_volume(logical, 2, b"a"),
+        table_shown(logical, &of_64(2)).is_some(),
+        blocks_in_volume(logical, &of_64(2), b"a"),
     );
     same(rt, got, (true, count));
-    for (name, at, number) in blocks {
-        let is_so = block_shown(logical, 2, name, *at) == number.map(all);
-        same(rt, (*name, *at, is_so), (*name, *at, true));
-    }
+    check_blocks(rt, logical, &of_64(2), blocks);
 }
 
 #[test]
@@ -65,7 +81,7 @@ const BLOCKS: &[Block] = &[
 fn list_with_one_volume(rt: HostRuntime) {
     let logical = one_volume();
     check_list(&rt, &logical, Some(65), BLOCKS);
-    same(&rt, blocks_in_volume(&logical, 2, b"b"), None);
+    same(&rt, blocks_in_volume(&logical, &of_64(2), b"b"), None);
 }
 
 // Ten sectors are too few, the set has one extent alone, or the volume does not have a place of an extent.
@@ -75,14 +91,40 @@ fn lists_without_table(rt: HostRuntime) {
     let mut damaged = one_volume();
     damaged[3][2] = 2;
     let is_shown = [
-        table_shown(&logical[..11], 2).is_some(),
-        table_shown(&logical[..10], 2).is_some(),
-        table_shown(&logical, 1).is_some(),
-        table_shown(&damaged, 2).is_some(),
-        block_shown(&damaged, 2, b"a", 0).is_some(),
-        blocks_in_volume(&damaged, 2, b"a").is_some(),
+        table_shown(&logical[..11], &of_64(2)).is_some(),
+        table_shown(&logical[..10], &of_64(2)).is_some(),
+        table_shown(&logical, &of_64(1)).is_some(),
+        table_shown(&damaged, &of_64(2)).is_some(),
+        block_shown(&damaged, &of_64(2), b"a", 0).is_some(),
+        blocks_in_volume(&damaged, &of_64(2), b"a").is_some(),
     ];
     same(&rt, is_shown, [true, false, false, false, false, false]);
+}
+
+// Checks the blocks that a list of a set with these extents shows.
+fn check_blocks(rt: &impl Abort, logical: &[Sector], extents: &ExtentLayout, blocks: &[Block]) {
+    for (name, at, number) in blocks {
+        let is_so = block_shown(logical, extents, name, *at) == number.map(all);
+        same(rt, (*name, *at, is_so), (*name, *at, true));
+    }
+}
+
+const BLOCKS_IN_16: &[Block] = &[
+    (b"a", 0, Some(80)),
+    (b"a", 15, Some(95)),
+    (b"a", 16, Some(64)),
+    (b"a", 17, None),
+];
+
+// The volume `a` of 17 blocks has extent 1 before extent 0 where each has 16 blocks. It takes one extent of 64.
+#[test]
+fn list_of_smaller_extents(rt: HostRuntime) {
+    let mut logical = one_volume();
+    logical[1][28] = 17;
+    let extents = eight_of_16();
+    same(&rt, blocks_in_volume(&logical, &extents, b"a"), Some(17));
+    check_blocks(&rt, &logical, &extents, BLOCKS_IN_16);
+    same(&rt, shows_table(&logical, 192, 2), false);
 }
 
 // The record of the volume `a` of 65 blocks in version 2: 63 bytes for the name, and the number of blocks after them.
@@ -105,7 +147,7 @@ fn one_volume_of_version_2() -> Logical {
 fn list_of_version_2(rt: HostRuntime) {
     let logical = one_volume_of_version_2();
     check_list(&rt, &logical, Some(65), BLOCKS);
-    same(&rt, blocks_in_volume(&logical, 2, b"b"), None);
+    same(&rt, blocks_in_volume(&logical, &of_64(2), b"b"), None);
 }
 
 // Twenty-four sectors are too few, and the set has one extent alone; the records and extents are those of version 1
@@ -130,10 +172,10 @@ fn lists_without_table_of_version_2(rt: HostRuntime) {
     same(&rt, is_shown, [true, false, false, false, false, false]);
 }
 
-// Whether so many sectors of a list show a table of a set with so many extents.
-fn shows_table(logical: &[Sector], sectors: usize, extents: u32) -> bool {
+// Whether so many sectors of a list show a table of a set with so many extents of 64 blocks.
+fn shows_table(logical: &[Sector], sectors: usize, extents: u8) -> bool {
     let sectors = sectors.min(logical.len());
-    table_shown(&logical[..sectors], extents).is_some()
+    table_shown(&logical[..sectors], &of_64(extents)).is_some()
 }
 
 // The volume in a table of version 1, with other bytes in the reserved sectors after that.

@@ -4,7 +4,7 @@
 use crate::testing::{all, front, same};
 use array_io::Array;
 use array_io::oracle::logical_in;
-use extents::Owned;
+use extents::{ExtentLayout, Owned};
 use layout_map::Geometry;
 use rebuild::Progress;
 use recovery::{assemble, make};
@@ -368,8 +368,11 @@ pub(crate) fn unlike(
     None
 }
 
-/// The logical list of the set on a bank, by its table and its last entry, and how many extents it has.
-pub(crate) fn logical_list(rt: &(impl Abort + AllocGlobal), bank: &MemBank) -> (Vec<Sector>, u32) {
+/// The logical list of the set on a bank, by its table and its last entry, and where its extents lie.
+pub(crate) fn logical_list(
+    rt: &(impl Abort + AllocGlobal),
+    bank: &MemBank,
+) -> (Vec<Sector>, ExtentLayout) {
     let image = image_now(rt, bank);
     let table = chosen_table_in(&image, &ID).expect(rt, "a table is chosen");
     let mut sectors = Vec::new(rt.alloc());
@@ -378,11 +381,11 @@ pub(crate) fn logical_list(rt: &(impl Abort + AllocGlobal), bank: &MemBank) -> (
         logical_in(&image, &table, logical, &mut sector);
         sectors.push(sector).expect(rt, "memory");
     }
-    (sectors, table.geometry.extents())
+    (sectors, ExtentLayout::of(&table.geometry))
 }
 
 // How many volumes a logical list shows.
-fn count_shown(rt: &impl Abort, sectors: &[Sector], extents: u32) -> usize {
+fn count_shown(rt: &impl Abort, sectors: &[Sector], extents: &ExtentLayout) -> usize {
     let table = table_shown(sectors, extents).expect(rt, "a table is shown");
     let mut count = 0usize;
     for record in &table.records {
@@ -394,7 +397,12 @@ fn count_shown(rt: &impl Abort, sectors: &[Sector], extents: u32) -> usize {
 }
 
 // The first block of a volume that a logical list does not show as full of its byte.
-fn unlike_shown(sectors: &[Sector], extents: u32, name: &[u8], bytes: &[u8]) -> Option<u32> {
+fn unlike_shown(
+    sectors: &[Sector],
+    extents: &ExtentLayout,
+    name: &[u8],
+    bytes: &[u8],
+) -> Option<u32> {
     let mut at = 0u32;
     for byte in bytes {
         if block_shown(sectors, extents, name, at) != Some(all(*byte)) {
@@ -407,12 +415,12 @@ fn unlike_shown(sectors: &[Sector], extents: u32, name: &[u8], bytes: &[u8]) -> 
 
 fn check_shown(rt: &(impl Abort + AllocGlobal), bank: &MemBank, number: usize, volumes: Volumes) {
     let (sectors, extents) = logical_list(rt, bank);
-    let count = count_shown(rt, &sectors, extents);
+    let count = count_shown(rt, &sectors, &extents);
     same(rt, (number, count), (number, volumes.len()));
     for (name, bytes) in volumes {
-        let blocks = blocks_in_volume(&sectors, extents, name).expect(rt, "a volume is shown");
+        let blocks = blocks_in_volume(&sectors, &extents, name).expect(rt, "a volume is shown");
         same(rt, (number, blocks as usize), (number, bytes.len()));
-        let unlike = unlike_shown(&sectors, extents, name, bytes);
+        let unlike = unlike_shown(&sectors, &extents, name, bytes);
         same(rt, (number, unlike), (number, None));
     }
 }

@@ -35,8 +35,9 @@ same_record a b name blocks = λ i. record {
 IsExtentLayout-prop : (first blocks count : ℕ) → IsProp (IsExtentLayout first blocks count)
 IsExtentLayout-prop first blocks count = hlevel props
 
-pub same_layout : (a b : ExtentLayout) → a.first ≡ b.first → a.blocks ≡ b.blocks → a.count ≡ b.count → a ≡ b
-same_layout a b first blocks count = λ i. record {
+pub same_layout : (a b : ExtentLayout) → a.format ≡ b.format → a.first ≡ b.first → a.blocks ≡ b.blocks → a.count ≡ b.count → a ≡ b
+same_layout a b format first blocks count = λ i. record {
+  format = format i;
   first = first i;
   blocks = blocks i;
   count = count i;

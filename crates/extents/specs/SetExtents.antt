@@ -1,5 +1,5 @@
 -- Where the extents of a set lie, and which tables of volumes may be a set's.
-use Rattle.std.specs.Prelude.{ℕ, ◌+◌, ◌-◌, ◌*◌, ◌/◌, ◌≤◌}
+use Rattle.std.specs.Prelude.{◌≡◌, ℕ, ◌+◌, ◌-◌, ◌*◌, ◌/◌, ◌≤◌, true}
 use Rattle.std.proofs.Common.{arith}
 use Rattle.std.proofs.lemmas.Nat.{div-add-mod', mod_below, mul-le}
 use Rattle.layout_map.specs.declared.format.Format.{Format}
@@ -12,6 +12,7 @@ use Rattle.extents.specs.declared.extent_layout.ExtentLayout.{ExtentLayout}
 use Rattle.extents.specs.declared.volume_table.VolumeTable.{VolumeTable}
 use Rattle.extents.specs.Checks.{AreFreeFrom}
 use Rattle.extents.specs.Layouts.{IsExtentLayout}
+use Rattle.extents.specs.Versions.{is_version_of}
 use Rattle.extents.specs.VolumeTables.{HaveTheirPlaces}
 
 -- the least multiple of a size from a number on is not below it
@@ -44,6 +45,7 @@ lie_in_set geometry =
 -- the extents of a set of this geometry
 unfoldable pub extents_in : Geometry → ExtentLayout
 extents_in geometry = record {
+  format = geometry.format;
   first = first_extent geometry.format geometry.members geometry.chunk;
   blocks = extent_blocks geometry.format geometry.members geometry.chunk geometry.stripes;
   count = extents_of geometry.format geometry.members geometry.chunk geometry.stripes;
@@ -53,13 +55,15 @@ extents_in geometry = record {
 -- so many extents of 64 blocks each, from sector 64 on: those of a set of format 1
 abbrev pub of_64 : (count : ℕ) → count ≤ MOST_EXTENTS → ExtentLayout
 of_64 count most = record {
+  format = One;
   first = RESERVED_SECTORS;
   blocks = EXTENT_SECTORS;
   count = count;
   limits = record { above = omega arith; some = omega arith; most = most; fits = omega arith };
 }
 
--- A table of a set whose extents lie so: each record has exactly the extents that its blocks take, and no extent is used that the set doesn't have.
+-- A table of a set whose extents lie so: its version is one of the set's format, each record has exactly the extents that its blocks take, and no extent is used that the set doesn't have.
 pub record IsOfSet (extents : ExtentLayout) (table : VolumeTable) : Type 0 where
+  pub version : is_version_of extents.format table.version ≡ true
   pub free_beyond : AreFreeFrom table.extents extents.count
   pub placed : ∥ HaveTheirPlaces extents.blocks table.records table.extents ∥₁

@@ -1,11 +1,18 @@
 -- What the version of a table of volumes decides. A set that was just made has version 1; version 2 has more volumes, with longer names.
-use Rattle.std.specs.Prelude.{ℕ, ◌+◌, ◌==◌, ◌≤◌, if◌then◌else◌}
+use Rattle.std.specs.Prelude.{ℕ, ◌+◌, ◌==◌, ◌≤◌, Bool, true, false, if◌then◌else◌}
+use Rattle.layout_map.specs.declared.format.Format.{Format}
+use Rattle.layout_map.specs.declared.format.Format.TheVariants.{One, Two}
 use Rattle.extents.specs.declared.record.TheConstants.{MOST_BLOCKS}
 use Rattle.extents.specs.declared.version.TheConstants.{FIRST_VERSION, LAST_VERSION}
 
 -- the versions that there are
 abbrev pub IsVersion : ℕ → Type 0
 IsVersion version = (FIRST_VERSION ≤ version) × (version ≤ LAST_VERSION)
+
+-- which of them a table of a set of this format may have: in format 1 both, in format 2 none
+abbrev pub is_version_of : Format → (version : ℕ) → Bool
+is_version_of One version = true
+is_version_of Two version = false
 
 -- what is the one in version 1, and the other in version 2
 abbrev pub by_version : (version first second : ℕ) → ℕ

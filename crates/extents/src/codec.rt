@@ -13,7 +13,8 @@ use crate::extent_map::MAX_EXTENTS;
 use crate::owner_codec::{read_owner, write_owners};
 use crate::record_codec::{read_record, write_records};
 use crate::version::{
-    most_volumes, record_sectors, record_width, records_a_sector, table_length, version_of,
+    is_version_of, most_volumes, record_sectors, record_width, records_a_sector, table_length,
+    version_of,
 };
 use crate::volume_table::{MOST_VOLUMES, TABLE_SECTORS};
 use crate::{ExtentLayout, Owned, Record, VolumeTable};
@@ -119,7 +120,7 @@ impl VolumeTable {
     /// The table that the sectors begin with, of a set whose extents lie so. Sectors after those of its version are not
     /// looked at.
     ///
-    /// None where they spell no table: where sector 0 is not a version and zeros, a record has no good name, one that
+    /// None where they spell no table: where sector 0 is not a version of the set's format and zeros, a record has no good name, one that
     /// is too long for the version, 0 blocks or more than 65,536, or a byte other than 0 outside its fields, two names
     /// are equal, an extent in use names no used record, the places of a record are not exactly those that its blocks
     /// take, each once, or an extent that the set does not have is in use.
@@ -129,6 +130,9 @@ impl VolumeTable {
         ensures exact { (t : VolumeTable) → Spell from.now t → IsOfSet extents.now t → result ≡ Some t }
     {
         let version = read_version(from)?;
+        if !is_version_of(extents.format, version) {
+            return None;
+        }
         let records = read_records(version, from)?;
         let owners = read_extents(version, from)?;
         if !are_free_from(&owners, extents.count)

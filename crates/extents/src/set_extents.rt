@@ -12,6 +12,7 @@ impl ExtentLayout {
         ensures { result ≡ extents_in geometry.now }
     {
         ExtentLayout {
+            format: geometry.format,
             first: geometry.first_extent(),
             blocks: geometry.extent_blocks(),
             count: geometry.extents(),

@@ -3,6 +3,7 @@
 ghost use Rattle.std.specs.Prelude.{◌≡◌, ◌≤◌};
 
 use crate::ExtentLayout;
+use layout_map::Format;
 use std::fmt::Debug;
 use std::process::Abort;
 
@@ -18,6 +19,7 @@ pub(crate) fn extents_of_64(count: u32) -> ExtentLayout
     ensures { result.count ≡ count }
 {
     ExtentLayout {
+        format: Format::One,
         first: 64,
         blocks: 64,
         count,

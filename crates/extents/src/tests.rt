@@ -1,7 +1,7 @@
 //! The sectors of tables byte by byte, and sectors that are no table's.
 use super::*;
 use crate::testing::{extents_of_64, same};
-use layout_map::Geometry;
+use layout_map::{Format, Geometry};
 use sector_model::{Refusal, Sector};
 use std::process::Abort;
 

@@ -1,9 +1,10 @@
 //! What the version of a table of volumes decides: docs/FORMATS.md, "Volume table".
 ghost use Rattle.std.specs.Prelude.{◌≡◌, ◌↔◌, ◌≤◌, ℕ, IfSome, IsTrue, Some, drop};
-ghost use Rattle.extents.specs.Versions.{IsVersion, most_volumes, most_name_bytes, most_blocks};
+ghost use Rattle.extents.specs.Versions.{is_version_of, IsVersion, most_volumes, most_name_bytes, most_blocks};
 ghost use Rattle.extents.specs.Versions.{record_width, records_a_sector, record_sectors, blocks_at, table_length};
 ghost use Rattle.extents.specs.TableSpelling.{zeros, first_sector};
 
+use layout_map::Format;
 use sector_model::Sector;
 
 /// The version of the table of a set that was just made.
@@ -11,6 +12,18 @@ pub const FIRST_VERSION: u8 = 1;
 
 /// The greatest version.
 pub const LAST_VERSION: u8 = 2;
+
+/// Whether a table of a set of this format may have this version: in format 1 each, and in format 2 none, since that
+/// has tables of another version, which none of these is.
+pub(crate) fn is_version_of(format: Format, version: u8) -> bool
+    ensures { result ≡ is_version_of format version }
+{
+    let _ = version;
+    match format {
+        Format::One => true,
+        Format::Two => false,
+    }
+}
 
 /// The most volumes in a table of this version: 32 in version 1, and 64 in version 2.
 pub fn most_volumes(version: u8) -> usize

@@ -4,7 +4,6 @@ use Rattle.sector_model.specs.declared.refusal.Refusal.{Refusal}
 use Rattle.sector_model.specs.Bank.{IsLater}
 use Rattle.sector_model.specs.History.{Bytes}
 use Rattle.sector_model.specs.Readable.{readable}
-use Rattle.layout_map.specs.declared.format.Format.TheVariants.{One}
 use Rattle.superblock.specs.declared.table.Table.{Table}
 use Rattle.superblock.specs.Cases.{Lost}
 use Rattle.superblock.specs.Counted.{IsChosen}
@@ -50,7 +49,6 @@ pub record IsOpening (Reaches : Reached) (honest : Type 0) (id : List ℕ) (old 
   pub later : IsLater old.panel array.panel
   pub of_id : array.table.id ≡ id
   pub its_slots : HasItsSlots array.table array.panel
-  pub of_format_one : array.table.geometry.format ≡ One
   pub moments : honest → (base : Table) (lost : Option Lost) (X : List (List Bytes)) → base.id ≡ id → MayAssemble base lost X old
       → HoldsThroughout base old.panel.devices lost X old.history array.history
   pub rests : honest → (base : Table) (lost : Option Lost) (X : List (List Bytes)) → base.id ≡ id → MayAssemble base lost X old
@@ -67,7 +65,6 @@ opening Reaches honest id old array is = record {
   later = is.later;
   of_id = λ other same. of_opened (λ a. a.table.id ≡ id) array other same is.of_id;
   its_slots = λ other same. of_opened (λ a. HasItsSlots a.table a.panel) array other same is.its_slots;
-  of_format_one = λ other same. of_opened (λ a. a.table.geometry.format ≡ One) array other same is.of_format_one;
   moments = is.moments;
   rests = λ is_honest base lost X same_id may other same. of_opened (λ a. IsSingleFailure (slots_of base) lost a.history → Reaches base lost X a) array other
       same
@@ -96,7 +93,6 @@ returning Reaches honest id old bank refusal is = record {
   later = is.later;
   of_id = λ array same. absurd (not_opened array bank refusal same);
   its_slots = λ array same. absurd (not_opened array bank refusal same);
-  of_format_one = λ array same. absurd (not_opened array bank refusal same);
   moments = is.moments;
   rests = λ is_honest base lost X same_id may array same. absurd (not_opened array bank refusal same);
   states = λ is_honest base lost X same_id may array same. absurd (not_opened array bank refusal same);

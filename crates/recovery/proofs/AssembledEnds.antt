@@ -11,7 +11,6 @@ use Rattle.sector_model.specs.Readable.{readable}
 use Rattle.sector_model.proofs.Panels.{later_both, later_same}
 use Rattle.sector_model.proofs.Readable.{readable_left}
 use Rattle.sector_model.proofs.Steps.{throughout_last, throughout_more, throughout_on}
-use Rattle.layout_map.specs.declared.format.Format.TheVariants.{One}
 use Rattle.superblock.specs.declared.state.State.TheVariants.{Missing}
 use Rattle.superblock.specs.declared.table.Table.{Table}
 use Rattle.superblock.specs.Tables.{state_at}
@@ -91,8 +90,7 @@ abbrev AreThere : (honest : Type 0) → BankView → Table → Type 0
 AreThere honest bank table = (slot : ℕ) → slot < slots_of table → state_at table.states slot ≢ Missing → IsThere honest bank table slot
 
 -- each is long enough
-pub its_slots : (honest : Type 0) (mid : BankView) (table : Table) (panel : Panel) → slots_of table ≤ mid.panel.devices
-    → IsLater mid.panel panel
+pub its_slots : (honest : Type 0) (mid : BankView) (table : Table) (panel : Panel) → slots_of table ≤ mid.panel.devices → IsLater mid.panel panel
     → ((slot : ℕ) → slot < slots_of table → state_at table.states slot ≢ Missing → IsThere honest mid table slot) → HasItsSlots table panel
 its_slots honest mid table panel room later there = record {
   of_bank = omega (arith, room, later.devices);
@@ -147,7 +145,7 @@ module _ (spellings : Spellings) (honest asked : Type 0) (still : honest → ask
   stays is_honest = (throughout_last new (brings.brings.moments (still is_honest))).stays_down
 
   one_out : (outcome : Outcome) → (honest → StaysDown mid.history (bank_after outcome).history) → RefusesUnwritten honest id old outcome
-  one_out outcome = one_is_out spellings honest id old mid.history table outcome has.of_format_one has.reads has.chosen
+  one_out outcome = one_is_out spellings honest id old mid.history table outcome has.reads has.chosen
       (λ is_honest. one_out_there devices table mid.history (all_there is_honest))
 
   -- all superblocks are up to date
@@ -156,7 +154,6 @@ module _ (spellings : Spellings) (honest asked : Type 0) (still : honest → ask
     later = later;
     of_id = has.of_id;
     its_slots = its_slots asked mid table panel room brings.brings.later are_there;
-    of_format_one = has.of_format_one;
     moments = moments;
     rests = λ is_honest base lost X same_id may single_failure.
         let is_from = from is_honest base lost X same_id may in

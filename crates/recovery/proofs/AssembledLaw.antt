@@ -7,9 +7,8 @@ use Rattle.sector_model.specs.History.{Bytes, History, calls_of}
 use Rattle.sector_model.specs.Readable.{NothingPending, readable}
 use Rattle.sector_model.specs.Reads.{HasRead}
 use Rattle.sector_model.proofs.Steps.{throughout_more}
-use Rattle.layout_map.specs.declared.format.Format.TheVariants.{One}
 use Rattle.superblock.specs.declared.table.Table.{Table}
-use Rattle.superblock.specs.Cases.{Lost}
+use Rattle.superblock.specs.Cases.{HasNone, Lost}
 use Rattle.superblock.specs.Counted.{IsChosen}
 use Rattle.superblock.specs.NextTables.{slots_of}
 use Rattle.array_io.specs.Believed.Moments.{HoldsNow, HoldsThroughout}
@@ -17,7 +16,7 @@ use Rattle.array_io.specs.Believed.Views.{view_of}
 use Rattle.array_io.proofs.Marks.MarkingMoments.{calls_grow, cut_whole}
 use Rattle.array_io.proofs.Images.Spellings.{Spellings}
 use Rattle.recovery.specs.Assembling.{MayAssemble}
-use Rattle.recovery.specs.Making.{BankView, HasNoSet, Returned}
+use Rattle.recovery.specs.Making.{BankView, Returned}
 use Rattle.recovery.specs.PuttingInOrder.{IsInOrder, IsInOrderBy, PutsInOrder}
 use Rattle.recovery.specs.Surveying.{IsOutOf, Surveys}
 use Rattle.recovery.specs.declared.survey.Out.TheVariants as out
@@ -28,11 +27,10 @@ use Rattle.recovery.proofs.AssembledReads.{read_holds, read_throughout}
 use Rattle.recovery.proofs.AssembledTable.{IsSurveyed}
 use Rattle.recovery.proofs.AssembledUnwritten.{none_unwritten, two_unwritten, worn_first}
 
--- A survey told this table, which is of format 1.
+-- A survey told this table.
 pub record HasSurveyed (honest : Type 0) (id : List ℕ) (old mid : BankView) (table : Table) : Type 0 where
   pub later : IsLater old.panel mid.panel
   pub of_id : table.id ≡ id
-  pub of_format_one : table.geometry.format ≡ One
   pub has_slots : slots_of table ≤ old.panel.devices
   pub reads : honest → HasRead old.history mid.history
   pub chosen : honest → IsChosen id old.panel.devices (readable mid.history) table
@@ -43,7 +41,6 @@ pub has_surveyed : (honest : Type 0) (id : List ℕ) (old mid : BankView) (answe
 has_surveyed honest id old mid answer survey surveys is = record {
   later = surveys.later;
   of_id = surveys.of_id survey is;
-  of_format_one = surveys.of_format_one survey is;
   has_slots = omega (arith, surveys.has_slots survey is, surveys.later.devices);
   reads = surveys.reads;
   chosen = λ is_honest. subst (λ (n : ℕ). IsChosen id n (readable mid.history) survey.table) surveys.later.devices (surveys.told is_honest survey is).chosen;
@@ -98,7 +95,7 @@ assembled_worn spellings honest id old mid answer refusal surveys is =
       unwritten = worn_first honest id old mid why.1 surveys.reads;
     })
 
--- there is no set to serve
+-- no superblock counts
 pub assembled_none : Spellings → (honest : Type 0) (id : List ℕ) (old mid : BankView) (answer : Result (Option Survey) Refusal)
     → Surveys honest id old mid answer
     → answer ≡ Ok None → PutsInOrder honest id old (Returned mid NoSet)
@@ -109,8 +106,8 @@ assembled_none spellings honest id old mid answer surveys is =
           reads_hold spellings base old.panel.devices lost X old.history mid.history (surveys.reads is_honest) may.nothing_pending may.holds;
       refused = tt;
       cause = λ is_honest. (surveys.none is_honest is, surveys.reads is_honest);
-      unwritten = none_unwritten spellings honest id old mid surveys.reads (λ is_honest.
-          subst (λ (n : ℕ). HasNoSet id n (readable mid.history)) surveys.later.devices (surveys.none is_honest is));
+      unwritten = none_unwritten honest id old mid surveys.reads (λ is_honest.
+          subst (λ (n : ℕ). (slot : ℕ) → HasNone id n slot (readable mid.history slot)) surveys.later.devices (surveys.none is_honest is));
     }
 
 -- two slots are not in full
@@ -135,5 +132,5 @@ assembled_two spellings honest told still id old mid table first second has (apa
         second_out = inr (second_out.out (still is_honest));
         unwritten = λ out out'. has.reads is_honest;
       };
-      unwritten = two_unwritten spellings honest id old mid table has.of_format_one has.reads has.chosen;
+      unwritten = two_unwritten spellings honest id old mid table has.reads has.chosen;
     }

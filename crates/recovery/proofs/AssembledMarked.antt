@@ -132,7 +132,7 @@ module _ (spellings : Spellings) (honest marking : Type 0) (still : honest → m
       out_beside other of_set out apart = record { other = other; apart = apart; out = record { of_set = of_set; out = not_in_sync other of_set out apart } }
 
   unwritten_then : (outcome : Outcome) → (honest → StaysDown mid.history (bank_after outcome).history) → RefusesUnwritten honest id old outcome
-  unwritten_then outcome = one_is_out spellings honest id old mid.history table outcome m.surveyed.of_format_one m.surveyed.reads m.surveyed.chosen one_out
+  unwritten_then outcome = one_is_out spellings honest id old mid.history table outcome m.surveyed.reads m.surveyed.chosen one_out
 
   unwritten_left : (refusal : Refusal) → RefusesUnwritten honest id old (given_back before.panel before.history refusal)
   unwritten_left refusal = unwritten_then (given_back before.panel before.history refusal) (λ is_honest. (m.leads is_honest).stays_down)
@@ -366,7 +366,6 @@ module _ (spellings : Spellings) (honest marking : Type 0) (still : honest → m
         later = later_new;
         of_id = is.marked.same_id ∙ m.surveyed.of_id;
         its_slots = others_stay before.panel new_panel table new_table slot m.of_set is.marked is.publishes.later m.others;
-        of_format_one = ap (λ (g : Geometry). g.format) is.marked.same_geometry ∙ m.surveyed.of_format_one;
         moments = moments_marked;
         rests = rests;
         states = states;

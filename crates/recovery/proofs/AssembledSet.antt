@@ -12,7 +12,6 @@ use Rattle.sector_model.proofs.Panels.{later_both}
 use Rattle.sector_model.proofs.Steps.{throughout_last, throughout_on}
 use Rattle.superblock.specs.declared.state.State.{State}
 use Rattle.superblock.specs.declared.state.State.TheVariants.{InSync, Missing, Rebuilding}
-use Rattle.layout_map.specs.declared.format.Format.TheVariants.{One}
 use Rattle.superblock.specs.declared.table.Table.{Table}
 use Rattle.superblock.specs.Tables.{state_at}
 use Rattle.superblock.specs.Cases.{HasNone, Lost}
@@ -277,8 +276,6 @@ module _ (spellings : Spellings) (honest still : Type 0) (more : honest → stil
       later = later_both old.panel panel1 panel2 first.assembles.later settles.goes_on.later;
       of_id = λ array same. of_opened (λ a. a.table.id ≡ id) Now array same (settles.goes_on.not_older.same_id ∙ its_id);
       its_slots = λ array same. of_opened (λ a. HasItsSlots a.table a.panel) Now array same (settles.goes_on.its_slots (first.assembles.its_slots Mid refl));
-      of_format_one = λ array same. of_opened (λ a. a.table.geometry.format ≡ One) Now array same
-          (ap (λ (g : Geometry). g.format) settles.goes_on.not_older.same_geometry ∙ first.assembles.of_format_one Mid refl);
       moments = λ fair base lost X same_id may_assemble. moments fair base lost X same_id may_assemble;
       rests = λ fair base lost X same_id may_assemble array same. of_opened (λ a. IsSingleFailure (slots_of base) lost a.history → OpensOnOne base lost X a) Now
           array same
@@ -376,7 +373,6 @@ module _ (spellings : Spellings) (honest still : Type 0) (more : honest → stil
     later = later_both old.panel panel1 panel2 first.assembles.later settles.goes_on.later;
     of_id = λ array same. absurd (not_opened array (bank_view panel2 h2) refusal same);
     its_slots = λ array same. absurd (not_opened array (bank_view panel2 h2) refusal same);
-    of_format_one = λ array same. absurd (not_opened array (bank_view panel2 h2) refusal same);
     moments = λ fair base lost X same_id may_assemble. moments fair base lost X same_id may_assemble;
     rests = λ fair base lost X same_id may_assemble array same. absurd (not_opened array (bank_view panel2 h2) refusal same);
     states = λ fair base lost X same_id may_assemble array same. absurd (not_opened array (bank_view panel2 h2) refusal same);
@@ -394,7 +390,6 @@ unordered_set honest id old panel h refusal first = record {
   later = first.assembles.later;
   of_id = λ array same. absurd (not_opened array (bank_view panel h) refusal same);
   its_slots = λ array same. absurd (not_opened array (bank_view panel h) refusal same);
-  of_format_one = λ array same. absurd (not_opened array (bank_view panel h) refusal same);
   moments = first.assembles.moments;
   rests = λ fair base lost X same_id may_assemble array same. absurd (not_opened array (bank_view panel h) refusal same);
   states = λ fair base lost X same_id may_assemble array same. absurd (not_opened array (bank_view panel h) refusal same);

@@ -8,16 +8,15 @@ use Rattle.sector_model.specs.History.{History, Slots, disk_of, is_down, sector_
 use Rattle.sector_model.specs.Readable.{readable}
 use Rattle.sector_model.specs.Reads.{HasRead}
 use Rattle.sector_model.proofs.Readable.{readable_down}
-use Rattle.layout_map.specs.declared.format.Format.TheVariants.{One, Two}
 use Rattle.layout_map.specs.declared.sizes.TheConstants.{SUPERBLOCK_PLACES}
 use Rattle.superblock.specs.declared.table.Superblock.{Superblock}
 use Rattle.superblock.specs.declared.table.Table.{Table}
 use Rattle.superblock.specs.Cases.{HasNone}
-use Rattle.superblock.specs.Counted.{IsChosen, IsInFull}
+use Rattle.superblock.specs.Counted.{Counts, IsChosen, IsInFull}
 use Rattle.superblock.specs.NextTables.{slots_of}
 use Rattle.array_io.specs.Steps.CallSteps.{StaysDown}
 use Rattle.array_io.proofs.Images.Spellings.{Spellings}
-use Rattle.recovery.specs.Making.{BankView, ChoosesLarge, HasNoSet, IsCarried, Opened, Outcome, Returned, bank_after}
+use Rattle.recovery.specs.Making.{BankView, IsCarried, Opened, Outcome, Returned, bank_after}
 use Rattle.array_io.specs.Believed.Views.{ArrayView}
 use Rattle.recovery.specs.Unwritten.{HasTwoLost, IsRefusedFor, NoDeviceFailedIn, RefusesUnwritten}
 use Rattle.recovery.proofs.AssembledAnswer.{not_both}
@@ -77,42 +76,23 @@ worn_unwritten reason old bank calls read = record { bank = bank; refusal = Worn
 pub refused_unwritten : (reason : Refusal) (old bank : BankView) → HasRead old.history bank.history → IsRefusedFor reason old (Returned bank reason)
 refused_unwritten reason old bank read = record { bank = bank; refusal = reason; is = refl; why = inl refl; reads = read }
 
--- a table of format 1 that an image chooses is a set to serve
-pub has_set : Spellings → (id : List ℕ) (devices : ℕ) (image : Slots) (table : Table) → IsChosen id devices image table → table.geometry.format ≡ One
-    → HasNoSet id devices image → ⊥
-has_set spellings id devices image table chosen one (inl none) = none chosen.slot chosen.place chosen.best chosen.counted
-has_set spellings id devices image table chosen one (inr is) =
-    differ (sym one ∙ ap (λ (t : Table). t.geometry.format) (chosen_once spellings id devices image table is.table chosen is.chosen) ∙ is.large)
-  where
-    differ : One ≡ Two → ⊥
-    differ same = cc
-
--- there was no set to serve in what reads gave at the end
-pub none_unwritten : Spellings → (honest : Type 0) (id : List ℕ) (old bank : BankView) → (honest → HasRead old.history bank.history)
-    → (honest → HasNoSet id old.panel.devices (readable bank.history)) → RefusesUnwritten honest id old (Returned bank NoSet)
-none_unwritten spellings honest id old bank read none = record {
-  two_lost = λ fair two stay. absurd (has_set spellings id old.panel.devices (readable bank.history) two.table
-      (subst (λ (image : Slots). IsChosen id old.panel.devices image two.table)
-      (sym (readable_stays old.history bank.history (read_last (read fair)) stay)) two.chosen) two.of_format_one (none fair));
+-- no superblock counted in what reads gave at the end
+pub none_unwritten : (honest : Type 0) (id : List ℕ) (old bank : BankView) → (honest → HasRead old.history bank.history)
+    → (honest → (slot : ℕ) → HasNone id old.panel.devices slot (readable bank.history slot)) → RefusesUnwritten honest id old (Returned bank NoSet)
+none_unwritten honest id old bank read none = record {
+  two_lost = λ fair two stay. absurd (
+      none fair two.chosen.slot two.chosen.place two.chosen.best
+      (subst (λ (image : Slots). Counts id old.panel.devices two.chosen.slot (image two.chosen.slot) two.chosen.place two.chosen.best)
+      (sym (readable_stays old.history bank.history (read_last (read fair)) stay)) two.chosen.counted));
   none = λ fair is. refused_unwritten NoSet old bank (read fair);
-  large = λ fair is stay. refused_unwritten NoSet old bank (read fair);
 }
 
--- a table of format 1 that reads choose, where no device failed, leaves none of format 2 that was chosen before
-pub not_large : Spellings → (id : List ℕ) (devices : ℕ) (old mid : History) (table : Table) → HasRead old mid → IsChosen id devices (readable mid) table
-    → table.geometry.format ≡ One → ChoosesLarge id devices (readable old) → NoDeviceFailedIn old mid → ⊥
-not_large spellings id devices old mid table read chosen one is stay =
-    has_set spellings id devices (readable old) table
-    (subst (λ (image : Slots). IsChosen id devices image table) (readable_stays old mid (read_last read) stay) chosen) one (inr is)
-
 -- two slots were out when it began, by the table that was surveyed
-pub two_unwritten : Spellings → (honest : Type 0) (id : List ℕ) (old bank : BankView) (table : Table) → table.geometry.format ≡ One
-    → (honest → HasRead old.history bank.history)
+pub two_unwritten : Spellings → (honest : Type 0) (id : List ℕ) (old bank : BankView) (table : Table) → (honest → HasRead old.history bank.history)
     → (honest → IsChosen id old.panel.devices (readable bank.history) table) → RefusesUnwritten honest id old (Returned bank TwoLost)
-two_unwritten spellings honest id old bank table one read chosen = record {
+two_unwritten spellings honest id old bank table read chosen = record {
   two_lost = λ fair two stay. refused_unwritten TwoLost old bank (read fair);
   none = λ fair none. absurd (not_none spellings id old.panel.devices old.history bank.history table (read fair) (chosen fair) none);
-  large = λ fair is stay. absurd (not_large spellings id old.panel.devices old.history bank.history table (read fair) (chosen fair) one is stay);
 }
 
 -- no further call could be counted before it wrote
@@ -121,19 +101,16 @@ pub worn_first : (honest : Type 0) (id : List ℕ) (old bank : BankView) → GRE
 worn_first honest id old bank calls read = record {
   two_lost = λ fair two stay. worn_unwritten TwoLost old bank calls (read fair);
   none = λ fair none. worn_unwritten NoSet old bank calls (read fair);
-  large = λ fair is stay. worn_unwritten NoSet old bank calls (read fair);
 }
 
 -- By the survey one slot is out at most, and what was down stays so: neither of the two reasons was there.
 pub one_is_out : Spellings → (honest : Type 0) (id : List ℕ) (old : BankView) (mid : History) (table : Table) (outcome : Outcome)
-    → table.geometry.format ≡ One → (honest → HasRead old.history mid)
+    → (honest → HasRead old.history mid)
     → (honest → IsChosen id old.panel.devices (readable mid) table) → (honest → IsOneOut old.panel.devices table mid)
     → (honest → StaysDown mid (bank_after outcome).history) → RefusesUnwritten honest id old outcome
-one_is_out spellings honest id old mid table outcome of_format_one read chosen one stays = record {
+one_is_out spellings honest id old mid table outcome read chosen one stays = record {
   two_lost = λ fair two stay. absurd (not_two fair two (λ device down. stay device (stays fair device down)));
   none = λ fair none. absurd (not_none spellings id old.panel.devices old.history mid table (read fair) (chosen fair) none);
-  large = λ fair is stay. absurd (not_large spellings id old.panel.devices old.history mid table (read fair) (chosen fair) of_format_one is
-      (λ device down. stay device (stays fair device down)));
 }
   where
     not_two : honest → HasTwoLost honest id old → NoDeviceFailedIn old.history mid → ⊥
@@ -163,6 +140,4 @@ unwritten_later honest id old mid outcome is stays = record {
   two_lost = λ fair two stay. let refused = is.two_lost fair two (λ device down. stay device (stays fair device down)) in absurd
       (not_both mid refused.bank refused.refusal refused.is);
   none = λ fair none. let refused = is.none fair none in absurd (not_both mid refused.bank refused.refusal refused.is);
-  large = λ fair large stay. let refused = is.large fair large (λ device down. stay device (stays fair device down)) in absurd
-      (not_both mid refused.bank refused.refusal refused.is);
 }

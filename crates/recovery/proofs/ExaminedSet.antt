@@ -242,7 +242,6 @@ examined_some honest still id old mid new survey examined goes_on is same slots 
       reads_until = λ fair. last.reads (goes_on fair);
       of_id = ap (λ (t : Table). t.id) same ∙ is.of_id survey refl;
       has_slots = subst (λ (t : Table). slots_of t ≤ mid.panel.devices) (sym same) (is.has_slots survey refl);
-      of_format_one = ap (λ (t : Table). t.geometry.format) same ∙ is.of_format_one survey refl;
       chosen = λ fair. subst (λ (t : Table). IsChosen id mid.panel.devices (readable mid.history) t) (sym same) (is.told fair survey refl).chosen;
       slots = subst (λ (t : Table). AreExaminedSlots honest mid t examined.slots) (sym same)
           (slots_by honest still goes_on mid survey.table examined.slots slots);

@@ -10,12 +10,11 @@ use Rattle.sector_model.specs.Moments.{Throughout}
 use Rattle.sector_model.specs.Readable.{readable}
 use Rattle.sector_model.specs.Reads.{HasRead}
 use Rattle.sector_model.proofs.Steps.{throughout_cut}
-use Rattle.layout_map.specs.declared.format.Format.TheVariants.{One}
 use Rattle.superblock.specs.declared.state.State.{State}
 use Rattle.superblock.specs.declared.state.State.TheVariants.{InSync, Missing, Rebuilding}
 use Rattle.superblock.specs.declared.table.Table.{Table}
-use Rattle.superblock.specs.Cases.{Lost}
-use Rattle.superblock.specs.Counted.{IsChosen, IsInFull, IsLive}
+use Rattle.superblock.specs.Cases.{HasNone, Lost}
+use Rattle.superblock.specs.Counted.{Counts, IsChosen, IsInFull, IsLive}
 use Rattle.superblock.specs.NextTables.{slots_of}
 use Rattle.superblock.specs.States.{has_rebuilding}
 use Rattle.superblock.specs.Tables.{state_at}
@@ -29,13 +28,13 @@ use Rattle.recovery.specs.declared.survey.Out.TheVariants as out
 use Rattle.recovery.specs.Assembling.{Assembles, HasStatesOf, IsNoAssembly, IsOfAssembly, IsTwoLostThen, MayAssemble}
 use Rattle.recovery.specs.Examining.{IsOutlook}
 use Rattle.recovery.specs.Foreseeing.{AssemblesAsForeseen, EndsAsForeseen, IsForeseen}
-use Rattle.recovery.specs.Making.{BankView, HasNoSet, Outcome, bank_after}
+use Rattle.recovery.specs.Making.{BankView, Outcome, bank_after}
 use Rattle.recovery.specs.Surveying.{IsOutOf, IsThere}
 use Rattle.recovery.specs.Unwritten.{NoDeviceFailedIn}
 use Rattle.recovery.proofs.AssembledReads.{IsRead, read_last, read_throughout}
 use Rattle.recovery.proofs.AssembledSince.{IsOneOut, one_out_but, one_out_there}
 use Rattle.recovery.proofs.AssembledStates.{none_rebuilding}
-use Rattle.recovery.proofs.AssembledUnwritten.{chosen_once, has_set, readable_stays}
+use Rattle.recovery.proofs.AssembledUnwritten.{chosen_once, readable_stays}
 use Rattle.recovery.proofs.DownRuns.{cut_down, stays_in}
 use Rattle.recovery.proofs.Finding.{none_down}
 
@@ -154,15 +153,14 @@ one_out_by honest fair old table (outlook.Rebuilding slot position) (by, out) no
 -- So where no device fails and all cases hold, it is not refused but with 16.
 module _ (honest : Type 0) (fair : honest) (id : List ℕ) (old bank : BankView) (table : Table) (expected : Outlook)
     (expected_is : IsOutlook honest old table expected)
-    (not_two : expected ≢ outlook.TwoLost) (chosen : IsChosen id old.panel.devices (readable old.history) table) (one : table.geometry.format ≡ One)
-    (later : IsLater old.panel bank.panel)
+    (not_two : expected ≢ outlook.TwoLost) (chosen : IsChosen id old.panel.devices (readable old.history) table) (later : IsLater old.panel bank.panel)
     (run : Throughout (StaysDown old.history) old.history bank.history) (stay : NoDeviceFailedIn old.history bank.history) where
-  not_no_set : HasNoSet id bank.panel.devices (readable bank.history) → HasRead old.history bank.history → ⊥
+  not_no_set : ((slot : ℕ) → HasNone id bank.panel.devices slot (readable bank.history slot)) → HasRead old.history bank.history → ⊥
   not_no_set none read =
-      has_set spellings id bank.panel.devices (readable bank.history) table
-      (subst (λ (n : ℕ). IsChosen id n (readable bank.history) table) (sym later.devices)
-      (subst (λ (image : Slots). IsChosen id old.panel.devices image table)
-      (sym (readable_stays old.history bank.history (read_last read) stay)) chosen)) one none
+      none chosen.slot chosen.place chosen.best
+      (subst (λ (n : ℕ). Counts id n chosen.slot (readable bank.history chosen.slot) chosen.place chosen.best) (sym later.devices)
+      (subst (λ (image : Slots). Counts id old.panel.devices chosen.slot (image chosen.slot) chosen.place chosen.best)
+      (sym (readable_stays old.history bank.history (read_last read) stay)) chosen.counted))
 
   not_two_lost : IsTwoLostThen id old.panel.devices old.history bank.history → ⊥
   not_two_lost two =
@@ -207,15 +205,14 @@ module _ (honest : Type 0) (fair : honest) (id : List ℕ) (old bank : BankView)
   refused_at_most refusal of why = absurd of
 
 ends_as_foreseen : (honest : Type 0) (fair : honest) (id : List ℕ) (old : BankView) (outcome : Outcome) → Assembles honest id old outcome → (table : Table)
-    → IsChosen id old.panel.devices (readable old.history) table → table.geometry.format ≡ One → (expected : Outlook) → IsOutlook honest old table expected
-    → expected ≢ outlook.TwoLost
+    → IsChosen id old.panel.devices (readable old.history) table → (expected : Outlook) → IsOutlook honest old table expected → expected ≢ outlook.TwoLost
     → NoDeviceFailedIn old.history (bank_after outcome).history → (base : Table) (lost : Option Lost) (X : List (List Bytes)) → base.id ≡ id
     → MayAssemble base lost X old
     → EndsAsForeseen base lost table expected outcome
-ends_as_foreseen honest fair id old outcome assembles table chosen one expected is not_two stay base lost X of_id may = record {
+ends_as_foreseen honest fair id old outcome assembles table chosen expected is not_two stay base lost X of_id may = record {
   opened = λ array opened loss. foreseen honest fair old table array (assembles.states fair base lost X of_id may array opened loss table chosen)
       (subst (λ (o : Outcome). NoDeviceFailedIn old.history (bank_after o).history) opened stay) expected is not_two;
-  refused = λ bank refusal returned. refused_at_most honest fair id old bank table expected is not_two chosen one
+  refused = λ bank refusal returned. refused_at_most honest fair id old bank table expected is not_two chosen
       (subst (λ (o : Outcome). IsLater old.panel (bank_after o).panel) returned assembles.later)
       (subst (λ (o : Outcome). Throughout (StaysDown old.history) old.history (bank_after o).history) returned
       (stays_in (bank_after outcome).history (assembles.moments fair base lost X of_id may)))
@@ -224,13 +221,13 @@ ends_as_foreseen honest fair id old outcome assembles table chosen one expected 
 }
 
 pub assembles_as_foreseen : (honest : Type 0) (old : BankView) → AssemblesAsForeseen honest old
-assembles_as_foreseen honest old id outcome fair assembles unwritten table chosen one outlook.TwoLost (first, second, lost) stay =
-    unwritten.two_lost fair record { table = table; chosen = chosen; of_format_one = one; first = first; second = second; lost = lost } stay
-assembles_as_foreseen honest old id outcome fair assembles unwritten table chosen one outlook.Complete is stay =
-    ends_as_foreseen honest fair id old outcome assembles table chosen one outlook.Complete is (λ two. cc) stay
-assembles_as_foreseen honest old id outcome fair assembles unwritten table chosen one (outlook.Missing slot) is stay =
-    ends_as_foreseen honest fair id old outcome assembles table chosen one (outlook.Missing slot) is (λ two. cc) stay
-assembles_as_foreseen honest old id outcome fair assembles unwritten table chosen one (outlook.Rebuilding slot position) is stay =
-    ends_as_foreseen honest fair id old outcome assembles table chosen one (outlook.Rebuilding slot position) is (λ two. cc) stay
-assembles_as_foreseen honest old id outcome fair assembles unwritten table chosen one (outlook.WouldMark slot) is stay =
-    ends_as_foreseen honest fair id old outcome assembles table chosen one (outlook.WouldMark slot) is (λ two. cc) stay
+assembles_as_foreseen honest old id outcome fair assembles unwritten table chosen outlook.TwoLost (first, second, lost) stay =
+    unwritten.two_lost fair record { table = table; chosen = chosen; first = first; second = second; lost = lost } stay
+assembles_as_foreseen honest old id outcome fair assembles unwritten table chosen outlook.Complete is stay =
+    ends_as_foreseen honest fair id old outcome assembles table chosen outlook.Complete is (λ two. cc) stay
+assembles_as_foreseen honest old id outcome fair assembles unwritten table chosen (outlook.Missing slot) is stay =
+    ends_as_foreseen honest fair id old outcome assembles table chosen (outlook.Missing slot) is (λ two. cc) stay
+assembles_as_foreseen honest old id outcome fair assembles unwritten table chosen (outlook.Rebuilding slot position) is stay =
+    ends_as_foreseen honest fair id old outcome assembles table chosen (outlook.Rebuilding slot position) is (λ two. cc) stay
+assembles_as_foreseen honest old id outcome fair assembles unwritten table chosen (outlook.WouldMark slot) is stay =
+    ends_as_foreseen honest fair id old outcome assembles table chosen (outlook.WouldMark slot) is (λ two. cc) stay

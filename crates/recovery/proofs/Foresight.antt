@@ -18,8 +18,8 @@ use Rattle.recovery.specs.declared.examination.Standing.TheVariants as standing
 use Rattle.recovery.specs.declared.survey.Out.{Out}
 use Rattle.recovery.specs.declared.survey.Out.TheVariants as out
 use Rattle.recovery.specs.Examining.{AreExaminedSlots, HasExamined, IsAbsent, IsOlder, IsOfIncarnation, IsOutlook, IsPresence, IsStanding, unexamined}
-use Rattle.recovery.specs.Foreseeing.{ComesTrue, IsInspectionOf, Foresees}
-use Rattle.recovery.specs.Making.{BankView, HasNoSet}
+use Rattle.recovery.specs.Foreseeing.{IsInspectionOf, Foresees}
+use Rattle.recovery.specs.Making.{BankView}
 use Rattle.recovery.specs.Surveying.{HasGeneration, IsGone, IsNotFull, IsOutOf, IsOwn, IsOwnGeneration, IsThere}
 use Rattle.recovery.specs.Unwritten.{NoDeviceFailedIn}
 use Rattle.recovery.proofs.AssembledReads.{read_last}
@@ -154,7 +154,6 @@ module _ (honest still : Type 0) (id : List ℕ) (old new : BankView) (examined 
   is_so_now = record {
     of_id = has.of_id;
     has_slots = subst (λ (n : ℕ). slots_of examined.table ≤ n) (sym has.until.devices) has.has_slots;
-    of_format_one = has.of_format_one;
     chosen = shown honest read new examined.table same_shown (λ n image. IsChosen id n image examined.table) (has.chosen fair);
     slots = slots_by still honest (λ s. fair) new examined.table examined.slots
         (slots_shown honest read new examined.table same_shown examined.slots has.slots);
@@ -164,15 +163,11 @@ module _ (honest still : Type 0) (id : List ℕ) (old new : BankView) (examined 
   }
 
 pub foresees : (honest still : Type 0) (old new : BankView) → (honest → Honest old) → (still → Honest new) → Foresees honest still old new
-foresees honest still old new is_old is_new id None fair goes_on inspections stay = by_what (inspections.none fair refl)
-  where
-    by_what : HasNoSet id new.panel.devices (readable new.history) → ComesTrue still id new None
-    by_what (inl none) = inl (λ outcome unwritten. unwritten.none goes_on none)
-    by_what (inr large) = inr (large, λ outcome unwritten none_failed. unwritten.large goes_on large none_failed)
+foresees honest still old new is_old is_new id None fair goes_on inspections stay = λ outcome unwritten. unwritten.none goes_on (inspections.none fair refl)
 foresees honest still old new is_old is_new id (Some examined) fair goes_on inspections stay = (
   now,
   λ outcome assembles unwritten none_failed.
-      assembles_as_foreseen still new id outcome goes_on assembles unwritten examined.table now.chosen now.of_format_one examined.outlook now.outlook none_failed,
+      assembles_as_foreseen still new id outcome goes_on assembles unwritten examined.table now.chosen examined.outlook now.outlook none_failed,
 )
   where
     now : IsInspectionOf still id new examined

@@ -16,7 +16,7 @@ use Rattle.sector_model.proofs.Readable.{readable_began, readable_left}
 use Rattle.sector_model.proofs.Panels.{later_same}
 use Rattle.sector_model.proofs.Reading.{read_none}
 use Rattle.sector_model.proofs.Steps.{throughout_cut}
-use Rattle.layout_map.specs.declared.format.Format.TheVariants.{One, Two}
+use Rattle.layout_map.specs.declared.format.Format.TheVariants.{One}
 use Rattle.layout_map.specs.declared.geometry.Geometry.{Geometry}
 use Rattle.superblock.specs.declared.state.State.{State}
 use Rattle.superblock.specs.declared.state.State.TheVariants.{Missing, Rebuilding}
@@ -77,9 +77,8 @@ fresh_rests : (panel : Panel) (image : Slots) (table : Table) → IsFresh panel.
     → RestsOn (fresh_array panel image table) None (zeros_of table.geometry)
 fresh_rests panel image table fresh = settled_begins spellings (fresh_set_holds spellings (holds_from_core spellings)) panel.devices table image fresh
 
-fresh_slots : (panel : Panel) (image : Slots) (table : Table) → table.geometry.format ≡ One → IsFresh panel.devices table image
-    → IsTrueTo panel (Began image) → HasItsSlots table panel
-fresh_slots panel image table one fresh true_to = record {
+fresh_slots : (panel : Panel) (image : Slots) (table : Table) → IsFresh panel.devices table image → IsTrueTo panel (Began image) → HasItsSlots table panel
+fresh_slots panel image table fresh true_to = record {
   of_bank = fresh.has_slots;
   fit = λ slot of_set counted up. subst (λ (n : ℕ). least_sectors table.geometry slot ≤ n) (sym (true_to.sectors slot))
       (both_most (least_sectors table.geometry slot) (length (disk_of (image slot))) (2 ^ 32 - 1) (fresh.long_enough slot of_set)
@@ -107,7 +106,7 @@ makes_fresh honest panel image table one fresh true_to = record {
   first = λ array is. opened_is (λ a. IsFirstTable table.id table.geometry a.table) (fresh_array panel image table) array is
       (first_of_fresh panel.devices image table fresh);
   number = λ array is. opened_is (λ a. a.number ≡ 0) (fresh_array panel image table) array is refl;
-  its_slots = λ array is. opened_is (λ a. HasItsSlots a.table a.panel) (fresh_array panel image table) array is (fresh_slots panel image table one fresh true_to);
+  its_slots = λ array is. opened_is (λ a. HasItsSlots a.table a.panel) (fresh_array panel image table) array is (fresh_slots panel image table fresh true_to);
   of_format_one = λ array is. opened_is (λ a. a.table.geometry.format ≡ One) (fresh_array panel image table) array is one;
   rests = λ fair quiet array is. opened_is (λ a. RestsOn a None (zeros_of table.geometry)) (fresh_array panel image table) array is
       (fresh_rests panel image table fresh);
@@ -343,25 +342,23 @@ has_its_states panel now table image n fresh =
     }
 
 -- A set that was just made, and is at rest, is assembled by so many reads: with its own table and no entry, and nothing is written.
-pub assembles_fresh : (honest : Type 0) (panel now : Panel) (image : Slots) (table : Table) (n : ℕ) → table.geometry.format ≡ One
-    → IsFresh panel.devices table image
+pub assembles_fresh : (honest : Type 0) (panel now : Panel) (image : Slots) (table : Table) (n : ℕ) → IsFresh panel.devices table image
     → IsTrueTo panel (Began image)
     → IsLater panel now → Assembles honest table.id (fresh_bank panel image) (Opened (array_after now (reads n (Began image)) table))
 unfolding reads
-assembles_fresh honest panel now image table n one fresh true_to later =
+assembles_fresh honest panel now image table n fresh true_to later =
     let given = array_after now (reads n (Began image)) table in
     let rest = at_rest panel.devices table image n fresh in
     record {
       later = later;
       of_id = λ array is. opened_is (λ a. a.table.id ≡ table.id) given array is refl;
       its_slots = λ array is. opened_is (λ a. HasItsSlots a.table a.panel) given array is
-          (its_slots_later table panel now later (fresh_slots panel image table one fresh true_to));
-      of_format_one = λ array is. opened_is (λ a. a.table.geometry.format ≡ One) given array is one;
+          (its_slots_later table panel now later (fresh_slots panel image table fresh true_to));
       moments = λ fair base lost X same may. throughout_reads base panel.devices lost X (Began image) n may.holds;
-      rests = λ fair base lost X same may array is single.
+      rests = λ fair base lost X same may array is one.
           opened_is (λ a. IsSingleFailure (slots_of base) lost a.history → OpensOnOne base lost X a) given array is
-          (opens_on_one base panel table image n now lost X later.devices fresh (sym same) may) single;
-      states = λ fair base lost X same may array is single other chosen.
+          (opens_on_one base panel table image n now lost X later.devices fresh (sym same) may) one;
+      states = λ fair base lost X same may array is one other chosen.
           opened_is (λ a. HasStatesOf other (fresh_bank panel image) a) given array is
           (subst (λ (t : Table). HasStatesOf t (fresh_bank panel image) given)
           (sym (chosen_is_its panel.devices table image (Began image) (at_rest panel.devices table image 0 fresh) other chosen))
@@ -390,7 +387,6 @@ assembles_refused honest id bank now n refusal later listed because = record {
   later = later;
   of_id = λ array is. not_opened (array.table.id ≡ id) (given_back bank now n) refusal array is;
   its_slots = λ array is. not_opened (HasItsSlots array.table array.panel) (given_back bank now n) refusal array is;
-  of_format_one = λ array is. not_opened (array.table.geometry.format ≡ One) (given_back bank now n) refusal array is;
   moments = λ fair base lost X same may. throughout_reads base bank.panel.devices lost X bank.history n may.holds;
   rests = λ fair base lost X same may array is one. not_opened (OpensOnOne base lost X array) (given_back bank now n) refusal array is;
   states = λ fair base lost X same may array is one table chosen. not_opened (HasStatesOf table bank array) (given_back bank now n) refusal array is;
@@ -399,22 +395,11 @@ assembles_refused honest id bank now n refusal later listed because = record {
   no_set = λ fair none_then array is. not_opened ⊥ (given_back bank now n) refusal array is;
 }
 
--- a set of format 2 is refused by so many reads, and nothing is written
-pub assembles_none_of_large : (honest : Type 0) (id : List ℕ) (bank : BankView) (now : Panel) (n : ℕ) (table : Table)
-    → IsChosen id bank.panel.devices (readable bank.history) table → table.geometry.format ≡ Two
-    → IsLater bank.panel now → Assembles honest id bank (Returned (given_back bank now n) NoSet)
-assembles_none_of_large honest id bank now n table chosen large later =
-    assembles_refused honest id bank now n NoSet later tt (inr record { table = table; chosen = chosen_now; large = large }, reads_read bank.history n)
-  where
-    chosen_now : IsChosen id now.devices (readable (reads n bank.history)) table
-    chosen_now = subst (λ (d : ℕ). IsChosen id d (readable (reads n bank.history)) table) (sym later.devices)
-        (subst (λ (i : Slots). IsChosen id bank.panel.devices i table) (sym (readable_over_reads bank.history n)) chosen)
-
 -- where no superblock of the set counts, there is no set
 pub assembles_none : (honest : Type 0) (id : List ℕ) (bank : BankView) (now : Panel) (n : ℕ)
     → ((slot : ℕ) → HasNone id bank.panel.devices slot (readable bank.history slot))
     → IsLater bank.panel now → Assembles honest id bank (Returned (given_back bank now n) NoSet)
-assembles_none honest id bank now n none later = assembles_refused honest id bank now n NoSet later tt (inl none_now, reads_read bank.history n)
+assembles_none honest id bank now n none later = assembles_refused honest id bank now n NoSet later tt (none_now, reads_read bank.history n)
   where
     none_now : (slot : ℕ) → HasNone id now.devices slot (readable (reads n bank.history) slot)
     none_now slot = subst (λ (d : ℕ). HasNone id d slot (readable (reads n bank.history) slot)) (sym later.devices)
@@ -463,10 +448,9 @@ IsFound (Ok None) = ⊥
 IsFound (Err refusal) = ⊥
 
 -- of a set that was just made its table is found, by so many reads
-pub finds_fresh : (honest : Type 0) (panel now : Panel) (image : Slots) (table : Table) (n : ℕ) → table.geometry.format ≡ One
-    → IsFresh panel.devices table image → IsLater panel now
+pub finds_fresh : (honest : Type 0) (panel now : Panel) (image : Slots) (table : Table) (n : ℕ) → IsFresh panel.devices table image → IsLater panel now
     → FindsTable honest table.id (fresh_bank panel image) record { panel = now; history = reads n (Began image) } (Ok (Some table))
-finds_fresh honest panel now image table n one fresh later =
+finds_fresh honest panel now image table n fresh later =
     let h = reads n (Began image) in
     let rest = at_rest panel.devices table image n fresh in
     let chosen : IsChosen table.id now.devices (readable h) table =
@@ -476,11 +460,10 @@ finds_fresh honest panel now image table n one fresh later =
     record {
       later = later;
       fits = λ found is. subst (OnFound (λ t. (t.id ≡ table.id) × (slots_of t ≤ now.devices))) is (refl, omega (arith, fresh.has_slots, later.devices));
-      of_format_one = λ found is. subst (OnFound (λ t. t.geometry.format ≡ One)) is one;
       reads = λ fair. reads_read (Began image) n;
       carried = λ fair found is. subst (OnFound (λ t. IsCarried table.id now.devices (readable (Began image)) t)) is
           record { slot = before.slot; place = before.place; superblock = before.best; counted = before.counted; carries = before.carried };
       chosen = λ fair up found is. subst (OnFound (λ t. IsChosen table.id now.devices (readable h) t)) is chosen;
-      none = λ fair up is. absurd (subst IsFound is tt);
+      none = λ fair up is slot. absurd (subst IsFound is tt);
       cause = λ refusal is. absurd (subst IsFound is tt);
     }

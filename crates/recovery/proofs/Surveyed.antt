@@ -10,7 +10,6 @@ use Rattle.sector_model.specs.Readable.{readable}
 use Rattle.sector_model.specs.Reads.{HasRead}
 use Rattle.sector_model.proofs.Panels.{later_both, later_same}
 use Rattle.sector_model.proofs.Reading.{read_both, read_none, seen_read}
-use Rattle.layout_map.specs.declared.format.Format.TheVariants.{One, Two}
 use Rattle.superblock.specs.declared.table.Superblock.{Superblock}
 use Rattle.superblock.specs.declared.table.Table.{Table}
 use Rattle.superblock.specs.Counted.{Content, Counts, IsChosen}
@@ -216,26 +215,23 @@ surveyed_err honest still id devices n old mid new best own generations refusal 
   later = later_both old.panel mid.panel new.panel is.later left.later;
   of_id = λ survey same. absurd (no_found (Some survey) refusal same);
   has_slots = λ survey same. absurd (no_found (Some survey) refusal same);
-  of_format_one = λ survey same. absurd (no_found (Some survey) refusal same);
   reads = λ fair. read_both (is.reads fair) (left.reads (goes_on fair));
   told = λ fair survey same. absurd (no_found (Some survey) refusal same);
   none = λ fair same. absurd (no_found None refusal same);
   cause = λ other same. left.cause other (ap (λ (r : Refusal). Err r) (subst (OnRefusal (λ r. refusal ≡ r)) same refl));
 }
 
--- all slots were searched, and a superblock of format 1 was found
+-- all slots were searched, and a superblock was found
 pub surveyed_some : (honest : Type 0) (id : List ℕ) (n : ℕ) (old new : BankView) (found : Option Superblock) (best : Superblock) (survey : Survey)
     → old.panel.devices ≤ n → SurveyedTo honest id old.panel.devices n old new found survey.own survey.generations → found ≡ Some best
-    → survey.table ≡ best.table → best.table.geometry.format ≡ One
+    → survey.table ≡ best.table
     → Surveys honest id old new (Ok (Some survey))
-surveyed_some honest id n old new found best survey all is is_best is_table one = record {
+surveyed_some honest id n old new found best survey all is is_best is_table = record {
   later = is.later;
   of_id = λ other same. subst (OnFound (λ (o : Option Survey). IfSome o (λ s. s.table.id ≡ id))) same
       (ap (λ (t : Table). t.id) is_table ∙ fits.of_set);
   has_slots = λ other same. subst (OnFound (λ (o : Option Survey). IfSome o (λ s. slots_of s.table ≤ new.panel.devices))) same
       (subst (λ (t : Table). slots_of t ≤ new.panel.devices) (sym is_table) (omega (arith, fits.has_slots, is.later.devices)));
-  of_format_one = λ other same. subst (OnFound (λ (o : Option Survey). IfSome o (λ s. s.table.geometry.format ≡ One))) same
-      (ap (λ (t : Table). t.geometry.format) is_table ∙ one);
   reads = is.reads;
   told = λ fair other same. subst (OnFound (λ (o : Option Survey). IfSome o (λ s. Tells id new.panel.devices (readable new.history) s))) same (tells fair);
   none = λ fair same. absurd (some_none (same_found (Some survey) None same));
@@ -255,26 +251,6 @@ surveyed_some honest id n old new found best survey all is is_best is_table one 
       generation = λ slot within. is.has_generations fair slot (omega (arith, within, all));
     }
 
--- or one of format 2
-pub surveyed_large : (honest : Type 0) (id : List ℕ) (n : ℕ) (old new : BankView) (found : Option Superblock) (best : Superblock) (own generations : List ℕ)
-    → old.panel.devices ≤ n → SurveyedTo honest id old.panel.devices n old new found own generations → found ≡ Some best
-    → best.table.geometry.format ≡ Two → Surveys honest id old new (Ok None)
-surveyed_large honest id n old new found best own generations all is is_best large = record {
-  later = is.later;
-  of_id = λ survey same. absurd (none_some (same_found None (Some survey) same));
-  has_slots = λ survey same. absurd (none_some (same_found None (Some survey) same));
-  of_format_one = λ survey same. absurd (none_some (same_found None (Some survey) same));
-  reads = is.reads;
-  told = λ fair survey same. absurd (none_some (same_found None (Some survey) same));
-  none = λ fair same. inr record {
-    table = best.table;
-    chosen = subst (λ (d : ℕ). IsChosen id d (readable new.history) best.table) (sym is.later.devices)
-        (chosen_at_end id old.panel.devices n (readable new.history) found best all (is.best_to fair) is_best);
-    large = large;
-  };
-  cause = λ refusal same. absurd (no_refusal None refusal same);
-}
-
 -- or none
 pub surveyed_none : (honest : Type 0) (id : List ℕ) (n : ℕ) (old new : BankView) (found : Option Superblock) (own generations : List ℕ)
     → old.panel.devices ≤ n → SurveyedTo honest id old.panel.devices n old new found own generations → found ≡ None → Surveys honest id old new (Ok None)
@@ -282,11 +258,10 @@ surveyed_none honest id n old new found own generations all is is_none = record 
   later = is.later;
   of_id = λ survey same. absurd (none_some (same_found None (Some survey) same));
   has_slots = λ survey same. absurd (none_some (same_found None (Some survey) same));
-  of_format_one = λ survey same. absurd (none_some (same_found None (Some survey) same));
   reads = is.reads;
   told = λ fair survey same. absurd (none_some (same_found None (Some survey) same));
-  none = λ fair same. inl (subst (λ (d : ℕ). ImageCountsNone id d (readable new.history)) (sym is.later.devices)
-      (none_at_end id old.panel.devices n (readable new.history) found all (is.best_to fair) is_none));
+  none = λ fair same. subst (λ (d : ℕ). ImageCountsNone id d (readable new.history)) (sym is.later.devices)
+      (none_at_end id old.panel.devices n (readable new.history) found all (is.best_to fair) is_none);
   cause = λ refusal same. absurd (no_refusal None refusal same);
 }
 
@@ -306,7 +281,6 @@ table_told honest id old new survey is_old is_new is = record {
   later = is.later;
   fits = λ table same. subst (OnFound (λ (o : Option Table). IfSome o (λ t. (t.id ≡ id) × (slots_of t ≤ new.panel.devices)))) same
       (is.of_id survey refl, is.has_slots survey refl);
-  of_format_one = λ table same. subst (OnFound (λ (o : Option Table). IfSome o (λ t. t.geometry.format ≡ One))) same (is.of_format_one survey refl);
   reads = is.reads;
   carried = λ fair table same. subst (OnFound (λ (o : Option Table). IfSome o (λ t. IsCarried id new.panel.devices (readable old.history) t)))
       same (still_carried id new.panel.devices old new survey.table (is_old fair) (is_new fair) is.later (is.reads fair) (is.told fair survey refl).chosen);
@@ -321,7 +295,6 @@ pub table_untold : (honest : Type 0) (id : List ℕ) (old new : BankView) → Su
 table_untold honest id old new is = record {
   later = is.later;
   fits = λ table same. absurd (none_some (same_found None (Some table) same));
-  of_format_one = λ table same. absurd (none_some (same_found None (Some table) same));
   reads = is.reads;
   carried = λ fair table same. absurd (none_some (same_found None (Some table) same));
   chosen = λ fair none table same. absurd (none_some (same_found None (Some table) same));
@@ -335,7 +308,6 @@ pub table_refused : (honest : Type 0) (id : List ℕ) (old new : BankView) (refu
 table_refused honest id old new refusal is = record {
   later = is.later;
   fits = λ table same. absurd (no_found (Some table) refusal same);
-  of_format_one = λ table same. absurd (no_found (Some table) refusal same);
   reads = is.reads;
   carried = λ fair table same. absurd (no_found (Some table) refusal same);
   chosen = λ fair none table same. absurd (no_found (Some table) refusal same);

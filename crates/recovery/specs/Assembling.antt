@@ -8,7 +8,6 @@ use Rattle.sector_model.specs.History.{Bytes, History, Slots, calls_of, cut_at, 
 use Rattle.sector_model.specs.Readable.{NothingPending, readable}
 use Rattle.sector_model.specs.Reads.{HasRead}
 use Rattle.superblock.specs.declared.state.State.TheVariants.{Missing}
-use Rattle.layout_map.specs.declared.format.Format.TheVariants.{One}
 use Rattle.superblock.specs.declared.table.Table.{Table}
 use Rattle.superblock.specs.Tables.{state_at}
 use Rattle.superblock.specs.Cases.{HasNone, Lost}
@@ -18,7 +17,7 @@ use Rattle.superblock.specs.NextTables.{IsNotOlder, slots_of}
 use Rattle.superblock.specs.States.{position_in}
 use Rattle.array_io.specs.Believed.Moments.{HoldsNow, HoldsThroughout}
 use Rattle.array_io.specs.Believed.Views.{ArrayView, HasItsSlots, RestsAfter}
-use Rattle.recovery.specs.Making.{BankView, HasNoSet, IsCarried, Opened, Outcome, Returned, bank_after, given_back, opened}
+use Rattle.recovery.specs.Making.{BankView, IsCarried, Opened, Outcome, Returned, bank_after, given_back, opened}
 
 -- From what a set is assembled: nothing is pending, and all cases that a crash now may leave hold for X, with this lost before.
 pub record MayAssemble (base : Table) (lost : Option Lost) (X : List (List Bytes)) (bank : BankView) : Type 0 where
@@ -69,7 +68,7 @@ pub record IsWornThen (id : List ℕ) (devices : ℕ) (image : Slots) : Type 0 w
 
 -- why assembling was refused
 abbrev pub IsNoAssembly : List ℕ → (old bank : BankView) → Refusal → Type 0
-IsNoAssembly id old bank NoSet = HasNoSet id bank.panel.devices (readable bank.history) × HasRead old.history bank.history
+IsNoAssembly id old bank NoSet = ((slot : ℕ) → HasNone id bank.panel.devices slot (readable bank.history slot)) × HasRead old.history bank.history
 IsNoAssembly id old bank TwoLost = IsTwoLostThen id bank.panel.devices old.history bank.history
 IsNoAssembly id old bank Worn = (GREATEST_COUNT ≤ bank.panel.calls) ⊎ IsWornThen id bank.panel.devices (readable old.history)
 IsNoAssembly id old bank refusal = ⊥
@@ -87,8 +86,6 @@ pub record AssemblesTo (Reaches : (base : Table) (lost : Option Lost) (X : List 
   pub later : IsLater old.panel (bank_after outcome).panel
   pub of_id : (array : ArrayView) → outcome ≡ Opened array → array.table.id ≡ id
   pub its_slots : (array : ArrayView) → outcome ≡ Opened array → HasItsSlots array.table array.panel
-  -- none of format 2 is served
-  pub of_format_one : (array : ArrayView) → outcome ≡ Opened array → array.table.geometry.format ≡ One
   -- at each moment all cases hold for the same lists
   pub moments : honest → (base : Table) (lost : Option Lost) (X : List (List Bytes)) → base.id ≡ id → MayAssemble base lost X old
       → HoldsThroughout base old.panel.devices lost X old.history (bank_after outcome).history

@@ -7,7 +7,6 @@ use Rattle.sector_model.specs.Bank.{IsLater}
 use Rattle.sector_model.specs.History.{seen}
 use Rattle.sector_model.specs.Readable.{readable}
 use Rattle.sector_model.specs.Reads.{HasRead}
-use Rattle.layout_map.specs.declared.format.Format.TheVariants.{One}
 use Rattle.superblock.specs.declared.state.State.TheVariants as state
 use Rattle.superblock.specs.declared.table.Table.{Table}
 use Rattle.superblock.specs.Tables.{incarnation_at, state_at}
@@ -25,7 +24,7 @@ use Rattle.recovery.specs.declared.examination.Outlook.TheVariants as outlook
 use Rattle.recovery.specs.declared.examination.ExaminedSlot.{ExaminedSlot}
 use Rattle.recovery.specs.declared.examination.Examined.{Examined}
 use Rattle.recovery.specs.declared.survey.Out.TheVariants as out
-use Rattle.recovery.specs.Making.{BankView, HasNoSet}
+use Rattle.recovery.specs.Making.{BankView}
 use Rattle.recovery.specs.Surveying.{HasGeneration, IsGone, IsOutOf, IsOwn, IsOwnGeneration, IsThere}
 
 -- whether the device of a slot of the set is there: up, and long enough
@@ -132,7 +131,6 @@ pub record HasExamined (honest : Type 0) (id : List ℕ) (old new : BankView) (e
   pub reads_until : honest → HasRead read.history new.history
   pub of_id : examined.table.id ≡ id
   pub has_slots : slots_of examined.table ≤ read.panel.devices
-  pub of_format_one : examined.table.geometry.format ≡ One
   pub chosen : honest → IsChosen id read.panel.devices (readable read.history) examined.table
   pub slots : AreExaminedSlots honest read examined.table examined.slots
   pub outlook : IsOutlook honest read examined.table examined.outlook
@@ -143,5 +141,5 @@ pub record Examines (honest : Type 0) (id : List ℕ) (old new : BankView) (answ
   pub later : IsLater old.panel new.panel
   pub reads : honest → HasRead old.history new.history
   pub found : (examined : Examined) → answer ≡ Ok (Some examined) → HasExamined honest id old new examined
-  pub none : honest → answer ≡ Ok None → HasNoSet id new.panel.devices (readable new.history)
+  pub none : honest → answer ≡ Ok None → (slot : ℕ) → HasNone id new.panel.devices slot (readable new.history slot)
   pub cause : (refusal : Refusal) → answer ≡ Err refusal → (refusal ≡ Worn) × (GREATEST_COUNT ≤ new.panel.calls)

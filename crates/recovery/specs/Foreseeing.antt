@@ -1,10 +1,9 @@
 -- What assembling a set does, by what an inspection of it says; and of which bank an inspection says it.
-use Rattle.std.specs.Prelude.{◌≡◌, ◌⊎◌, ℕ, ◌<◌, ◌≤◌, ◌==◌, if◌then◌else◌, List, Option, Some, None, Ok}
+use Rattle.std.specs.Prelude.{◌≡◌, ℕ, ◌<◌, ◌≤◌, ◌==◌, if◌then◌else◌, List, Option, Some, None, Ok}
 use Rattle.sector_model.specs.declared.refusal.Refusal.{Refusal}
 use Rattle.sector_model.specs.declared.refusal.Refusal.TheVariants.{NoSet, TwoLost, Worn}
 use Rattle.sector_model.specs.History.{Bytes}
 use Rattle.sector_model.specs.Readable.{readable}
-use Rattle.layout_map.specs.declared.format.Format.TheVariants.{One}
 use Rattle.superblock.specs.declared.state.State.{State}
 use Rattle.superblock.specs.declared.state.State.TheVariants.{InSync, Missing, Rebuilding}
 use Rattle.superblock.specs.declared.table.Table.{Table}
@@ -19,7 +18,7 @@ use Rattle.recovery.specs.declared.examination.Outlook.{Outlook}
 use Rattle.recovery.specs.declared.examination.Outlook.TheVariants as outlook
 use Rattle.recovery.specs.Assembling.{Assembles, MayAssemble}
 use Rattle.recovery.specs.Examining.{AreExaminedSlots, AreLastNumbers, Examines, IsOutlook}
-use Rattle.recovery.specs.Making.{BankView, ChoosesLarge, Opened, Outcome, Returned, bank_after}
+use Rattle.recovery.specs.Making.{BankView, Opened, Outcome, Returned, bank_after}
 use Rattle.recovery.specs.Unwritten.{IsRefusedFor, NoDeviceFailedIn, RefusesUnwritten}
 
 -- in which state a slot of the set is then
@@ -51,29 +50,24 @@ IsAsForeseen id old table outlook.TwoLost outcome = IsRefusedFor TwoLost old out
 IsAsForeseen id old table expected outcome = (base : Table) (lost : Option Lost) (X : List (List Bytes)) → base.id ≡ id → MayAssemble base lost X old
     → EndsAsForeseen base lost table expected outcome
 
--- Assembling a set of format 1 on this bank does what an inspection of it says, where it is honest and no device fails.
+-- Assembling a set on this bank does what an inspection of it says, where it is honest and no device fails.
 abbrev pub AssemblesAsForeseen : (honest : Type 0) → BankView → Type 0
 AssemblesAsForeseen honest old = (id : List ℕ) (outcome : Outcome) → honest → Assembles honest id old outcome → RefusesUnwritten honest id old outcome
-    → (table : Table) → IsChosen id old.panel.devices (readable old.history) table → table.geometry.format ≡ One → (expected : Outlook) → IsOutlook honest old table expected
+    → (table : Table) → IsChosen id old.panel.devices (readable old.history) table → (expected : Outlook) → IsOutlook honest old table expected
     → NoDeviceFailedIn old.history (bank_after outcome).history → IsAsForeseen id old table expected outcome
 
 -- what an inspection found is so of this bank
 pub record IsInspectionOf (honest : Type 0) (id : List ℕ) (bank : BankView) (examined : Examined) : Type 0 where
   pub of_id : examined.table.id ≡ id
   pub has_slots : slots_of examined.table ≤ bank.panel.devices
-  pub of_format_one : examined.table.geometry.format ≡ One
   pub chosen : IsChosen id bank.panel.devices (readable bank.history) examined.table
   pub slots : AreExaminedSlots honest bank examined.table examined.slots
   pub outlook : IsOutlook honest bank examined.table examined.outlook
   pub last : AreLastNumbers honest bank examined.table examined.last
 
--- What an inspection found comes true: it is so of this bank, and assembling it does what it says, if no device fails in that; without a set it is refused,
--- and so is a set of format 2, if no device fails in that.
+-- What an inspection found comes true: it is so of this bank, and assembling it does what it says, if no device fails in that; without a set it is refused.
 abbrev pub ComesTrue : (honest : Type 0) → List ℕ → BankView → Option Examined → Type 0
-ComesTrue honest id bank None = ((outcome : Outcome) → RefusesUnwritten honest id bank outcome → IsRefusedFor NoSet bank outcome)
-    ⊎ (ChoosesLarge id bank.panel.devices (readable bank.history)
-    × ((outcome : Outcome) → RefusesUnwritten honest id bank outcome → NoDeviceFailedIn bank.history (bank_after outcome).history
-    → IsRefusedFor NoSet bank outcome))
+ComesTrue honest id bank None = (outcome : Outcome) → RefusesUnwritten honest id bank outcome → IsRefusedFor NoSet bank outcome
 ComesTrue honest id bank (Some examined) = IsInspectionOf honest id bank examined
     × ((outcome : Outcome) → Assembles honest id bank outcome → RefusesUnwritten honest id bank outcome
     → NoDeviceFailedIn bank.history (bank_after outcome).history → IsAsForeseen id bank examined.table examined.outlook outcome)

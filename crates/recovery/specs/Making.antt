@@ -7,7 +7,7 @@ use Rattle.sector_model.specs.Bank.{IsLater, Panel}
 use Rattle.sector_model.specs.History.{Bytes, History, MayHold, MayLeave, Slots, is_down}
 use Rattle.sector_model.specs.Readable.{readable}
 use Rattle.sector_model.specs.Reads.{HasRead}
-use Rattle.layout_map.specs.declared.format.Format.TheVariants.{One, Two}
+use Rattle.layout_map.specs.declared.format.Format.TheVariants.{One}
 use Rattle.layout_map.specs.declared.geometry.Geometry.{Geometry}
 use Rattle.superblock.specs.declared.state.State.TheVariants.{InSync}
 use Rattle.superblock.specs.declared.table.Table.{Table}
@@ -80,20 +80,10 @@ pub record Makes (honest : Type 0) (id : List ℕ) (geometry : Geometry) (old : 
   pub first : (array : ArrayView) → outcome ≡ Opened array → IsFirstTable id geometry array.table
   pub number : (array : ArrayView) → outcome ≡ Opened array → array.number ≡ 0
   pub its_slots : (array : ArrayView) → outcome ≡ Opened array → HasItsSlots array.table array.panel
-  -- none of format 2 is served
+  -- none of format 2 is made
   pub of_format_one : (array : ArrayView) → outcome ≡ Opened array → array.table.geometry.format ≡ One
   pub rests : honest → IsQuietBeyond id (geometry.members + 2) old → (array : ArrayView) → outcome ≡ Opened array → RestsOn array None (zeros_of geometry)
   pub cause : (bank : BankView) (refusal : Refusal) → outcome ≡ Returned bank refusal → IsNoMake geometry bank.panel refusal
-
--- reads choose a table of format 2: such a set is not served yet, since its entries and volumes are not there
-pub record ChoosesLarge (id : List ℕ) (devices : ℕ) (image : Slots) : Type 0 where
-  pub table : Table
-  pub chosen : IsChosen id devices image table
-  pub large : table.geometry.format ≡ Two
-
--- there is no set to serve: no superblock of the id counts, or the table that is chosen is of format 2
-abbrev pub HasNoSet : List ℕ → (devices : ℕ) → Slots → Type 0
-HasNoSet id devices image = ((slot : ℕ) → HasNone id devices slot (image slot)) ⊎ ChoosesLarge id devices image
 
 -- a superblock counts that carries this table
 pub record IsCarried (id : List ℕ) (devices : ℕ) (image : Slots) (table : Table) : Type 0 where
@@ -103,14 +93,13 @@ pub record IsCarried (id : List ℕ) (devices : ℕ) (image : Slots) (table : Ta
   pub counted : Counts id devices slot (image slot) place superblock
   pub carries : superblock.table ≡ table
 
--- `chosen_table(bank, id)`: the chosen table, where it is of format 1, by reads alone. 16.
+-- `chosen_table(bank, id)`: the chosen table, by reads alone. 16.
 pub record FindsTable (honest : Type 0) (id : List ℕ) (old new : BankView) (answer : Result (Option Table) Refusal) : Type 0 where
   pub later : IsLater old.panel new.panel
   pub fits : (table : Table) → answer ≡ Ok (Some table) → (table.id ≡ id) × (slots_of table ≤ new.panel.devices)
-  pub of_format_one : (table : Table) → answer ≡ Ok (Some table) → table.geometry.format ≡ One
   pub reads : honest → HasRead old.history new.history
   pub carried : honest → (table : Table) → answer ≡ Ok (Some table) → IsCarried id new.panel.devices (readable old.history) table
   pub chosen : honest → NoDeviceFailed old.panel new.panel → (table : Table) → answer ≡ Ok (Some table)
       → IsChosen id new.panel.devices (readable new.history) table
-  pub none : honest → NoDeviceFailed old.panel new.panel → answer ≡ Ok None → HasNoSet id new.panel.devices (readable new.history)
+  pub none : honest → NoDeviceFailed old.panel new.panel → answer ≡ Ok None → (slot : ℕ) → HasNone id new.panel.devices slot (readable new.history slot)
   pub cause : (refusal : Refusal) → answer ≡ Err refusal → (refusal ≡ Worn) × (GREATEST_COUNT ≤ new.panel.calls)

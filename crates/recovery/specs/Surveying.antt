@@ -7,7 +7,6 @@ use Rattle.sector_model.specs.Bank.{IsLater}
 use Rattle.sector_model.specs.History.{Slots}
 use Rattle.sector_model.specs.Readable.{readable}
 use Rattle.sector_model.specs.Reads.{HasRead}
-use Rattle.layout_map.specs.declared.format.Format.TheVariants.{One}
 use Rattle.superblock.specs.declared.state.State.TheVariants.{InSync, Missing}
 use Rattle.superblock.specs.declared.table.Superblock.{Superblock}
 use Rattle.superblock.specs.declared.table.Table.{Table}
@@ -20,7 +19,7 @@ use Rattle.recovery.specs.declared.survey.Out.{Out}
 use Rattle.recovery.specs.declared.survey.Out.TheVariants as out
 use Rattle.recovery.specs.declared.survey.Survey.{Survey}
 use Rattle.recovery.specs.Finding.{NewestFound, OthersStay}
-use Rattle.recovery.specs.Making.{BankView, HasNoSet}
+use Rattle.recovery.specs.Making.{BankView}
 
 -- this is the own incarnation of what a slot has; 0 where no superblock of the set counts there
 abbrev pub IsOwn : List ℕ → (devices slot : ℕ) → Content → ℕ → Type 0
@@ -65,15 +64,14 @@ generation_by None = 0
 generation_by (Some newest) = newest.table.generation
 
 -- A survey of the superblocks of a bank, by reads alone: what it says is so of what reads give at its return. What a device holds that goes down in
--- it doesn't count, and a table of format 2 that is chosen is not told.
+-- it doesn't count.
 pub record Surveys (honest : Type 0) (id : List ℕ) (old new : BankView) (answer : Result (Option Survey) Refusal) : Type 0 where
   pub later : IsLater old.panel new.panel
   pub of_id : (survey : Survey) → answer ≡ Ok (Some survey) → survey.table.id ≡ id
   pub has_slots : (survey : Survey) → answer ≡ Ok (Some survey) → slots_of survey.table ≤ new.panel.devices
-  pub of_format_one : (survey : Survey) → answer ≡ Ok (Some survey) → survey.table.geometry.format ≡ One
   pub reads : honest → HasRead old.history new.history
   pub told : honest → (survey : Survey) → answer ≡ Ok (Some survey) → Tells id new.panel.devices (readable new.history) survey
-  pub none : honest → answer ≡ Ok None → HasNoSet id new.panel.devices (readable new.history)
+  pub none : honest → answer ≡ Ok None → (slot : ℕ) → HasNone id new.panel.devices slot (readable new.history slot)
   pub cause : (refusal : Refusal) → answer ≡ Err refusal → (refusal ≡ Worn) × (GREATEST_COUNT ≤ new.panel.calls)
 
 -- what is known of a survey that was made: the bank has the table's slots, and of an honest one what the survey tells is so of what reads give now

@@ -21,10 +21,10 @@ use superblock::Table;
 /// entry of the journals onto the journal and the members that lack it. A slot whose device goes down meanwhile is
 /// marked missing too. `entry` is where the array holds entries.
 ///
-/// `NoSet` where no superblock of this id counts, or the table is of format 2, of which no set is served yet; nothing
-/// was written then. `TwoLost` where two slots of the set are lost, by a table that was chosen at some moment of the
-/// call; nothing was written where both were lost before it wrote. `Worn` where the count of device calls, or the
-/// generation of the table, stands at 2^62. The bank is then given back as it stands, and the entry is given up.
+/// `NoSet` where no superblock of this id counts; nothing was written then. `TwoLost` where two slots of the set are
+/// lost, by a table that was chosen at some moment of the call; nothing was written where both were lost before it
+/// wrote. `Worn` where the count of device calls, or the generation of the table, stands at 2^62. The bank is then
+/// given back as it stands, and the entry is given up.
 pub fn assemble<B: Bank>(
     mut bank: B,
     mut entry: Entry,

@@ -27,8 +27,8 @@ const UNEXAMINED: ExaminedSlot = ExaminedSlot {
 };
 
 /// Inspects the set of this id, by reads of superblocks and seals alone: which table its superblocks choose, what each
-/// of its slots has, and what assembling it would do now. `None` where no superblock of this id counts, or the table
-/// is of format 2, of which no set is served yet; `Worn` where the count of device calls stands at 2^62.
+/// of its slots has, and what assembling it would do now. `None` where no superblock of this id counts; `Worn` where
+/// the count of device calls stands at 2^62.
 pub fn examine<B: Bank>(bank: &mut B, id: &[u8; 16]) -> Result<Option<Examined>, Refusal>
     ensures honest { B.honest bank.old ↔ B.honest bank.new }
     ensures examines { Examines (B.honest bank.old) id.now (bank_seen B.Bank bank.old) (bank_seen B.Bank bank.new)

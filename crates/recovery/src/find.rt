@@ -9,9 +9,9 @@ use sector_model::{Bank, Refusal, Sector, Stop, read_sector};
 use superblock::{Superblock, Table, counted, newer};
 
 /// The table that the superblocks of this id choose, by reads alone: that of the counted superblock with the greatest
-/// generation, of several in the lowest slot; `None` where none counts, or the table is of format 2, of which no set is
-/// served yet. Places are read slot by slot from 0, place 0 first; what a device holds that is down, that goes down
-/// here, or that is too short, does not count. `Worn` where the count of device calls stands at 2^62.
+/// generation, of several in the lowest slot; `None` where none counts. Places are read slot by slot from 0, place 0
+/// first; what a device holds that is down, that goes down here, or that is too short, does not count. `Worn` where the
+/// count of device calls stands at 2^62.
 pub fn chosen_table<B: Bank>(bank: &mut B, id: [u8; 16]) -> Result<Option<Table>, Refusal>
     ensures honest { B.honest bank.old ↔ B.honest bank.new }
     ensures found { FindsTable (B.honest bank.old) id (bank_seen B.Bank bank.old) (bank_seen B.Bank bank.new) result }

@@ -6,7 +6,7 @@ use sector_model::Bank;
 
 /// The law of outlooks. It computes nothing: its promise is what it is for.
 ///
-/// Assembling a set of format 1 on a bank does what an inspection of it says, where it is honest and no device fails.
+/// Assembling a set on a bank does what an inspection of it says, where it is honest and no device fails.
 pub fn outlook_law<B: Bank>(bank: &B)
     ensures { AssemblesAsForeseen (B.honest bank.now) (bank_seen B.Bank bank.now) }
 {

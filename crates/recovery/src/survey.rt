@@ -11,7 +11,6 @@ ghost use Rattle.recovery.specs.SeenBank.{bank_seen};
 use crate::Presence;
 use crate::find::newest_at;
 use crate::stale_superblocks::is_in;
-use layout_map::Format;
 use sector_model::{Bank, Refusal};
 use superblock::{State, Superblock, Table, least_of, newer};
 
@@ -37,9 +36,9 @@ pub(crate) enum Out {
     Two(u8, u8),
 }
 
-/// Reads each superblock place once, slot by slot from 0, place 0 first. `None` where no superblock of this id counts,
-/// or the table that is chosen is of format 2; `Worn` where the count of device calls stands at 2^62. What a device
-/// holds that is down, that goes down here, or that is too short for a place, does not count.
+/// Reads each superblock place once, slot by slot from 0, place 0 first. `None` where no superblock of this id counts;
+/// `Worn` where the count of device calls stands at 2^62. What a device holds that is down, that goes down here, or
+/// that is too short for a place, does not count.
 pub(crate) fn survey_bank<B: Bank>(bank: &mut B, id: &[u8; 16]) -> Result<Option<Survey>, Refusal>
     ensures honest { B.honest bank.old ↔ B.honest bank.new }
     ensures surveyed { Surveys (B.honest bank.old) id.now (bank_seen B.Bank bank.old) (bank_seen B.Bank bank.new)
@@ -55,15 +54,11 @@ pub(crate) fn survey_bank<B: Bank>(bank: &mut B, id: &[u8; 16]) -> Result<Option
         best = newer(best, next);
     }
     match best {
-        Some(best) => match best.table.geometry.format {
-            Format::One => Ok(Some(Survey {
-                table: best.table,
-                own,
-                generations,
-            })),
-            // Entries and volumes of format 2 are not there yet, so that no call serves such a set.
-            Format::Two => Ok(None),
-        },
+        Some(best) => Ok(Some(Survey {
+            table: best.table,
+            own,
+            generations,
+        })),
         None => Ok(None),
     }
 }

@@ -37,7 +37,6 @@ assembles_for honest other id bank outcome so assembles = record {
   later = assembles.later;
   of_id = assembles.of_id;
   its_slots = assembles.its_slots;
-  of_format_one = assembles.of_format_one;
   moments = λ fair. assembles.moments (so fair);
   rests = λ fair. assembles.rests (so fair);
   states = λ fair. assembles.states (so fair);

@@ -132,7 +132,7 @@ extents_are geometry one three eight more =
     (count_is geometry.format geometry.members geometry.chunk geometry.stripes one three eight more)
 
 pub opened_fresh : (array : ArrayView) (store : StoreView) → IsMadeFresh array → Opens (Unit {0}) array (Opened store) → ∥ HasNoVolumes store ∥₁
-opened_fresh array store fresh opens = ∥∥₁_map (fresh_set_shows_none array.table.geometry) by_shown
+opened_fresh array store fresh opens = ∥∥₁_map (fresh_set_shows_none array.table.geometry fresh.of_format_one) by_shown
   where
     by_shown : Shows (extents_in array.table.geometry) (zeros_of array.table.geometry) no_volumes → HasNoVolumes store
     by_shown shows =
@@ -149,7 +149,7 @@ opened_fresh array store fresh opens = ∥∥₁_map (fresh_set_shows_none array
 open_refused_for : (array : ArrayView) (bank : BankView) (refusal : Refusal) → IsMadeFresh array → IsNoOpening (Unit {0}) array bank refusal
     → IsFreshRefusal refusal
 open_refused_for array bank BadTable fresh why =
-    absurd (∥∥₁_elim (fresh_set_shows_none array.table.geometry) (hlevel props)
+    absurd (∥∥₁_elim (fresh_set_shows_none array.table.geometry fresh.of_format_one) (hlevel props)
     (λ shows. why.0 tt None (zeros_of array.table.geometry) no_volumes fresh.rests shows))
 open_refused_for array bank TwoLost fresh why = inr (inr tt)
 open_refused_for array bank Worn fresh why = inr (inr tt)

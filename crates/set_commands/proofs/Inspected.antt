@@ -31,7 +31,6 @@ module _ (honest still : Type 0) (goes_on : honest → still) where
     reads_until = λ fair. is.reads_until (goes_on fair);
     of_id = is.of_id;
     has_slots = is.has_slots;
-    of_format_one = is.of_format_one;
     chosen = λ fair. is.chosen (goes_on fair);
     slots = slots_by honest still goes_on is.read examined.table examined.slots is.slots;
     outlook = outlook_still honest still goes_on is.read examined.table examined.outlook is.outlook;

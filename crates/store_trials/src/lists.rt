@@ -1,6 +1,7 @@
 //! Logical lists that were spelled out by hand, and the volumes in them.
 use crate::testing::{all, front, same};
 use extents::ExtentLayout;
+use layout_map::Format;
 use sector_model::Sector;
 use std::process::Abort;
 use volume_table::oracle::{block_shown, blocks_in_volume, table_shown};
@@ -19,6 +20,7 @@ const ENTRIES: &[u8] = b"\x01\x00\x01\x00\x01\x00\x00\x00";
 // So many extents of 64 blocks each, from sector 64 on.
 fn of_64(count: u8) -> ExtentLayout {
     ExtentLayout {
+        format: Format::One,
         first: 64,
         blocks: 64,
         count: u32::from(count),
@@ -28,6 +30,7 @@ fn of_64(count: u8) -> ExtentLayout {
 // The extents of a set in which they are smaller: 8 of 16 blocks each, from sector 64 on.
 fn eight_of_16() -> ExtentLayout {
     ExtentLayout {
+        format: Format::One,
         first: 64,
         blocks: 16,
         count: 8,

@@ -1,5 +1,5 @@
 -- Assembling a set that is safe: what a crash in it leaves, what it gives, and that it is refused for a counter alone.
-use Rattle.std.proofs.Common.{◌≡◌, ◌≢◌, ◌⊎◌, inl, inr, ℕ, ◌+◌, ◌<◌, Bool, true, false, List, [], Option, Some, None, refl, sym, ap, ◌∙◌, subst, subst₂, ◌==◌, ◌||◌}
+use Rattle.std.proofs.Common.{◌≡◌, ◌≢◌, ◌⊎◌, inl, inr, ℕ, ◌+◌, ◌<◌, Bool, true, false, List, [], Option, Some, None, refl, sym, ◌∙◌, subst, subst₂, ◌==◌, ◌||◌}
 use Rattle.std.proofs.Common.{cond}
 use Rattle.std.specs.Prelude.{nat_lt}
 use Rattle.std.proofs.lemmas.Bool.{cases_eq}
@@ -14,12 +14,10 @@ use Rattle.sector_model.specs.Readable.{readable}
 use Rattle.sector_model.specs.Reads.{HasRead}
 use Rattle.sector_model.proofs.Readable.{readable_left}
 use Rattle.sector_model.proofs.Steps.{throughout_cut, throughout_last, throughout_more}
-use Rattle.layout_map.specs.declared.format.Format.TheVariants.{One}
-use Rattle.layout_map.specs.declared.geometry.Geometry.{Geometry}
 use Rattle.superblock.specs.declared.table.Table.{Table}
 use Rattle.superblock.specs.Cases as cases
 use Rattle.superblock.specs.Cases.{HasNone, MayBeOut, with_slot}
-use Rattle.superblock.specs.Counted.{IsChosen, IsInFull}
+use Rattle.superblock.specs.Counted.{Counts, IsChosen, IsInFull}
 use Rattle.superblock.specs.Losses.{IsLostAt, IsSingleFailure, OthersAreUp}
 use Rattle.superblock.specs.NextTables.{slots_of}
 use Rattle.array_io.specs.Believed.Holds.{Holds}
@@ -30,7 +28,6 @@ use Rattle.array_io.proofs.Images.Codecs.{spellings}
 use Rattle.array_io.proofs.Images.Counting.{none_is_out}
 use Rattle.array_io.proofs.Images.Put.{put_elsewhere, put_there}
 use Rattle.recovery.proofs.AssembledLaw.{reads_hold}
-use Rattle.recovery.proofs.AssembledUnwritten.{has_set}
 use Rattle.recovery.specs.Making as recovery
 use Rattle.recovery.specs.Making.{Opened, Outcome, Returned, bank_after}
 use Rattle.recovery.specs.Assembling.{Assembles, IsNoAssembly, IsOfAssembly, IsTwoLostThen, MayAssemble}
@@ -187,15 +184,14 @@ not_two_then base devices (Some lost) X old new moments (after, (of_set, is, up)
     (two_of base.id devices old new two holds.table (then_table base devices (readable (cut_at two.t new)) (Some lost) X holds two.table two.chosen))
 
 -- there is a superblock that counts
-not_none : (base : Table) (devices : ℕ) (lost : Option cases.Lost) (X : List (List Bytes)) (h : History) → base.geometry.format ≡ One
-    → HoldsNow base devices lost X h
+not_none : (base : Table) (devices : ℕ) (lost : Option cases.Lost) (X : List (List Bytes)) (h : History) → HoldsNow base devices lost X h
     → IsSingleFailure (slots_of base) lost h
-    → recovery.HasNoSet base.id devices (readable h) → ⊥
-not_none base devices lost X h of_format_one now (after, is) none =
+    → ((slot : ℕ) → HasNone base.id devices slot (readable h slot)) → ⊥
+not_none base devices lost X h now (after, is) none =
     let holds = now after (readable h) is (readable_left h) in
-    has_set spellings base.id devices (readable h) holds.table
-    (subst (λ (i : List ℕ). IsChosen i devices (readable h) holds.table) holds.not_older.same_id holds.whole.chosen)
-    (ap (λ (g : Geometry). g.format) holds.not_older.same_geometry ∙ of_format_one) none
+    let chosen = holds.whole.chosen in
+    none chosen.slot chosen.place chosen.best
+    (subst (λ (i : List ℕ). Counts i devices chosen.slot (readable h chosen.slot) chosen.place chosen.best) holds.not_older.same_id chosen.counted)
 
 -- A run that begins safely: what assembling starts from, and what holds at each moment of it.
 pub may_start : (made : Table) (devices : ℕ) (maps : List VolumeMap) (world : World) (panel : Panel) → panel.devices ≡ devices
@@ -234,29 +230,27 @@ single_failure_by slots base lost h same one = subst (λ (n : ℕ). IsSingleFail
 
 refused_for : (made : Table) (devices : ℕ) (maps : List VolumeMap) (world : World) (panel : Panel) (bank : recovery.BankView) (refusal : Refusal)
     (safe : IsSafe made devices maps world)
-    → made.geometry.format ≡ One → bank.panel.devices ≡ devices
+    → bank.panel.devices ≡ devices
     → HoldsThroughout safe.base devices world.fate.lost safe.stands.lists (Began world.image) bank.history
     → IsSingleFailure (slots_of safe.base) world.fate.lost bank.history
     → IsOfAssembly refusal → IsNoAssembly made.id (begun_with panel world.image) bank refusal
     → (refusal ≡ Worn) × IsNoAssembly made.id (begun_with panel world.image) bank Worn
-refused_for made devices maps world panel bank NoSet safe of_format_one of_bank moments one of why =
-    absurd (not_none safe.base devices world.fate.lost safe.stands.lists bank.history
-    (ap (λ (g : Geometry). g.format) safe.not_older.same_geometry ∙ of_format_one) (throughout_last bank.history moments) one
-    (subst₂ (λ (i : List ℕ) (d : ℕ). recovery.HasNoSet i d (readable bank.history)) (sym safe.not_older.same_id) of_bank why.0))
-refused_for made devices maps world panel bank TwoLost safe of_format_one of_bank moments one of why =
+refused_for made devices maps world panel bank NoSet safe of_bank moments one of why =
+    absurd (not_none safe.base devices world.fate.lost safe.stands.lists bank.history (throughout_last bank.history moments) one
+    (λ slot. subst₂ (λ (i : List ℕ) (d : ℕ). HasNone i d slot (readable bank.history slot)) (sym safe.not_older.same_id) of_bank (why.0 slot)))
+refused_for made devices maps world panel bank TwoLost safe of_bank moments one of why =
     absurd (not_two_then safe.base devices world.fate.lost safe.stands.lists (Began world.image) bank.history moments one
     (subst₂ (λ (i : List ℕ) (d : ℕ). IsTwoLostThen i d (Began world.image) bank.history) (sym safe.not_older.same_id) of_bank why))
-refused_for made devices maps world panel bank Worn safe of_format_one of_bank moments one of why = (refl, why)
-refused_for made devices maps world panel bank refusal safe of_format_one of_bank moments one of why = absurd of
+refused_for made devices maps world panel bank Worn safe of_bank moments one of why = (refl, why)
+refused_for made devices maps world panel bank refusal safe of_bank moments one of why = absurd of
 
 -- with one slot lost at most, assembling is refused only for a counter
-pub assembled_unless_worn : (made : Table) (devices : ℕ) (maps : List VolumeMap) (world : World) (panel : Panel) (outcome : Outcome)
-    → made.geometry.format ≡ One → panel.devices ≡ devices
+pub assembled_unless_worn : (made : Table) (devices : ℕ) (maps : List VolumeMap) (world : World) (panel : Panel) (outcome : Outcome) → panel.devices ≡ devices
     → IsSafe made devices maps world → Assembles (Unit {0}) made.id (begun_with panel world.image) outcome
     → IsAssembledUnlessWorn made.id (slots_of made) world.fate.lost (begun_with panel world.image) outcome
-assembled_unless_worn made devices maps world panel (Opened array) of_format_one of_bank safe assembles = tt
-assembled_unless_worn made devices maps world panel (Returned bank refusal) of_format_one of_bank safe assembles = λ one.
-    refused_for made devices maps world panel bank refusal safe of_format_one (assembles.later.devices ∙ of_bank)
+assembled_unless_worn made devices maps world panel (Opened array) of_bank safe assembles = tt
+assembled_unless_worn made devices maps world panel (Returned bank refusal) of_bank safe assembles = λ one.
+    refused_for made devices maps world panel bank refusal safe (assembles.later.devices ∙ of_bank)
     (assembling_holds made devices maps world panel (Returned bank refusal) of_bank safe assembles)
     (single_failure_by (slots_of made) safe.base world.fate.lost bank.history (sym (same_slots made safe.base safe.not_older)) one)
     (assembles.refused bank refusal refl) (assembles.cause tt bank refusal refl)

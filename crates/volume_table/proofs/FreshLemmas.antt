@@ -1,5 +1,6 @@
 -- A set that was just made shows no volume.
 use Rattle.std.proofs.Common.{◌≡◌, inl, inr, ℕ, List, [], ◌∷◌, map, take, replicate, refl, subst, sym, ap, ◌∙◌, arith}
+use Rattle.layout_map.specs.declared.format.Format.TheVariants.{One}
 use Rattle.std.proofs.Math.Logic.{∥∥₁_map}
 use Rattle.std.proofs.lemmas.List.FromFn.{take-map-range_with_len}
 use Rattle.std.proofs.lemmas.List.Elements.{Contains-push, Contains-push_cases}
@@ -45,12 +46,17 @@ spelled_there : (geometry : Geometry) (table : VolumeTable) → IsEmpty table �
 spelled_there geometry table empty =
     ap (λ (v : ℕ). take (table_length v) (zeros_of geometry)) empty.first_version ∙ first_eleven geometry ∙ sym (empty_is_zeros table empty)
 
-shown_by : (geometry : Geometry) → ((table : VolumeTable) × IsEmpty table) → Shows (extents_in geometry) (zeros_of geometry) no_volumes
-shown_by geometry (table, empty) =
-    empty_is_shown (extents_in geometry) (zeros_of geometry) table (spelled_there geometry table empty) empty.first_version empty.no_record empty.all_free
+-- their format is the set's
+format_in : (geometry : Geometry) → (extents_in geometry).format ≡ geometry.format
+unfolding extents_in
+format_in geometry = refl
+
+shown_by : (geometry : Geometry) → geometry.format ≡ One → ((table : VolumeTable) × IsEmpty table) → Shows (extents_in geometry) (zeros_of geometry) no_volumes
+shown_by geometry one (table, empty) =
+    empty_is_shown (extents_in geometry) (zeros_of geometry) table (format_in geometry ∙ one) (spelled_there geometry table empty) empty.first_version empty.no_record empty.all_free
 
 pub fresh_set_shows_none : FreshSetShowsNone
-fresh_set_shows_none geometry = ∥∥₁_map empty_exists (shown_by geometry)
+fresh_set_shows_none geometry one = ∥∥₁_map empty_exists (shown_by geometry one)
 
 no_map : (list : List Bytes) (lists : List (List Bytes)) → Contains [] list → ⊥
 no_map list lists (k, below, is) = omega (arith, below)
@@ -68,7 +74,7 @@ only_zeros geometry logical shows among = elim (Contains-push_cases [] (zeros_of
 ]
 
 pub fresh_set_stands_for_none : FreshSetStandsForNone
-fresh_set_stands_for_none devices table image fresh = ∥∥₁_map (fresh_set_shows_none table.geometry) (λ shows. record {
+fresh_set_stands_for_none devices table image one fresh = ∥∥₁_map (fresh_set_shows_none table.geometry one) (λ shows. record {
   lists = zeros_of table.geometry ∷ [];
   holds = fresh_set.fresh_set_holds spellings (holds_from_core spellings) devices table image fresh;
   shown = λ logical among. only_zeros table.geometry logical shows among;

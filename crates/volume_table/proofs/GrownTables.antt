@@ -1,5 +1,7 @@
 -- The table of volumes and the map of its extents, when a volume gets extents, when it gives its own back, and when it gets another name.
-use Rattle.std.proofs.Common.{◌≡◌, ◌≢◌, ◌⊎◌, inl, inr, ⊎_elim, ℕ, ◌+◌, ◌-◌, ◌<◌, ◌≤◌, List, length, take, slice_set, Option, Some, None, refl, sym, ap}
+use Rattle.std.proofs.Common.{◌≡◌, ◌≢◌, ◌⊎◌, inl, inr, ⊎_elim, ℕ, ◌+◌, ◌-◌, ◌<◌, ◌≤◌, List, length, take, slice_set, Option, Some, None, refl, sym, ap, true}
+use Rattle.volume_table.proofs.TableLemmas.{any_version}
+use Rattle.extents.specs.Versions.{is_version_of}
 use Rattle.std.proofs.Common.{◌∙◌, subst, Ok, Err, arith}
 use Rattle.std.proofs.Props.{props}
 use Rattle.std.proofs.Math.Logic.{∥∥₁_elim}
@@ -65,10 +67,12 @@ kept_is_map extents table owners kept is_table =
 
 -- a map of so many extents is that of the table whose owners are its own
 kept_by_owners : (extents : ExtentLayout) (table : VolumeTable) (owners : List (Option Owned)) → length owners ≡ extents.count
-    → table.extents ≡ owners_padded owners → ∥ HaveTheirPlaces extents.blocks table.records (owners_padded owners) ∥₁ → AreKept extents table owners
-kept_by_owners extents table owners long same placed = record {
+    → table.extents ≡ owners_padded owners → ∥ HaveTheirPlaces extents.blocks table.records (owners_padded owners) ∥₁
+    → is_version_of extents.format table.version ≡ true → AreKept extents table owners
+kept_by_owners extents table owners long same placed version = record {
   same = sym (take_padded owners) ∙ ap (λ n. take n (owners_padded owners)) long ∙ ap (take extents.count) (sym same);
   of_set = record {
+    version = version;
     free_beyond = λ extent beyond.
         ap (λ (its : List (Option Owned)). owner_of its extent) same ∙ owner_padded owners extent
         ∙ get_or_past owners extent None (omega (arith, beyond, long));
@@ -83,7 +87,8 @@ pub kept_after : (geometry later : Geometry) (table new : VolumeTable) (owners o
 kept_after geometry later table new owners other records kept as_long same same_records placed is =
     subst (λ (its : Geometry). AreKept (extents_in its) new other) (sym is)
     (kept_by_owners (extents_in geometry) new other (as_long ∙ kept_length (extents_in geometry) table owners kept) same
-    (subst (λ (its : List (Option Record)). ∥ HaveTheirPlaces (extents_in geometry).blocks its (owners_padded other) ∥₁) (sym same_records) placed))
+    (subst (λ (its : List (Option Record)). ∥ HaveTheirPlaces (extents_in geometry).blocks its (owners_padded other) ∥₁) (sym same_records) placed)
+    (any_version (extents_in geometry).format table.version new.version kept.of_set.version))
 
 -- the owners of a map, and free extents after them, are a map
 padded_is_map : (owners : List (Option Owned)) → IsExtentMap owners → IsExtentMap (owners_padded owners)

@@ -1,5 +1,8 @@
 -- What a list says of the names, lengths and blocks of its volumes.
 use Rattle.std.proofs.Common.{◌≡◌, ◌≢◌, ℕ, ◌+◌, ◌<◌, List, [], length, take, drop, get_or, Option, Some, None, refl, sym, ap, subst, ◌∙◌, arith}
+use Rattle.extents.specs.Versions.{is_version_of}
+use Rattle.layout_map.specs.declared.format.Format.{Format}
+use Rattle.layout_map.specs.declared.format.Format.TheVariants.{One}
 use Rattle.std.proofs.lemmas.List.{length-take, length-drop, get_or-take, get_or-drop}
 use Rattle.std.specs.List.Sorted.{IsStrictlySortedBy}
 use Rattle.std.proofs.lemmas.List.Elements.{All-nil}
@@ -75,15 +78,16 @@ none_within : (extents : ExtentLayout) → AreVolumes extents no_volumes
 unfolding IsStrictlySortedBy
 none_within extents = record { is_version = (omega arith, omega arith); few = omega arith; each = All-nil (IsVolume 1); rising = tt; within = omega arith }
 
-pub empty_is_shown : (extents : ExtentLayout) (sectors : List Block) (table : VolumeTable) → Spell sectors table → table.version ≡ 1
+pub empty_is_shown : (extents : ExtentLayout) (sectors : List Block) (table : VolumeTable) → extents.format ≡ One → Spell sectors table → table.version ≡ 1
     → ((number : ℕ) → record_of table.records number ≡ None) → ((extent : ℕ) → owner_of table.extents extent ≡ None) → Shows extents sectors no_volumes
-empty_is_shown extents sectors table spelled first_version unused free =
+empty_is_shown extents sectors table one spelled first_version unused free =
     record {
       limits = none_within extents;
       table = table;
       of_version = first_version;
       spelled = spelled;
       of_set = record {
+        version = ap (λ (format : Format). is_version_of format table.version) one;
         free_beyond = λ extent above. free extent;
         placed = ∣ (λ volume. subst (λ n. HasPlaces table.extents volume n) (sym (ap (extents_of extents.blocks) (unused volume))) (none_there volume)) ∣₁;
       };

@@ -14,7 +14,6 @@ use Rattle.sector_model.specs.Moments.{Throughout, here}
 use Rattle.sector_model.specs.Readable.{readable}
 use Rattle.sector_model.proofs.Steps.{throughout_last}
 use Rattle.layout_map.specs.declared.geometry.Geometry.{Geometry}
-use Rattle.layout_map.specs.declared.format.Format.TheVariants.{One}
 use Rattle.superblock.specs.declared.table.Table.{Table}
 use Rattle.superblock.specs.Losses.{IsSingleFailure}
 use Rattle.superblock.specs.NextTables.{IsNotOlder, slots_of}
@@ -303,35 +302,35 @@ safe_assembly made devices maps world panel array fate of_bank safe is =
 
 -- so does a run
 run_keeps : (made : Table) (devices : ℕ) (before : Before) (maps : List VolumeMap) (panel : Panel) (world left : World)
-    → ((volumes : VolumeMap) → Contains maps volumes → IsAfterPrefix (extents_in made.geometry) before volumes) → made.geometry.format ≡ One
+    → ((volumes : VolumeMap) → Contains maps volumes → IsAfterPrefix (extents_in made.geometry) before volumes)
     → panel.devices ≡ devices
     → IsSafe made devices maps world
     → (run : Run made.id (slots_of made) panel world left) → (later : Before → Type 0) → KeepsLater made devices left later
     → RunKeeps made.id (extents_in made.geometry) (slots_of made) before run later
-run_keeps made devices before maps panel world left each one of_bank safe (only_read h reads crashes) later keeps =
+run_keeps made devices before maps panel world left each of_bank safe (only_read h reads crashes) later keeps =
     keeps before maps each (crashes_safe made safe.base devices world.fate.lost maps world.fate (Began world.image) h left safe.not_older safe.replaced
     (assembling_stands made devices maps world h safe (reading_holds made devices maps world h safe reads)) crashes)
-run_keeps made devices before maps panel world left each one of_bank safe (in_assembling outcome assembles crashes) later keeps = (
-  assembled_unless_worn made devices maps world panel outcome one of_bank safe assembles,
+run_keeps made devices before maps panel world left each of_bank safe (in_assembling outcome assembles crashes) later keeps = (
+  assembled_unless_worn made devices maps world panel outcome of_bank safe assembles,
   keeps before maps each (crashes_safe made safe.base devices world.fate.lost maps world.fate (Began world.image) (recovery.bank_after outcome).history left
       safe.not_older safe.replaced
       (assembling_stands made devices maps world (recovery.bank_after outcome).history safe
       (assembling_holds made devices maps world panel outcome of_bank safe assembles)) crashes),
 )
-run_keeps made devices before maps panel world left each one of_bank safe (assembled array fate is session) later keeps =
+run_keeps made devices before maps panel world left each of_bank safe (assembled array fate is session) later keeps =
     let assembly = safe_assembly made devices maps world panel array fate of_bank safe is in
     session_keeps made devices before array fate assembly.volumes left assembly.safe (each assembly.volumes assembly.among) session later keeps
 
 -- and so do all
 pub runs_keep : (made : Table) (devices : ℕ) (before : Before) (maps : List VolumeMap) (world : World)
-    → ((volumes : VolumeMap) → Contains maps volumes → IsAfterPrefix (extents_in made.geometry) before volumes) → made.geometry.format ≡ One
+    → ((volumes : VolumeMap) → Contains maps volumes → IsAfterPrefix (extents_in made.geometry) before volumes)
     → IsSafe made devices maps world
     → (runs : Runs made.id devices (slots_of made) world) → RunsKeep made.id (extents_in made.geometry) devices (slots_of made) before runs
-runs_keep made devices before maps world each one safe no_more = tt
-runs_keep made devices before maps world each one safe (next_run begun left panel begins same of_bank run runs) =
-    run_keeps made devices before maps panel begun left each one of_bank (begins_safe made devices maps world begun safe begins same) run
+runs_keep made devices before maps world each safe no_more = tt
+runs_keep made devices before maps world each safe (next_run begun left panel begins same of_bank run runs) =
+    run_keeps made devices before maps panel begun left each of_bank (begins_safe made devices maps world begun safe begins same) run
     (λ then. RunsKeep made.id (extents_in made.geometry) devices (slots_of made) then runs)
-    (λ next others each' safe'. runs_keep made devices next others left each' one safe' runs)
+    (λ next others each' safe'. runs_keep made devices next others left each' safe' runs)
 
 no_device : (device : Replaced) → Contains [] device → ⊥
 no_device device (k, below, is) = omega (arith, below)
@@ -354,8 +353,8 @@ made_safe id geometry bank array makes quiet shows = record {
 
 -- the theorem
 pub headline : Headline
-headline id geometry bank array left makes quiet session runs = ∥∥₁_map (fresh_set_shows_none array.table.geometry) (λ shows.
+headline id geometry bank array left makes quiet session runs = ∥∥₁_map (fresh_set_shows_none array.table.geometry (makes.of_format_one array refl)) (λ shows.
     session_keeps array.table array.panel.devices nothing_before array nothing_lost no_volumes left (made_safe id geometry bank array makes quiet shows)
     record { n = 0; has_acknowledged = omega arith; is_prefix = omega arith; is = refl } session
     (λ before. RunsKeep array.table.id (extents_in array.table.geometry) array.panel.devices (slots_of array.table) before runs)
-    (λ next maps each safe. runs_keep array.table array.panel.devices next maps left each (makes.of_format_one array refl) safe runs))
+    (λ next maps each safe. runs_keep array.table array.panel.devices next maps left each safe runs))

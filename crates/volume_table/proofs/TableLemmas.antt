@@ -1,5 +1,8 @@
 -- What a logical list shows after its table is changed.
 use Rattle.std.proofs.Common.{◌≡◌, ◌≢◌, ⊎_elim, inl, inr, ℕ, ◌≤◌, Bool, true, false, List, [], ◌++◌, take, get_or, slice_set, IsTrue, Option, Some, None}
+use Rattle.extents.specs.Versions.{is_version_of}
+use Rattle.layout_map.specs.declared.format.Format.{Format}
+use Rattle.layout_map.specs.declared.format.Format.TheVariants.{One, Two}
 use Rattle.std.proofs.Common.{refl, sym}
 use Rattle.std.proofs.Common.{ap, subst, ◌∙◌, arith}
 use Rattle.std.proofs.Props.{props}
@@ -325,11 +328,17 @@ renaming_is_shown_by {extents} records new_records owners new_owners before left
       stand = λ j extent below at. same_sector extent j ∙ its.stand j extent below (sym (same_owner extent) ∙ at);
     }
 
+-- a set that may have a table of one of the versions may have one of any
+pub any_version : (format : Format) (version other : ℕ) → is_version_of format version ≡ true → is_version_of format other ≡ true
+any_version One version other is = refl
+any_version Two version other is = is
+
 -- a table with the same owners, in which one record has another name, may be the set's too
 renamed_of_set : (extents : ExtentLayout) (was table : VolumeTable) (number : ℕ) (entry : Record) (name : List ℕ) → record_of was.records number ≡ Some entry
     → ChangesName was.records table.records number entry name → ((extent : ℕ) → owner_of table.extents extent ≡ owner_of was.extents extent)
     → IsOfSet extents was → IsOfSet extents table
 renamed_of_set extents was table number entry name used changes same_owner of_set = record {
+  version = any_version extents.format was.version table.version of_set.version;
   free_beyond = λ extent above. same_owner extent ∙ of_set.free_beyond extent above;
   placed = ∥∥₁_elim of_set.placed (hlevel props) (λ placed. ∣ (λ volume.
       places_by_owner was.extents table.extents volume (extents_of extents.blocks (record_of table.records volume)) same_owner
@@ -397,6 +406,7 @@ limits_later extents volumes limits = record {
 pub same_of_set : (extents : ExtentLayout) (was table : VolumeTable) → table.records ≡ was.records → table.extents ≡ was.extents → IsOfSet extents was
     → IsOfSet extents table
 same_of_set extents was table same_records same_extents of_set = record {
+  version = any_version extents.format was.version table.version of_set.version;
   free_beyond = λ extent above. ap (λ (its : List (Option Owned)). owner_of its extent) same_extents ∙ of_set.free_beyond extent above;
   placed = subst (λ (its : List (Option Record)). ∥ HaveTheirPlaces extents.blocks its table.extents ∥₁) (sym same_records)
       (subst (λ (its : List (Option Owned)). ∥ HaveTheirPlaces extents.blocks was.records its ∥₁) (sym same_extents) of_set.placed);

@@ -6,7 +6,7 @@ use Rattle.extents.specs.declared.extent_layout.ExtentLayout.{ExtentLayout}
 use Rattle.extents.specs.SetExtents.{of_64}
 use Rattle.sector_model.specs.declared.refusal.Refusal.TheVariants.{BadName, BadSize, Exists, TooManyVolumes, NoSpace, NoVolume, BadCount, OutOfRange}
 use Rattle.sector_model.specs.declared.refusal.Refusal.TheVariants.{WouldLose, NotMissing, Incomplete}
-use Rattle.layout_map.specs.declared.format.Format.TheVariants.{One}
+use Rattle.layout_map.specs.declared.format.Format.TheVariants.{One, Two}
 use Rattle.superblock.specs.declared.state.State.TheVariants.{InSync}
 use Rattle.volume_table.specs.Volumes.{Block, zero_block, VolumeMap, no_volumes}
 use Rattle.volume_table.specs.VolumeStep.{Command, Create, Extend, Remove, Read, Write, Rename, Names, Upgrade, SetCommand, Fail, Replace, RebuildStep, Scrub}
@@ -20,6 +20,7 @@ seven = of_64 7 (omega arith)
 
 abbrev pub twenty_eight : ExtentLayout
 twenty_eight = record {
+  format = Two;
   first = 64;
   blocks = 16;
   count = 28;

@@ -1,5 +1,6 @@
 -- What a logical list shows.
 use Rattle.std.specs.Prelude.{◌≡◌, ◌≢◌, ◌↔◌, ℕ, ◌+◌, ◌<◌, ◌≤◌, IsTrue, List, [], ◌++◌, length, take, slice_index_or, All, Option, Some, None}
+use Rattle.layout_map.specs.declared.format.Format.TheVariants.{One}
 use Rattle.extents.specs.declared.extent_layout.ExtentLayout.{ExtentLayout}
 use Rattle.extents.specs.SetExtents.{IsOfSet}
 use Rattle.extents.specs.declared.owned.Owned.{Owned}
@@ -144,7 +145,7 @@ UpgradeIsShown = (extents : ExtentLayout) (before left : List Block) (volumes : 
     → ((sector : ℕ) → table_length LAST_VERSION ≤ sector → slice_index_or left sector [] ≡ slice_index_or before sector [])
     → Shows extents left (volumes_after extents Upgrade volumes)
 
--- a list whose table is empty, and of version 1, shows no volume
+-- a list of a set of format 1 whose table is empty, and of version 1, shows no volume
 abbrev pub EmptyIsShown : Type 0
-EmptyIsShown = (extents : ExtentLayout) (sectors : List Block) (table : VolumeTable) → Spell sectors table → table.version ≡ FIRST_VERSION
+EmptyIsShown = (extents : ExtentLayout) (sectors : List Block) (table : VolumeTable) → extents.format ≡ One → Spell sectors table → table.version ≡ FIRST_VERSION
     → ((number : ℕ) → record_of table.records number ≡ None) → ((extent : ℕ) → owner_of table.extents extent ≡ None) → Shows extents sectors no_volumes

@@ -1,5 +1,6 @@
 -- Which volumes a case stands for, and on which volumes a store is settled.
 use Rattle.std.specs.Prelude.{◌≡◌, ℕ, List, [], ◌∷◌, Contains, Option, None}
+use Rattle.layout_map.specs.declared.format.Format.TheVariants.{One}
 use Rattle.sector_model.specs.declared.refusal.Refusal.{Refusal}
 use Rattle.sector_model.specs.History.{Bytes, History, MayLeave, Slots}
 use Rattle.sector_model.specs.Moments.{Throughout}
@@ -73,9 +74,9 @@ StandsAfterAStart = (base : Table) (devices : ℕ) (table : Table) (old new : Ca
 
 -- a set that was just made shows no volume
 abbrev pub FreshSetShowsNone : Type 0
-FreshSetShowsNone = (geometry : Geometry) → ∥ Shows (extents_in geometry) (zeros_of geometry) no_volumes ∥₁
+FreshSetShowsNone = (geometry : Geometry) → geometry.format ≡ One → ∥ Shows (extents_in geometry) (zeros_of geometry) no_volumes ∥₁
 
 -- and stands for none
 abbrev pub FreshSetStandsForNone : Type 0
-FreshSetStandsForNone = (devices : ℕ) (table : Table) (image : Slots) → IsFresh devices table image
+FreshSetStandsForNone = (devices : ℕ) (table : Table) (image : Slots) → table.geometry.format ≡ One → IsFresh devices table image
     → ∥ Stands table devices record { image = image; lost = None } (no_volumes ∷ []) ∥₁

@@ -2,7 +2,7 @@ use Rattle.std.proofs.Common.{ℕ, Ok, arith, refl, replicate}
 use Rattle.std.proofs.lemmas.List.{length-replicate}
 use Rattle.std.proofs.lemmas.Result.{err_from_is_err_and}
 use Rattle.recovery.specs.Making.{bank_view}
-use Rattle.recovery.proofs.Surveyed.{left_over, surveyed_begun, surveyed_err, surveyed_large, surveyed_none, surveyed_some, surveyed_step}
+use Rattle.recovery.proofs.Surveyed.{left_over, surveyed_begun, surveyed_err, surveyed_none, surveyed_some, surveyed_step}
 use Rattle.recovery.proofs.survey.survey_bank.Goals as goal
 
 pub loop-slot-init : goal.loop-slot-init
@@ -61,21 +61,13 @@ loop-slot-preserved g c =
           c.newer-best.ensures c.own_in.ensures c.generation_in.ensures;
     }
 
-pub returns-in-One-clause-surveyed : goal.returns-in-One-clause-surveyed
-returns-in-One-clause-surveyed g c =
+pub returns-in-Some-clause-surveyed : goal.returns-in-Some-clause-surveyed
+returns-in-Some-clause-surveyed g c =
     surveyed_some (g.B.Bank.honest c.args.bank.now) c.args.id.now c.loop-slot.slot
     (bank_view (g.B.Bank.panel c.args.bank.now) (g.B.Bank.history c.args.bank.now))
     (bank_view (g.B.Bank.panel c.loop-slot.bank) (g.B.Bank.history c.loop-slot.bank))
     c.loop-slot.best c.in-Some.best record { table = c.in-Some.best.table; own = c.loop-slot.own; generations = c.loop-slot.generations }
-    (omega (arith, c.loop-slot-test.false, c.devices-slot-end.ensures.count)) c.loop-slot.invariant.surveyed c.in-Some.is refl c.in-One.is
-
-pub returns-in-Two-clause-surveyed : goal.returns-in-Two-clause-surveyed
-returns-in-Two-clause-surveyed g c =
-    surveyed_large (g.B.Bank.honest c.args.bank.now) c.args.id.now c.loop-slot.slot
-    (bank_view (g.B.Bank.panel c.args.bank.now) (g.B.Bank.history c.args.bank.now))
-    (bank_view (g.B.Bank.panel c.loop-slot.bank) (g.B.Bank.history c.loop-slot.bank))
-    c.loop-slot.best c.in-Some.best c.loop-slot.own c.loop-slot.generations
-    (omega (arith, c.loop-slot-test.false, c.devices-slot-end.ensures.count)) c.loop-slot.invariant.surveyed c.in-Some.is c.in-Two.is
+    (omega (arith, c.loop-slot-test.false, c.devices-slot-end.ensures.count)) c.loop-slot.invariant.surveyed c.in-Some.is refl
 
 pub returns-in-None-clause-surveyed : goal.returns-in-None-clause-surveyed
 returns-in-None-clause-surveyed g c =

@@ -1,7 +1,9 @@
-use Rattle.std.proofs.Common.{◌≡◌, ℕ, List, Option, Some, None, true, false, ap, sym, subst, arith}
+use Rattle.std.proofs.Common.{◌≡◌, ℕ, List, Option, Some, None, true, false, ap, sym, ◌∙◌, subst, arith}
+use Rattle.std.proofs.lemmas.Bool.{true≢false}
 use Rattle.extents.specs.declared.owned.Owned.{Owned}
 use Rattle.extents.specs.declared.record.Record.{Record}
 use Rattle.extents.specs.Checks.{AreFreeFrom}
+use Rattle.extents.specs.Versions.{is_version_of}
 use Rattle.extents.specs.VolumeTables.{HaveTheirPlaces, IsVolumeTable}
 use Rattle.extents.proofs.Same.{same_table}
 use Rattle.extents.proofs.Sectors.{spelled_by, version_of_table, read_of_table, owners_of_table, read_of_version, read_is_spelled}
@@ -15,6 +17,14 @@ returns-in_err-version-clause-exact c = λ t is of_set. absurd (
     let some : c.read_version.result ≡ Some t.version = version_of_table c.args.from.now t c.read_version.result c.read_version.ensures.exact is in
     let none : c.read_version.result ≡ None = c.in_err-version.was in
     let no : ⊥ = cc in no)
+
+pub returns-then-not-is_version_of-clause-exact : goal.returns-then-not-is_version_of-clause-exact
+returns-then-not-is_version_of-clause-exact c = λ t is of_set. absurd (
+    let some_version : c.read_version.result ≡ Some t.version = version_of_table c.args.from.now t c.read_version.result c.read_version.ensures.exact is in
+    let read_version : c.read_version.result ≡ Some c.in_ok-version.version = c.in_ok-version.was in
+    let same_version : c.in_ok-version.version ≡ t.version = cc in
+    true≢false (sym of_set.version ∙ ap (is_version_of c.args.extents.now.format) (sym same_version) ∙ sym c.is_version_of.ensures
+    ∙ c.if-not-is_version_of.true))
 
 pub returns-in_err-records-clause-exact : goal.returns-in_err-records-clause-exact
 returns-in_err-records-clause-exact c = λ t is of_set. absurd (

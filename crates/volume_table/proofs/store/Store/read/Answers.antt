@@ -1,5 +1,5 @@
 -- A read is refused as its admission says, or reads its blocks one after another.
-use Rattle.std.proofs.Common.{length, ◌∙◌, sym, subst, ap}
+use Rattle.std.proofs.Common.{length, ◌∙◌, sym, subst}
 use Rattle.std.proofs.lemmas.Result.{err_from_is_err_and}
 use Rattle.volume_table.specs.Stands.{store_of}
 use Rattle.volume_table.proofs.KeptMaps.{within_fits, within_is_placed, kept_sized}

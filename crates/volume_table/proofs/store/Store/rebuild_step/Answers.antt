@@ -1,5 +1,5 @@
 -- A step of a rebuild is the array's, whose refusal ends the store where it is 15 or 16.
-use Rattle.std.proofs.Common.{sym, subst, ◌∙◌, ap}
+use Rattle.std.proofs.Common.{sym, subst}
 use Rattle.layout_map.specs.declared.geometry.Geometry.{Geometry}
 use Rattle.rebuild.specs.Stepping.{answer_by}
 use Rattle.volume_table.specs.Admission.{AreKept}

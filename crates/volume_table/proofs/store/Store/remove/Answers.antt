@@ -1,6 +1,5 @@
 -- A removal is refused as its admission says, or puts the table without the record by one call.
-use Rattle.layout_map.specs.declared.geometry.Geometry.{Geometry}
-use Rattle.std.proofs.Common.{◌∙◌, ap}
+use Rattle.std.proofs.Common.{◌∙◌}
 use Rattle.std.proofs.Props.{props}
 use Rattle.std.proofs.Math.Logic.{∥∥₁_elim}
 use Rattle.std.proofs.lemmas.Result.{err_from_is_err_and}

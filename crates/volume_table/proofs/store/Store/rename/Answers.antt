@@ -1,6 +1,5 @@
 -- A rename is refused as its admission says, or puts the table with the new name by one call.
-use Rattle.layout_map.specs.declared.geometry.Geometry.{Geometry}
-use Rattle.std.proofs.Common.{◌∙◌, ap}
+use Rattle.std.proofs.Common.{◌∙◌}
 use Rattle.std.proofs.lemmas.Result.{err_from_is_err_and}
 use Rattle.volume_table.specs.Stands.{store_of}
 use Rattle.volume_table.proofs.RenamedVolumes.{rename_applies, rename_is_refused, rename_kept}

@@ -1,5 +1,5 @@
 -- A slot is given a device by the array's call, whose refusal ends the store where it is 15 or 16.
-use Rattle.std.proofs.Common.{sym, subst, ◌∙◌, ap}
+use Rattle.std.proofs.Common.{sym, subst}
 use Rattle.layout_map.specs.declared.geometry.Geometry.{Geometry}
 use Rattle.volume_table.specs.Admission.{AreKept}
 use Rattle.volume_table.specs.Stands.{StoreView, store_of}

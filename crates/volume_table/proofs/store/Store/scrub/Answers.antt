@@ -1,5 +1,5 @@
 -- A scrub is the array's, whose refusal ends the store where it is 15 or 16.
-use Rattle.std.proofs.Common.{sym, subst, ◌∙◌, ap}
+use Rattle.std.proofs.Common.{sym, subst}
 use Rattle.layout_map.specs.declared.geometry.Geometry.{Geometry}
 use Rattle.scrub.specs.Reports.{told_by}
 use Rattle.volume_table.specs.Admission.{AreKept}

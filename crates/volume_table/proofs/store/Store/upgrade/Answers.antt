@@ -1,6 +1,5 @@
 -- An upgrade puts the whole table by one call, or has nothing to do.
-use Rattle.layout_map.specs.declared.geometry.Geometry.{Geometry}
-use Rattle.std.proofs.Common.{◌∙◌, refl, ap}
+use Rattle.std.proofs.Common.{◌∙◌, refl}
 use Rattle.volume_table.specs.Stands.{store_of}
 use Rattle.volume_table.specs.VolumeStep.{OnVolumes, Upgrade}
 use Rattle.volume_table.proofs.UpgradedVolumes.{kept_upgraded, upgrade_applies, upgrade_kept, upgraded_already}

@@ -1,5 +1,5 @@
 -- A write is refused as its admission says, or writes its blocks by one call.
-use Rattle.std.proofs.Common.{◌∙◌, [], length, refl, sym, subst, ap}
+use Rattle.std.proofs.Common.{◌∙◌, [], length, refl, sym, subst}
 use Rattle.std.proofs.lemmas.List.Elements.{All-from_get_or}
 use Rattle.std.proofs.lemmas.Result.{err_from_is_err_and}
 use Rattle.volume_table.specs.Stands.{store_of}

@@ -6,7 +6,7 @@ ghost use Rattle.array_io.specs.Steps.FormingRows.{HasLogical};
 
 use crate::testing::{all, same};
 use array_io::Array;
-use layout_map::Geometry;
+use layout_map::{Format, Geometry};
 use parity::{is_zero, xor_into};
 use rebuild::{Progress, rebuild_step, replace};
 use recovery::{Returned, assemble, make};
@@ -22,6 +22,7 @@ mod device_calls;
 mod failures;
 mod held;
 mod held_failures;
+mod large;
 mod rebuilt;
 mod refusals;
 mod replaced;
@@ -33,23 +34,48 @@ pub(crate) const ID: [u8; 16] = [0, 1, 2, 3, 4, 5, 6, 7, 8, 9, 10, 11, 12, 13, 1
 /// The id of another set.
 pub(crate) const OTHER_ID: [u8; 16] = [0xff; 16];
 
-/// Members, chunk and stripes.
-pub(crate) type Shape = (u8, u16, u32);
+/// What a set is made of: its format, its members and its stripes. Its chunk has 8 sectors.
+#[derive(Clone, Copy)]
+pub(crate) struct Shape {
+    pub format: Format,
+    pub members: u8,
+    pub stripes: u32,
+}
 
 /// 256 rows and 512 data sectors.
-pub(crate) const SET_A: Shape = (3, 8, 32);
+pub(crate) const SET_A: Shape = Shape {
+    format: Format::One,
+    members: 3,
+    stripes: 32,
+};
 
 /// 64 rows and 128 data sectors.
-pub(crate) const OF_3: Shape = (3, 8, 8);
+pub(crate) const OF_3: Shape = Shape {
+    format: Format::One,
+    members: 3,
+    stripes: 8,
+};
 
 /// 48 rows and 144 data sectors.
-pub(crate) const OF_4: Shape = (4, 8, 6);
+pub(crate) const OF_4: Shape = Shape {
+    format: Format::One,
+    members: 4,
+    stripes: 6,
+};
 
 /// 32 rows and 128 data sectors.
-pub(crate) const OF_5: Shape = (5, 8, 4);
+pub(crate) const OF_5: Shape = Shape {
+    format: Format::One,
+    members: 5,
+    stripes: 4,
+};
 
 /// 24 rows and 168 data sectors.
-pub(crate) const OF_8: Shape = (8, 8, 3);
+pub(crate) const OF_8: Shape = Shape {
+    format: Format::One,
+    members: 8,
+    stripes: 3,
+};
 
 /// How many writes and flushes a bank takes.
 const ROOM: usize = 8_000;
@@ -150,7 +176,7 @@ pub(crate) fn last_step(shape: Shape, slot: u8, device: Device) -> Case {
 
 /// The rows of a set.
 pub(crate) fn rows_of(shape: Shape) -> u64 {
-    u64::from(shape.1).saturating_mul(u64::from(shape.2))
+    u64::from(shape.stripes).saturating_mul(8)
 }
 
 // Whether this logical sector is one of those given.
@@ -226,8 +252,13 @@ fn fill(rt: &(impl Abort + AllocGlobal), known: &mut Known) {
 pub(crate) fn devices(rt: &(impl Abort + AllocGlobal), geometry: &Geometry, byte: u8) -> Image {
     let mut slots = Vec::new(rt.alloc());
     let member = (geometry.rows() as usize).saturating_add(8);
+    let journal = geometry.format.journal_sectors() as usize;
     for slot in 0..geometry.members.saturating_add(2) {
-        let sectors = if slot < geometry.members { member } else { 520 };
+        let sectors = if slot < geometry.members {
+            member
+        } else {
+            journal
+        };
         let disk = vec![in rt.alloc(); [byte; 512]; sectors].expect(rt, "memory");
         slots.push(Some(disk)).expect(rt, "memory");
     }
@@ -240,12 +271,26 @@ pub(crate) fn bank_of(rt: &(impl Abort + AllocGlobal), image: Image, plan: Plan)
     MemBank::new(rt.alloc(), image, plan, ROOM).expect(rt, "memory")
 }
 
-/// A set of this id and shape that was just made.
+/// The geometry of a set of this shape.
+pub(crate) fn geometry_of(rt: &impl Abort, shape: Shape) -> Geometry {
+    let geometry = Geometry::of_format(shape.format, shape.members, 8, shape.stripes);
+    geometry.expect(rt, "a shape")
+}
+
+/// A set of this id and shape that was just made, one of format 2 by its first superblocks.
 pub(crate) fn made(rt: &(impl Abort + AllocGlobal), id: [u8; 16], shape: Shape) -> Known {
-    let geometry = Geometry::new(shape.0, shape.1, shape.2).expect(rt, "a shape");
-    let bank = bank_of(rt, devices(rt, &geometry, 0), Plan::NONE);
-    let entry = Entry::new(rt.alloc()).expect(rt, "memory");
-    let array = make(bank, entry, id, geometry);
+    let geometry = geometry_of(rt, shape);
+    let mut image = devices(rt, &geometry, 0);
+    let array = match shape.format {
+        Format::One => {
+            let bank = bank_of(rt, image, Plan::NONE);
+            make(bank, entry_of_none(rt), id, geometry)
+        }
+        Format::Two => {
+            put_first_superblocks(rt, &mut image, id, shape);
+            assembling(rt, image, Plan::NONE, id)
+        }
+    };
     let count = geometry.data_sectors() as usize;
     Known {
         array: array.ok().expect(rt, "the set is made"),
@@ -253,20 +298,55 @@ pub(crate) fn made(rt: &(impl Abort + AllocGlobal), id: [u8; 16], shape: Shape) 
     }
 }
 
-/// What assembling the set on these devices answers, which go down by this plan.
+// The superblock of generation 1 of a set of format 2, in the slot of this role: all slots in sync at incarnation 1.
+fn first_superblock(id: [u8; 16], shape: Shape, role: u8) -> Sector {
+    let mut sector = all(0);
+    sector[..8].copy_from_slice(b"RAID5JV2");
+    sector[8..24].copy_from_slice(&id);
+    sector[24] = 1;
+    sector[32] = shape.members;
+    sector[33] = role;
+    sector[34] = 8;
+    sector[36..40].copy_from_slice(&shape.stripes.to_le_bytes());
+    for slot in 0..10 {
+        if slot < shape.members as usize + 2 {
+            sector[40 + 16 * slot] = 1;
+            sector[48 + 16 * slot] = 1;
+        }
+    }
+    sector[208] = 1;
+    sector[504..].copy_from_slice(b"2VJ5DIAR");
+    sector
+}
+
+// Puts that superblock on each device of a set, in sector 1.
+fn put_first_superblocks(rt: &impl Abort, image: &mut Image, id: [u8; 16], shape: Shape) {
+    for (role, slot) in image.slots.iter_mut().enumerate() {
+        let device = slot.as_deref_mut().expect(rt, "there is a device");
+        assert!(rt; role < 10 && device.len() >= 2);
+        device[1] = first_superblock(id, shape, role as u8);
+    }
+}
+
+// Where an array holds entries.
+fn entry_of_none(rt: &(impl Abort + AllocGlobal)) -> Entry {
+    Entry::new(rt.alloc()).expect(rt, "memory")
+}
+
+/// What assembling the set of this id on these devices answers, which go down by this plan.
 pub(crate) fn assembling(
     rt: &(impl Abort + AllocGlobal),
     image: Image,
     plan: Plan,
+    id: [u8; 16],
 ) -> Result<Array<MemBank>, Returned<MemBank>> {
     let bank = bank_of(rt, image, plan);
-    let entry = Entry::new(rt.alloc()).expect(rt, "memory");
-    assemble(bank, entry, ID)
+    assemble(bank, entry_of_none(rt), id)
 }
 
 /// The set that is assembled on these devices.
 pub(crate) fn assembled(rt: &(impl Abort + AllocGlobal), image: Image) -> Array<MemBank> {
-    assembling(rt, image, Plan::NONE)
+    assembling(rt, image, Plan::NONE, ID)
         .ok()
         .expect(rt, "the set is assembled")
 }
@@ -463,7 +543,7 @@ pub(crate) fn told_when_done(rt: &impl Abort, case: &Case, old: Told) -> Told {
         }
         Some(Progress::Complete) => told_after(rt, old, case.slot, State::InSync, (1, 0), 0),
         None => {
-            let state = if case.slot < case.shape.0 {
+            let state = if case.slot < case.shape.members {
                 State::Rebuilding
             } else {
                 State::InSync
@@ -478,7 +558,8 @@ pub(crate) fn wanted(case: &Case) -> Option<Progress> {
     let Job::Step(rows) = case.job else {
         return None;
     };
-    let end = case.position.saturating_add(rows.min(64));
+    let most = case.shape.format.rebuild_rows();
+    let end = case.position.saturating_add(rows.min(most));
     if end < rows_of(case.shape) {
         Some(Progress::Position(end))
     } else {

@@ -10,6 +10,7 @@ use super::{
 };
 use crate::testing::same;
 use array_io::Array;
+use layout_map::Format;
 use rebuild::{Progress, rebuild_step, replace};
 use sector_model::{Bank, Choice, Image, MemBank};
 use std::process::Abort;
@@ -60,7 +61,7 @@ fn call_made(rt: &(impl Abort + AllocGlobal), case: &Case) -> Called {
         known,
         former,
         from,
-        published: end.saturating_sub(2 * (u64::from(case.shape.0) + 2)),
+        published: end.saturating_sub(2 * (u64::from(case.shape.members) + 2)),
         end,
         old,
         new,
@@ -75,7 +76,7 @@ fn is_new(case: &Case, done: &Called, call: u64, choice: Choice) -> Option<bool>
         Job::Replace => (done.end.saturating_sub(2), done.end),
         // One that was not is live by the old table and the new one: the first device that has that decides.
         Job::Step(_) => {
-            let others = u64::from(case.shape.0) + 1;
+            let others = u64::from(case.shape.members) + 1;
             (done.published, done.published.saturating_add(others + 1))
         }
     };
@@ -137,7 +138,7 @@ fn check_journal(rt: &(impl Abort + AllocGlobal), case: &Case, image: &Image) {
     assert!(rt; slot < image.slots.len());
     let table = chosen_table_in(image, &ID).expect(rt, "a table is chosen");
     let is_live = is_live_in(&image.slots[slot], image.slots.len(), &table, slot);
-    if is_live && case.slot >= case.shape.0 {
+    if is_live && case.slot >= case.shape.members {
         check_entries(rt, case, image);
     }
 }
@@ -198,7 +199,7 @@ fn check_goes_on(
     }
     let state = array.table.states[case.slot as usize];
     if state == State::Rebuilding {
-        let answer = rebuild_step(&mut array, 64);
+        let answer = rebuild_step(&mut array, case.shape.format.rebuild_rows());
         same(rt, (number, answer), (number, Ok(Progress::Complete)));
     }
     check_whole(rt, (number, 9), &array, list);
@@ -242,9 +243,9 @@ fn check_call_in_turn(rt: &(impl Abort + AllocGlobal), case: &Case, done: &Calle
     check_crash(rt, case, done, (call, in_turn(call.wrapping_add(1))), left);
 }
 
-// Checks the crashes before the first device call of a case, and after each that is no read: of a set of 3 members by
-// each choice.
-fn check_crashes(rt: &(impl Abort + AllocGlobal), case: &Case) {
+/// Checks the crashes before the first device call of a case, and after each that is no read: of a set of format 1 and 3
+/// members by each choice.
+pub(crate) fn check_crashes(rt: &(impl Abort + AllocGlobal), case: &Case) {
     let done = call_made(rt, case);
     assert!(rt; done.from < done.published);
     let mut call = done.from;
@@ -254,7 +255,7 @@ fn check_crashes(rt: &(impl Abort + AllocGlobal), case: &Case) {
         if made.is_read {
             continue;
         }
-        if case.shape.0 == 3 {
+        if case.shape.format == Format::One && case.shape.members == 3 {
             check_call(rt, case, &done, call);
         } else {
             check_call_in_turn(rt, case, &done, call);
@@ -270,7 +271,7 @@ fn check_crashes(rt: &(impl Abort + AllocGlobal), case: &Case) {
 fn told_is_complete(case: &Case) -> bool {
     match wanted(case) {
         Some(progress) => progress == Progress::Complete,
-        None => case.slot >= case.shape.0,
+        None => case.slot >= case.shape.members,
     }
 }
 

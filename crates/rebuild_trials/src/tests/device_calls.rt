@@ -136,8 +136,8 @@ fn check_calls(rt: &(impl Abort + AllocGlobal), case: &Case, counts: [u64; 3]) {
     let got = [bank.reads, bank.writes, bank.flushes];
     same(
         rt,
-        (case.shape.0, case.slot, got),
-        (case.shape.0, case.slot, counts),
+        (case.shape.members, case.slot, got),
+        (case.shape.members, case.slot, counts),
     );
 }
 
@@ -149,7 +149,7 @@ const SETS: &[(Shape, u8)] = &[(OF_3, 1), (OF_4, 3), (OF_8, 0)];
 fn calls_of_replacing_a_member(rt: HostRuntime) {
     for (shape, slot) in SETS {
         let case = member(*shape, *slot, Device::Own);
-        let members = u64::from(shape.0);
+        let members = u64::from(shape.members);
         check_calls(&rt, &case, [0, members + 4, members + 3]);
     }
 }
@@ -160,10 +160,10 @@ fn calls_of_replacing_a_member(rt: HostRuntime) {
 #[test]
 fn calls_of_replacing_a_journal(rt: HostRuntime) {
     for (shape, _) in SETS {
-        let members = u64::from(shape.0);
-        let unused = journal(*shape, shape.0, Device::Filled, false);
+        let members = u64::from(shape.members);
+        let unused = journal(*shape, shape.members, Device::Filled, false);
         check_calls(&rt, &unused, [2, members + 6, members + 3]);
-        let used = journal(*shape, shape.0.saturating_add(1), Device::Own, true);
+        let used = journal(*shape, shape.members.saturating_add(1), Device::Own, true);
         let body = 2 * 2;
         let counts = [body + 2, members + 6 + body + 1, members + 5];
         check_calls(&rt, &used, counts);
@@ -184,7 +184,7 @@ fn calls_of_a_step(rt: HostRuntime) {
                 position: rows_of(*shape).saturating_sub(16),
                 job: Job::Step(asked),
             };
-            let members = u64::from(shape.0);
+            let members = u64::from(shape.members);
             let others = members.saturating_sub(1);
             let writes = members.saturating_add(rows).saturating_add(2);
             let counts = [others.saturating_mul(rows), writes, members + 3];

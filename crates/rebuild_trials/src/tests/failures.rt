@@ -1,7 +1,7 @@
 //! A device goes down at a call of replacing one, or of a step of a rebuild.
 use super::device_calls::calls_of;
 use super::{
-    Case, Device, Job, Known, OF_3, OF_4, OF_8, Told, assembled, assembling, before, call,
+    Case, Device, ID, Job, Known, OF_3, OF_4, OF_8, Told, assembled, assembling, before, call,
     check_list, check_states, crashed, image_now, in_turn, journal, last_step, member, middle_step,
     take, told, told_after, told_when_done, wanted,
 };
@@ -22,7 +22,7 @@ struct Failure {
 
 // How many calls of the case come before the first of those that publish its table, of so many calls.
 fn before_table(case: &Case, calls: u64) -> u64 {
-    calls.saturating_sub(2 * (u64::from(case.shape.0) + 2))
+    calls.saturating_sub(2 * (u64::from(case.shape.members) + 2))
 }
 
 // Makes the call of a case, in which a device fails.
@@ -124,7 +124,13 @@ fn check_other(
     check_missing(rt, case, (number, 4), image, list);
     let mut image = crashed(rt, bank, bank.now(), in_turn(number.wrapping_add(2)));
     take(rt, &mut image, failure.slot);
-    check_two_lost(rt, case, failure, assembling(rt, image, Plan::NONE), list);
+    check_two_lost(
+        rt,
+        case,
+        failure,
+        assembling(rt, image, Plan::NONE, ID),
+        list,
+    );
 }
 
 // Checks what is assembled without the device that failed and was not the own one.

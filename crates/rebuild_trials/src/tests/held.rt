@@ -236,9 +236,9 @@ fn check_commits(rt: &(impl Abort + AllocGlobal), case: &Case) {
 
 // Commits to a set of this shape without each slot, and with each member in rebuilding, up to this row.
 fn check_shape(rt: &(impl Abort + AllocGlobal), shape: Shape, row: u64) {
-    for slot in 0..shape.0.saturating_add(2) {
+    for slot in 0..shape.members.saturating_add(2) {
         check_commits(rt, &lacking(shape, slot, None));
-        if slot < shape.0 {
+        if slot < shape.members {
             check_commits(rt, &lacking(shape, slot, Some(row)));
         }
     }

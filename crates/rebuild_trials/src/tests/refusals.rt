@@ -127,7 +127,7 @@ fn check_down(rt: &(impl Abort + AllocGlobal), case: &Case, known: Known) {
     let mut plan = Plan::NONE;
     assert!(rt; case.slot < 10);
     plan.down[case.slot as usize] = Some(0);
-    let array = assembling(rt, image_now(rt, &known.array.bank), plan).ok();
+    let array = assembling(rt, image_now(rt, &known.array.bank), plan, ID).ok();
     let mut array = array.expect(rt, "the set is assembled");
     check_asked(rt, 6, &mut array, &asked);
 }

@@ -1,11 +1,11 @@
 //! Devices that a slot is given: what stood on them counts no more, and they have what the set needs of them.
 use super::{
     Case, Device, ID, OF_3, OF_4, OF_8, Shape, check_complete, check_list, check_published,
-    check_whole, crashed, disk, journal, told, told_when_done, without,
+    check_whole, crashed, disk, geometry_of, journal, told, told_when_done, without,
 };
 use crate::testing::{all, same};
 use array_io::Array;
-use layout_map::Geometry;
+use layout_map::Format;
 use rebuild::{Progress, rebuild_step, replace};
 use sector_model::{Bank, Choice, Image, MemBank, Sector};
 use std::process::Abort;
@@ -59,7 +59,7 @@ fn check_others_stay(
 ) {
     let before = crashed(rt, bank, calls.0, Choice::Newest);
     let after = crashed(rt, bank, calls.1, Choice::Newest);
-    for slot in 0..case.shape.0.saturating_add(2) {
+    for slot in 0..case.shape.members.saturating_add(2) {
         let is_same = are_same(disk(rt, &before, slot), disk(rt, &after, slot));
         let stays = slot == case.slot || is_same;
         same(rt, (slot, stays), (slot, true));
@@ -72,7 +72,7 @@ fn check_others_stay(
 fn check_order(rt: &(impl Abort + AllocGlobal), case: &Case, array: &Array<MemBank>, from: u64) {
     let bank = &array.bank;
     let end = bank.now();
-    let (reads, count) = if case.slot < case.shape.0 {
+    let (reads, count) = if case.slot < case.shape.members {
         (0, 2)
     } else {
         (2, 4)
@@ -92,13 +92,34 @@ fn check_order(rt: &(impl Abort + AllocGlobal), case: &Case, array: &Array<MemBa
 }
 
 // How many sectors an entry holds, by its seal's sector: a bit for each in the masks from byte 168 on.
-fn held_by(rt: &impl Abort, seal: &Sector) -> usize {
+fn held_by_masks(rt: &impl Abort, seal: &Sector) -> usize {
     assert!(rt; seal.starts_with(b"RAID5JE2") && seal.ends_with(b"2EJ5DIAR"));
     let mut count = 0u32;
     for mask in &seal[168..200] {
         count = count.saturating_add(mask.count_ones());
     }
     count as usize
+}
+
+// The same of an entry of runs: from byte 40 on, 8 bytes a run, of which the last three are its rows' number and mask.
+fn held_by_runs(rt: &impl Abort, seal: &Sector) -> usize {
+    assert!(rt; seal.starts_with(b"RAID5JE3") && seal.ends_with(b"3EJ5DIAR"));
+    let mut count = 0u32;
+    for run in 0..58usize {
+        let at = 40 + 8 * run;
+        let rows = u32::from(seal[at + 5]) + 256 * u32::from(seal[at + 6]);
+        let held = rows.saturating_mul(seal[at + 7].count_ones());
+        count = count.saturating_add(held);
+    }
+    count as usize
+}
+
+// How many sectors an entry of a set of this format holds, by its seal's sector.
+fn held_by(rt: &impl Abort, format: Format, seal: &Sector) -> usize {
+    match format {
+        Format::One => held_by_masks(rt, seal),
+        Format::Two => held_by_runs(rt, seal),
+    }
 }
 
 // What counts of a journal: the number of its last entry, and its body.
@@ -110,23 +131,26 @@ fn entry_of(
 ) -> Option<(u64, Vec<Sector>)> {
     let slot = journal as usize;
     assert!(rt; slot < image.slots.len());
-    let (members, chunk, stripes) = case.shape;
-    let geometry = Geometry::new(members, chunk, stripes).expect(rt, "a shape");
+    let geometry = geometry_of(rt, case.shape);
     let seal = last_sealed_in(&image.slots[slot], &ID, &geometry)?;
     let place = (seal.number % 2) as usize;
     let sectors = disk(rt, image, journal);
-    assert!(rt; sectors.len() == 520);
-    let count = held_by(rt, &sectors[2 + place]);
-    let first = 8 + 256 * place;
-    assert!(rt; count <= 256);
+    let half = match case.shape.format {
+        Format::One => 256usize,
+        Format::Two => 4_096,
+    };
+    assert!(rt; sectors.len() == 8 + 2 * half);
+    let count = held_by(rt, case.shape.format, &sectors[2 + place]);
+    let first = 8 + half * place;
+    assert!(rt; count <= half);
     let body = Vec::from_slice(rt.alloc(), &sectors[first..first + count]);
     Some((seal.number, body.expect(rt, "memory")))
 }
 
 /// Asks that both journals have one last entry, or none.
 pub(crate) fn check_entries(rt: &(impl Abort + AllocGlobal), case: &Case, image: &Image) {
-    let lower = entry_of(rt, case, image, case.shape.0);
-    let upper = entry_of(rt, case, image, case.shape.0.saturating_add(1));
+    let lower = entry_of(rt, case, image, case.shape.members);
+    let upper = entry_of(rt, case, image, case.shape.members.saturating_add(1));
     match (lower, upper) {
         (Some((lower, left)), Some((upper, right))) => {
             let are_same = are_same(&left, &right);
@@ -149,7 +173,7 @@ fn check_replaced(rt: &(impl Abort + AllocGlobal), case: &Case) {
     same(rt, told(&known.array.table), wanted);
     check_order(rt, case, &known.array, from);
     check_list(rt, (0, 0), &mut known.array, &known.list);
-    if case.slot < case.shape.0 {
+    if case.slot < case.shape.members {
         let step = rebuild_step(&mut known.array, 64);
         same(rt, step, Ok(Progress::Complete));
         check_published(rt, (0, 1), &known.array);

@@ -20,6 +20,7 @@ mod failures;
 mod forms;
 mod order_of_calls;
 mod replays;
+mod runs;
 mod without_a_slot;
 
 /// Logical sectors, each with the byte of which it is full.

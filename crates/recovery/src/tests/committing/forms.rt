@@ -12,8 +12,8 @@ use std::process::Abort;
 // No slot of the set.
 const NONE: usize = 5;
 
-// The seal of the entry of this number that holds row 32 whole.
-fn whole_seal(number: u8) -> Sector {
+/// The seal of the entry of this number that holds row 32 whole.
+pub(crate) fn whole_seal(number: u8) -> Sector {
     let mut sector = BLANK;
     sector[..8].copy_from_slice(b"RAID5JE1");
     sector[8..24].copy_from_slice(&ID);
@@ -24,8 +24,8 @@ fn whole_seal(number: u8) -> Sector {
     sector
 }
 
-// The seal of the entry of this number that holds of row 32 what a mask has.
-fn held_seal(number: u8, mask: u8) -> Sector {
+/// The seal of the entry of this number that holds of row 32 what a mask has.
+pub(crate) fn held_seal(number: u8, mask: u8) -> Sector {
     let mut sector = whole_seal(number);
     sector[7] = b'2';
     sector[168] = mask;

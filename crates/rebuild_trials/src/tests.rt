@@ -252,7 +252,10 @@ fn fill(rt: &(impl Abort + AllocGlobal), known: &mut Known) {
 pub(crate) fn devices(rt: &(impl Abort + AllocGlobal), geometry: &Geometry, byte: u8) -> Image {
     let mut slots = Vec::new(rt.alloc());
     let member = (geometry.rows() as usize).saturating_add(8);
-    let journal = geometry.format.journal_sectors() as usize;
+    let journal = match geometry.format {
+        Format::One => 520,
+        Format::Two => 8_200,
+    };
     for slot in 0..geometry.members.saturating_add(2) {
         let sectors = if slot < geometry.members {
             member
@@ -553,13 +556,22 @@ pub(crate) fn told_when_done(rt: &impl Abort, case: &Case, old: Told) -> Told {
     }
 }
 
+/// How many rows a step rebuilds at most.
+pub(crate) fn most_rows(shape: Shape) -> u64 {
+    match shape.format {
+        Format::One => 64,
+        Format::Two => 4_096,
+    }
+}
+
 /// What the call of a case answers: how far it is.
 pub(crate) fn wanted(case: &Case) -> Option<Progress> {
     let Job::Step(rows) = case.job else {
         return None;
     };
-    let most = case.shape.format.rebuild_rows();
-    let end = case.position.saturating_add(rows.min(most));
+    let end = case
+        .position
+        .saturating_add(rows.min(most_rows(case.shape)));
     if end < rows_of(case.shape) {
         Some(Progress::Position(end))
     } else {

@@ -5,8 +5,8 @@ use super::replaced::check_entries;
 use super::{
     Case, Device, ID, Job, Known, OF_3, OF_4, OF_8, Told, assembled, before, call, check_complete,
     check_list, check_states, check_whole, crashed, devices, disk, image_now, in_turn, journal,
-    last_step, member, middle_step, put_copy, put_from, take, told, told_when_done, wanted,
-    without,
+    last_step, member, middle_step, most_rows, put_copy, put_from, take, told, told_when_done,
+    wanted, without,
 };
 use crate::testing::same;
 use array_io::Array;
@@ -199,7 +199,7 @@ fn check_goes_on(
     }
     let state = array.table.states[case.slot as usize];
     if state == State::Rebuilding {
-        let answer = rebuild_step(&mut array, case.shape.format.rebuild_rows());
+        let answer = rebuild_step(&mut array, most_rows(case.shape));
         same(rt, (number, answer), (number, Ok(Progress::Complete)));
     }
     check_whole(rt, (number, 9), &array, list);

@@ -127,7 +127,7 @@ extents_are : (geometry : Geometry) → geometry.format ≡ One → geometry.mem
     → extents_in geometry ≡ fresh_extents
 unfolding extents_in
 extents_are geometry one three eight more =
-    same_layout (extents_in geometry) fresh_extents (ap (λ (f : Format). first_extent f geometry.members geometry.chunk) one)
+    same_layout (extents_in geometry) fresh_extents one (ap (λ (f : Format). first_extent f geometry.members geometry.chunk) one)
     (ap (λ (f : Format). extent_blocks f geometry.members geometry.chunk geometry.stripes) one)
     (count_is geometry.format geometry.members geometry.chunk geometry.stripes one three eight more)
 

@@ -63,6 +63,10 @@ returns-in_default g c =
       hushed = λ none. absurd (passes_some c.args.line c.in_default.not-Make c.in_default.not-Examine none);
     }
 
+pub returns-in-Replace-clause-cut : goal.returns-in-Replace-clause-cut
+returns-in-Replace-clause-cut g c = λ _. IfErr-weaker c.replace_in_folder.result _ _ (λ fault part cut. rw c.in-Replace.is (part cut).1)
+    c.replace_in_folder.ensures.replaces.cut
+
 pub returns-in-Examine-clause-cut : goal.returns-in-Examine-clause-cut
 returns-in-Examine-clause-cut g c = λ _. IfErr-weaker c.examine_folder.result _ _ (λ fault part cut.
     rw c.in-Examine.is (inspections_cut (IsTrue g.D.InspectedFile.Growing.tells) c.in-Examine.id c.in-Examine.json (part cut).0 _ _ (part cut).2))

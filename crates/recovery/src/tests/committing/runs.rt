@@ -22,7 +22,7 @@ type Run = (u16, u16, u8);
 #[derive(Clone, Copy)]
 struct ByHand<'a> {
     chunk: u16,
-    stripes: u32,
+    stripes: u8,
     number: u8,
     runs: &'a [Run],
 }
@@ -35,10 +35,9 @@ const ROOM: usize = 12_000;
 
 // The superblock of generation 1 of the entry's set, in the slot of this role.
 fn first_superblock(entry: &ByHand, role: u8) -> Sector {
-    let mut sector = superblock(1, 0, role);
+    let mut sector = superblock(1, entry.stripes, role);
     sector[7] = b'2';
     sector[34..36].copy_from_slice(&entry.chunk.to_le_bytes());
-    sector[36..40].copy_from_slice(&entry.stripes.to_le_bytes());
     sector[504] = b'2';
     sector
 }
@@ -72,7 +71,7 @@ fn places_of(entry: &ByHand) -> (usize, usize) {
 
 // The geometry of the entry's set.
 fn geometry_of(rt: &impl Abort, entry: &ByHand) -> Geometry {
-    Geometry::large(3, entry.chunk, entry.stripes).expect(rt, "a geometry")
+    Geometry::large(3, entry.chunk, u32::from(entry.stripes)).expect(rt, "a geometry")
 }
 
 // The logical sectors before an entry, none of them zero.

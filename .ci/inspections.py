@@ -6,10 +6,19 @@ from shared import Failed, answered
 
 COMPLETE, TWO_LOST = "would assemble: complete", "refused 15 TwoLost"
 NO_SET, LONGEST = (1, "", "refused 17 NoSet\n"), 60
-HEAD = re.compile(r"set ([0-9a-f]{32})\nmembers (\d+) chunk (\d+) stripes (\d+) rows (\d+)\ngeneration (\d+) position (\d+) left (\d+)\n")
+HEAD = re.compile(r"set ([0-9a-f]{32})\nmembers (\d+) chunk (\d+) stripes (\d+) rows (\d+)(?: format (2))?\ngeneration (\d+) position (\d+) left (\d+)\n")
 LINE = re.compile(r"([ \d]\d) (member  |journal ) (absent|too short|there) generation (\d+) incarnation (\d+)(?: entry (\d+))? ([a-z][a-z \d]*)\n")
-HEAD_KEYS = ("id", "members", "chunk", "stripes", "rows", "generation", "position", "left")
+HEAD_KEYS = ("id", "members", "chunk", "stripes", "rows", "format", "generation", "position", "left")
 SLOT_KEYS = ("slot", "role", "presence", "generation", "incarnation", "entry", "standing")
+
+
+def extent_blocks(members, chunk, stripes):
+    """The blocks of an extent of a set of format 2, by docs/FORMATS.md, "Address map"."""
+    stripe = chunk * (members - 1)
+    blocks, rest = stripe, stripes * stripe - -(-64 // stripe) * stripe
+    while rest // blocks > 1_024:
+        blocks *= 2
+    return blocks
 
 
 def numbers(values):
@@ -23,6 +32,10 @@ class Told:
     def __init__(self, head, slots, last):
         self.head = dict(zip(HEAD_KEYS, numbers(head.groups())))
         self.head["id"] = head[1]
+        if self.head["format"]:
+            self.head["extent_blocks"] = extent_blocks(*(self.head[key] for key in ("members", "chunk", "stripes")))
+        else:
+            del self.head["format"]
         self.slots = [dict(zip(SLOT_KEYS, numbers(it.groups()))) for it in slots]
         self.last = last
 

@@ -1,19 +1,24 @@
 -- What the answer to the program's words says.
-use Rattle.std.proofs.Common.{◌≡◌, ◌∙◌, inl, inr, true, [], List, Option, Some, None, ap, sym, subst, codes}
+use Rattle.std.proofs.Common.{◌≡◌, ◌∙◌, inl, inr, true, false, refl, ℕ, [], List, Option, Some, None, ap, sym, subst, codes}
 use Rattle.std.specs.Prelude.{Result, Ok, Err, IfErr, IfOk, IsSomeAnd}
+use Rattle.std.specs.Str.{bytes_eq}
 use Rattle.clap.specs.Faults.{fault_of, is_simple_and_free}
 use Rattle.clap.specs.Kinds.{HasKind}
 use Rattle.clap.specs.Simple.{App, HasMatchesOf, is_simple, subcommand_of, subcommand_rows_of}
 use Rattle.clap.specs.Walk.{Row, Text, first_of}
 use Rattle.clap.specs.declared.error.Error.{Error}
 use Rattle.clap.specs.declared.parser.matches.ArgMatches.{ArgMatches}
+use Rattle.command_line.specs.declared.Asked.{Asked}
 use Rattle.command_line.specs.declared.Invocation.{Invocation}
 use Rattle.command_line.specs.declared.InvocationFault.{InvocationFault}
-use Rattle.command_line.specs.declared.InvocationFault.TheVariants.{BadId, Usage}
+use Rattle.command_line.specs.declared.InvocationFault.TheVariants.{BadId, BadShape, BadSize, Usage}
+use Rattle.command_line.specs.declared.SetChoice.{SetChoice}
+use Rattle.command_line.specs.declared.Size.{Size}
 use Rattle.command_line.specs.Commands.{raidtool_app}
-use Rattle.command_line.specs.Invocations.{AsksFor, Enters, HasBadId, IsFaultOf, IsIdText, IsTaken, SaysInvocation}
-use Rattle.command_line.specs.Requests.{AnswersBy, IsInvocationOf, Request, words_of}
-use Rattle.command_line.proofs.Asked.{one_name, one_rows, same_text}
+use Rattle.command_line.specs.Invocations.{AsksFor, AsksIn, Enters, HasBadId, HasBadSize, HasExtent, HasRoom, IsBySize, IsByStripes, IsChoice, IsFaultIn}
+use Rattle.command_line.specs.Invocations.{IsFaultOf, IsTaken, SaysInvocation, of_extent, of_room}
+use Rattle.command_line.specs.Requests.{AnswersBy, IsAskedBy, IsLineOf, Request, words_of}
+use Rattle.command_line.proofs.OneAsked.{one_form, one_name, one_rows, same_text, two_names}
 
 -- ---- from clap's matches to the words
 
@@ -34,45 +39,109 @@ fails command words fault error is same says =
     subst (IsFaultOf words) (sym is) kind
 
 -- what the matches say, the words ask for
-pub asks_for : (words : List Text) (found : Option (Text × List Row)) → IsTaken words → found ≡ subcommand_of raidtool_app words → (invocation : Invocation)
-    → IsSomeAnd found (λ e. SaysInvocation e.0 e.1 invocation) → AsksFor words invocation
-asks_for words None taken is invocation h = absurd h
-asks_for words (Some e) taken is invocation h = (e.0, e.1, record { taken = taken; entered = sym is }, h)
+pub asks_for : (words : List Text) (found : Option (Text × List Row)) → IsTaken words → found ≡ subcommand_of raidtool_app words → (asked : Asked)
+    → IsSomeAnd found (λ e. AsksIn e.0 e.1 asked) → AsksFor words asked
+asks_for words None taken is asked h = absurd h
+asks_for words (Some e) taken is asked h = (e.0, e.1, record { taken = taken; entered = sym is }, h)
 
 pub refuses : (words : List Text) (found : Option (Text × List Row)) → IsTaken words → found ≡ subcommand_of raidtool_app words → (fault : InvocationFault)
-    → (fault ≡ BadId) × IsSomeAnd found (λ e. HasBadId e.1) → IsFaultOf words fault
-refuses words None taken is fault h = absurd h.1
-refuses words (Some e) taken is fault h = subst (IsFaultOf words) (sym h.0) (e.0, e.1, record { taken = taken; entered = sym is }, h.1)
+    → IsSomeAnd found (λ e. IsFaultIn e.0 e.1 fault) → IsFaultOf words fault
+refuses words None taken is fault h = absurd h
+refuses words (Some e) taken is BadId h = (e.0, e.1, record { taken = taken; entered = sym is }, h)
+refuses words (Some e) taken is BadShape h = (e.0, e.1, record { taken = taken; entered = sym is }, h)
+refuses words (Some e) taken is BadSize h = (e.0, e.1, record { taken = taken; entered = sym is }, h)
+refuses words (Some e) taken is (Usage error) h = absurd h
 
 -- ---- from the words to the answer
 
--- clap takes the words of a command, and finds in them its values and no bad id
+-- clap takes the words of a command, and finds in them its values and no fault
 pub record Reads (request : Request) : Type 0 where
   pub name : Text
   pub rows : List Row
   pub enters : Enters (words_of request) name rows
-  pub good : HasBadId rows → ⊥
-  pub says : (invocation : Invocation) → SaysInvocation name rows invocation → IsInvocationOf request invocation
+  pub good : (fault : InvocationFault) → ¬ IsFaultIn name rows fault
+  pub says : (choice : SetChoice) (line : Invocation) → SaysInvocation name rows choice line → IsLineOf request choice line
 
--- an id that is one is no bad id
-pub no_bad : (rows : List Row) (text : Text) → first_of (codes "id") rows ≡ Some text → IsIdText text → HasBadId rows → ⊥
-no_bad rows text has is_id bad = bad.2 (subst IsIdText (same_text text bad.0 (sym has ∙ bad.1)) is_id)
+-- an id that chooses a set is no bad id
+pub no_bad : (name : Text) (rows : List Row) (text : Text) → first_of (codes "id") rows ≡ Some text → IsChoice name text → ¬ HasBadId name rows
+no_bad name rows text has is_choice bad = bad.2 (subst (IsChoice name) (same_text text bad.0 (sym has ∙ bad.1)) is_choice)
 
--- so they are answered with the invocation of it
-pub answered : (words : List Text) (request : Request) → words ≡ words_of request → Reads request → (result : Result Invocation InvocationFault)
-    → IfOk result (AsksFor words) → IfErr result (IsFaultOf words) → AnswersBy (IsInvocationOf request) result
+-- a good id is the only thing that a command without sizes needs
+pub no_fault_in : (name : Text) (rows : List Row) → bytes_eq name (codes "make") ≡ false → bytes_eq name (codes "create") ≡ false
+    → bytes_eq name (codes "extend") ≡ false → ¬ HasBadId name rows → (fault : InvocationFault) → ¬ IsFaultIn name rows fault
+no_fault_in name rows m c e good BadId bad = good bad
+no_fault_in name rows m c e good BadShape bad = two_names name (codes "make") m bad.1
+no_fault_in name rows m c e good BadSize bad = sizes bad.1
+  where
+    sizes : HasBadSize name rows → ⊥
+    sizes (of_room is by_size none) = two_names name (codes "make") m is
+    sizes (of_extent (inl is) none) = two_names name (codes "create") c is
+    sizes (of_extent (inr is) none) = two_names name (codes "extend") e is
+no_fault_in name rows m c e good (Usage error) bad = bad
+
+-- `make` needs a form too
+pub no_fault_by_stripes : (rows : List Row) → IsByStripes rows → ¬ HasBadId (codes "make") rows
+    → (fault : InvocationFault) → ¬ IsFaultIn (codes "make") rows fault
+no_fault_by_stripes rows form good BadId bad = good bad
+no_fault_by_stripes rows form good BadShape bad = bad.2.0 form
+no_fault_by_stripes rows form good BadSize bad = sizes bad.1
+  where
+    sizes : HasBadSize (codes "make") rows → ⊥
+    sizes (of_room is by_size none) = one_form rows form by_size
+    sizes (of_extent (inl is) none) = two_names (codes "make") (codes "create") refl is
+    sizes (of_extent (inr is) none) = two_names (codes "make") (codes "extend") refl is
+no_fault_by_stripes rows form good (Usage error) bad = bad
+
+-- or the other one, and a size
+pub no_fault_by_size : (rows : List Row) (size : Size) → IsBySize rows → HasRoom rows size → ¬ HasBadId (codes "make") rows
+    → (fault : InvocationFault) → ¬ IsFaultIn (codes "make") rows fault
+no_fault_by_size rows size form room good BadId bad = good bad
+no_fault_by_size rows size form room good BadShape bad = bad.2.1 form
+no_fault_by_size rows size form room good BadSize bad = sizes bad.1
+  where
+    sizes : HasBadSize (codes "make") rows → ⊥
+    sizes (of_room is by_size none) = none size room
+    sizes (of_extent (inl is) none) = two_names (codes "make") (codes "create") refl is
+    sizes (of_extent (inr is) none) = two_names (codes "make") (codes "extend") refl is
+no_fault_by_size rows size form room good (Usage error) bad = bad
+
+-- a command with SIZE needs a size
+pub no_fault_sized : (name : Text) (rows : List Row) (blocks : ℕ) → bytes_eq name (codes "make") ≡ false → HasExtent rows blocks → ¬ HasBadId name rows
+    → (fault : InvocationFault) → ¬ IsFaultIn name rows fault
+no_fault_sized name rows blocks m extent good BadId bad = good bad
+no_fault_sized name rows blocks m extent good BadShape bad = two_names name (codes "make") m bad.1
+no_fault_sized name rows blocks m extent good BadSize bad = sizes bad.1
+  where
+    sizes : HasBadSize name rows → ⊥
+    sizes (of_room is by_size none) = two_names name (codes "make") m is
+    sizes (of_extent named none) = none blocks extent
+no_fault_sized name rows blocks m extent good (Usage error) bad = bad
+
+-- so they are answered with what it asks for
+pub answered : (words : List Text) (request : Request) → words ≡ words_of request → Reads request → (result : Result Asked InvocationFault)
+    → IfOk result (AsksFor words) → IfErr result (IsFaultOf words) → AnswersBy (IsAskedBy request) result
 answered words request is reads result ok err = by result ok err
   where
     enters : Enters words reads.name reads.rows
     enters = rw is reads.enters
 
-    by : (r : Result Invocation InvocationFault) → IfOk r (AsksFor words) → IfErr r (IsFaultOf words) → AnswersBy (IsInvocationOf request) r
-    by (Ok invocation) ok err =
+    -- the program finds no fault of its own
+    own : (fault : InvocationFault) → (name : Text) × (rows : List Row) × Enters words name rows × IsFaultIn name rows fault → ⊥
+    own fault f =
+        let name = one_name words f.0 reads.name f.1 reads.rows f.2 enters in
+        let found = one_rows words f.0 reads.name f.1 reads.rows f.2 enters in
+        reads.good fault
+        (subst (λ (n : Text). IsFaultIn n reads.rows fault) name (subst (λ (rs : List Row). IsFaultIn f.0 rs fault) found f.3))
+
+    by : (r : Result Asked InvocationFault) → IfOk r (AsksFor words) → IfErr r (IsFaultOf words) → AnswersBy (IsAskedBy request) r
+    by (Ok asked) ok err =
         let named = one_name words ok.0 reads.name ok.1 reads.rows ok.2 enters in
         let found = one_rows words ok.0 reads.name ok.1 reads.rows ok.2 enters in
-        reads.says invocation
-        (subst (λ (n : Text). SaysInvocation n reads.rows invocation) named (subst (λ (rs : List Row). SaysInvocation ok.0 rs invocation) found ok.3))
-    by (Err BadId) ok err = absurd (reads.good (subst HasBadId (one_rows words err.0 reads.name err.1 reads.rows err.2 enters) err.3))
+        reads.says asked.choice asked.line
+        (subst (λ (n : Text). AsksIn n reads.rows asked) named (subst (λ (rs : List Row). AsksIn ok.0 rs asked) found ok.3))
+    by (Err BadId) ok err = own BadId err
+    by (Err BadShape) ok err = own BadShape err
+    by (Err BadSize) ok err = own BadSize err
     by (Err (Usage error)) ok err =
         let kind : HasKind [] error = rw enters.taken at err in
         elim kind [ inl memory ↦ memory | inr none ↦ absurd none ]

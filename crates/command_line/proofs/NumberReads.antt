@@ -1,5 +1,6 @@
 -- What `get_one` reads of a text that passed a range of numbers.
-use Rattle.std.proofs.Common.{◌≡◌, ◌∙◌, ◌==◌, ◌<◌, ◌≤◌, ◌^◌, inl, inr, ap, ℕ, Bool, true, false, [], ◌∷◌, Option, Some, None, cond, drop, refl, sym, subst}
+use Rattle.std.proofs.Common.{◌≡◌, ◌∙◌, ◌==◌, ◌<◌, ◌≤◌, ◌^◌, inl, inr, ap, ℕ, Bool, true, false, List, [], ◌∷◌, Option, Some, None, cond, drop, refl, sym}
+use Rattle.std.proofs.Common.{subst}
 use Rattle.std.proofs.Common.{arith}
 use Rattle.std.specs.Prelude.{IsSome, pos, unwrap_or, Ok, Err, Result}
 use Rattle.std.specs.Str.Parse.{ExplainsUnsignedError, HasUnsignedDigitsIfOk, IsNumeral, ParsesUnsigned, digits_value, starts_with_minus, without_leading_plus}
@@ -10,11 +11,11 @@ use Rattle.std.proofs.lemmas.Str.Parse.{digit_from_value}
 use Rattle.clap.specs.Lexer.{without_minus}
 use Rattle.clap.specs.Matches.{ReadsOne, one_text}
 use Rattle.clap.specs.Values.{IsSignedIn, IsUnsignedIn}
-use Rattle.clap.specs.Walk.{Text, rows_of}
+use Rattle.clap.specs.Walk.{Row, Text, first_of, rows_of}
 use Rattle.clap.proofs.WalkLemmas.{one_text-rows}
 use Rattle.clap.specs.declared.parser.matches.Found.{Found}
-use Rattle.command_line.specs.FoundRows.{HasCountOrNone, HasNumberTo}
-use Rattle.command_line.specs.Invocations.{HasCount, HasNumber, Spells}
+use Rattle.command_line.specs.FoundRows.{HasCountOrNone, HasNumberTo, HasNumberToOrNone}
+use Rattle.command_line.specs.Invocations.{HasCount, HasNumber, HasNumberOr, Spells}
 
 without_minus_by : (t : Text) → without_minus t ≡ cond (starts_with_minus t) (drop 1 t) t
 without_minus_by [] = refl
@@ -31,7 +32,7 @@ no_plus (d ∷ ds) h =
     ap (λ (b : Bool). drop (cond b 1 0) (d ∷ ds)) plus
 
 -- what a text is read as at an unsigned type of k bits
-abbrev Parses : ℕ → Text → Result ℕ ParseIntError → Type 0
+abbrev pub Parses : ℕ → Text → Result ℕ ParseIntError → Type 0
 Parses k t r = ParsesUnsigned k 10 t r × ExplainsUnsignedError 10 t r × HasUnsignedDigitsIfOk t r
 
 -- the text reads as the number that it spells
@@ -78,6 +79,20 @@ module _ (k most : ℕ) (found : Found) (name : Text) (r : Option ℕ) (has : Ha
   number_value n is =
       let same : n ≡ number.0 = ap (λ (o : Option ℕ). unwrap_or o 0) (sym is ∙ number.1) in
       (has.0, has.1, rw same number.2)
+
+-- a number that may be left out is one where it is given
+pub number_given : (rows : List Row) (name : Text) (most : ℕ) → HasNumberToOrNone rows name most → IsSome (first_of name rows) → HasNumberTo rows name most
+number_given rows name most (inl none) some = let never = rw none.0 at some in cc
+number_given rows name most (inr has) some = has
+
+-- it is the absent one where it is left out
+pub number_or : (k most absent : ℕ) (found : Found) (name : Text) (r : Option ℕ) → HasNumberToOrNone (rows_of found) name most
+    → (one_text found name ≡ None → r ≡ None) → ((t : Text) → one_text found name ≡ Some t → ReadsOne (Parses k) t r) → most < 2 ^ k
+    → HasNumberOr (rows_of found) name absent (unwrap_or r absent)
+number_or k most absent found name r (inl out) none reads fits = rw (none (one_text-rows found name ∙ out.1)) (inl (out.0, refl))
+number_or k most absent found name r (inr has) none reads fits =
+    let n = number k most found name r has reads fits in
+    rw n.1 (inr (has.0, has.1, n.2))
 
 -- ---- a number of 64 bits from 1, which may be left out
 

@@ -1,16 +1,16 @@
 -- What clap makes of the words `examine FOLDER`, after which `--id H`, `--json` and `--check` may stand.
-use Rattle.std.proofs.Common.{◌≡◌, ◌∙◌, refl, ap, sym, subst, Bool, true, false, List, [], ◌∷◌, ◌++◌, Option, Some, None, codes}
+use Rattle.std.proofs.Common.{◌≡◌, ◌∙◌, refl, sym, Bool, true, false, List, [], ◌∷◌, ◌++◌, Option, Some, None, codes}
 use Rattle.std.specs.Prelude.{IfSome}
-use Rattle.hex.specs.Hex.{decode_of}
 use Rattle.clap.specs.Faults.{defaults_fault, walk_fault}
 use Rattle.clap.specs.Walk.{Row, Text, Walk, finished, first_of, nothing_held, used, walk_from, walked}
 use Rattle.command_line.specs.declared.Invocation.{Invocation}
-use Rattle.command_line.specs.declared.Invocation.TheVariants.{Examine}
-use Rattle.command_line.specs.Invocations.{Enters, HasBadId, HasFlag, IsIdText, SaysInvocation}
-use Rattle.command_line.specs.Requests.{ExamineOf, IsInvocationOf, IsPlainWord, flag_words, id_words, words_of}
-use Rattle.command_line.proofs.Answering.{Reads}
-use Rattle.command_line.proofs.Asked.{one_flag, other_invocation, same_text}
-use Rattle.command_line.proofs.PlainSteps.{IsName, IsValue, flagged, given, plain_id, value_from_first}
+use Rattle.command_line.specs.declared.SetChoice.{SetChoice}
+use Rattle.command_line.specs.declared.Invocation.TheVariants.{Change as ChangeVolumes, Examine}
+use Rattle.command_line.specs.Invocations.{Chooses, Enters, HasBadId, HasFlag, SaysInvocation}
+use Rattle.command_line.specs.Requests.{ExamineOf, IsLineOf, IsPlainWord, IsSetText, flag_words, id_words, words_of}
+use Rattle.command_line.proofs.Answering.{Reads, no_bad, no_fault_in}
+use Rattle.command_line.proofs.OneAsked.{no_change, one_flag, other_invocation, same_text}
+use Rattle.command_line.proofs.PlainSteps.{IsName, IsValue, flagged, given, plain_choice, set_choice, value_from_first}
 use Rattle.command_line.proofs.PlainWalks.{EndsWell, Goes, IsOption, StopsAt, flag_goes, flags_go, folder_goes, option_goes, stays, sub_enters}
 use Rattle.command_line.proofs.TakenWords.{built_check, built_examine, built_folder, built_json, built_some_id}
 
@@ -142,48 +142,51 @@ module _ (folder : Text) (is_folder : IsValue folder) where
   has_check (Some text) true true = refl
 
   -- the id is no bad one
-  good : (id : Option Text) (json check : Bool) → IfSome id IsIdText → HasBadId (rows id json check) → ⊥
+  good : (id : Option Text) (json check : Bool) → IfSome id IsSetText → ¬ HasBadId (codes "examine") (rows id json check)
   good None json check is_id bad =
       let both : None ≡ Some bad.0 = sym (has_id None json check) ∙ bad.1 in
       cc
-  good (Some text) json check is_id bad = bad.2 (subst IsIdText (same_text text bad.0 (sym (has_id (Some text) json check) ∙ bad.1)) is_id)
+  good (Some text) json check is_id bad =
+      no_bad (codes "examine") (rows (Some text) json check) text (has_id (Some text) json check) (set_choice (codes "examine") text refl is_id) bad
 
   -- all that they say
-  says : (id : Option Text) (json check : Bool) (invocation : Invocation) → SaysInvocation (codes "examine") (rows id json check) invocation
-      → IsInvocationOf (ExamineOf folder id json check) invocation
-  says None json check (Examine f None as_json as_check) h = (
+  says : (id : Option Text) (json check : Bool) (choice : SetChoice) (line : Invocation) → SaysInvocation (codes "examine") (rows id json check) choice line
+      → IsLineOf (ExamineOf folder id json check) choice line
+  says None json check choice (Examine f None as_json as_check) h = (
     same_text f.now folder (sym h.1 ∙ has_folder None json check),
-    tt,
+    h.2.1,
     one_flag (rows None json check) (codes "json") as_json json h.3 (has_json None json check),
     one_flag (rows None json check) (codes "check") as_check check h.4 (has_check None json check),
   )
-  says None json check (Examine f (Some id) as_json as_check) h =
+  says None json check choice (Examine f (Some id) as_json as_check) h =
       let both : None ≡ Some h.2.0 = sym (has_id None json check) ∙ h.2.1 in
       cc
-  says (Some text) json check (Examine f None as_json as_check) h =
-      let both : None ≡ Some text = sym h.2 ∙ has_id (Some text) json check in
+  says (Some text) json check choice (Examine f None as_json as_check) h =
+      let both : None ≡ Some text = sym h.2.0 ∙ has_id (Some text) json check in
       cc
-  says (Some text) json check (Examine f (Some id) as_json as_check) h =
-      let same : text ≡ h.2.0 = same_text text h.2.0 (sym (has_id (Some text) json check) ∙ h.2.1) in (
+  says (Some text) json check choice (Examine f (Some id) as_json as_check) h =
+      let same : text ≡ h.2.0 = same_text text h.2.0 (sym (has_id (Some text) json check) ∙ h.2.1) in
+      let chosen : Chooses (codes "examine") text choice id = rw same h.2.2 in (
         same_text f.now folder (sym h.1 ∙ has_folder (Some text) json check),
-        ap decode_of same ∙ h.2.3,
+        chosen,
         one_flag (rows (Some text) json check) (codes "json") as_json json h.3 (has_json (Some text) json check),
         one_flag (rows (Some text) json check) (codes "check") as_check check h.4 (has_check (Some text) json check),
       )
-  says id json check invocation h = absurd (other_invocation (codes "examine") (rows id json check) invocation refl h)
+  says id json check choice (ChangeVolumes f set change) h = absurd (no_change (codes "examine") (rows id json check) change refl refl refl refl refl h.1)
+  says id json check choice line h = absurd (other_invocation (codes "examine") (rows id json check) choice line refl h)
 
-values : (id : Option Text) → IfSome id IsIdText → IfSome id IsValue
+values : (id : Option Text) → IfSome id IsSetText → IfSome id IsValue
 values None is_id = tt
-values (Some text) is_id = value_from_first text (plain_id text is_id)
+values (Some text) is_id = value_from_first text (plain_choice text is_id)
 
 -- what clap makes of them
-pub reads_examine : (folder : Text) (id : Option Text) (json check : Bool) → IsPlainWord folder → IfSome id IsIdText → Reads (ExamineOf folder id json check)
+pub reads_examine : (folder : Text) (id : Option Text) (json check : Bool) → IsPlainWord folder → IfSome id IsSetText → Reads (ExamineOf folder id json check)
 reads_examine folder id json check is_plain is_id =
     let v = value_from_first folder is_plain in
     record {
       name = codes "examine";
       rows = rows folder v id json check;
       enters = enters folder v id json check (values id is_id);
-      good = good folder v id json check is_id;
+      good = no_fault_in (codes "examine") (rows folder v id json check) refl refl refl (good folder v id json check is_id);
       says = says folder v id json check;
     }

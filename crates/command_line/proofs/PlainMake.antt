@@ -4,14 +4,15 @@ use Rattle.std.specs.Prelude.{decimal}
 use Rattle.clap.specs.Faults.{defaults_fault, walk_fault}
 use Rattle.clap.specs.Walk.{Row, Text, Walk, finished, nothing_held, used, walk_from, walked}
 use Rattle.command_line.specs.declared.Invocation.{Invocation}
-use Rattle.command_line.specs.declared.Invocation.TheVariants.{Make}
+use Rattle.command_line.specs.declared.SetChoice.{SetChoice}
+use Rattle.command_line.specs.declared.Invocation.TheVariants.{Change as ChangeVolumes, Make, MakeSized}
 use Rattle.command_line.specs.Commands.{up_to}
-use Rattle.command_line.specs.Invocations.{Enters, HasSizes, IsIdText, SaysInvocation}
-use Rattle.command_line.specs.Requests.{IsInvocationOf, IsPlainSet, IsPlainWord, MakeOf, words_of}
-use Rattle.command_line.proofs.Answering.{Reads, no_bad}
-use Rattle.command_line.proofs.Asked.{one_sizes, other_invocation}
+use Rattle.command_line.specs.Invocations.{Enters, HasSizes, IsByStripes, SaysInvocation}
+use Rattle.command_line.specs.Requests.{IsLineOf, IsNewSetText, IsPlainNewSet, IsPlainWord, MakeOf, words_of}
+use Rattle.command_line.proofs.Answering.{Reads, no_bad, no_fault_by_stripes}
+use Rattle.command_line.proofs.OneAsked.{no_change, one_form, one_sizes, other_invocation}
 use Rattle.command_line.proofs.PlainNumbers.{IsNumberValue, decimal_spells, decimal_value}
-use Rattle.command_line.proofs.PlainSteps.{IsValue, given, plain_id, value_from_first}
+use Rattle.command_line.proofs.PlainSteps.{IsValue, given, new_choice, plain_new, value_from_first}
 use Rattle.command_line.proofs.PlainWalks.{EndsWell, Goes, HasSetRules, IsOption, StopsAt, id_rows, option_goes, set_goes, stays, sub_enters}
 use Rattle.command_line.proofs.PlainWords.{set_values}
 use Rattle.command_line.proofs.TakenWords.{built_chunk, built_folder, built_id, built_make, built_members, built_stripes}
@@ -81,12 +82,13 @@ record AreSmall (members chunk stripes : ℕ) : Type 0 where
   chunk_small : chunk < 2 ^ 16
   stripes_small : stripes < 2 ^ 32
 
-module _ (folder text : Text) (members chunk stripes : ℕ) (is_plain : IsPlainWord folder) (is_id : IsIdText text) (small : AreSmall members chunk stripes) where
+module _ (folder text : Text) (members chunk stripes : ℕ) (is_plain : IsPlainWord folder) (is_id : IsNewSetText text)
+    (small : AreSmall members chunk stripes) where
   abbrev v : IsValue folder
   v = value_from_first folder is_plain
 
   abbrev t : IsValue text
-  t = value_from_first text (plain_id text is_id)
+  t = value_from_first text (plain_new text is_id)
 
   abbrev m : IsNumberValue (up_to 255) (decimal members)
   m = decimal_value 255 members (omega (arith, small.members_small)) (omega arith)
@@ -111,17 +113,22 @@ module _ (folder text : Text) (members chunk stripes : ℕ) (is_plain : IsPlainW
     stripes_is = (decimal stripes, refl, decimal_spells stripes (omega (arith, small.stripes_small)));
   }
 
+  form : IsByStripes all_rows
+  form = record { no_size = refl; has_chunk = refl; has_stripes = refl; not_over = refl; no_reserve = refl }
+
   -- all that they say
-  make_says : (invocation : Invocation) → SaysInvocation (codes "make") all_rows invocation
-      → IsInvocationOf (MakeOf folder text members chunk stripes) invocation
-  make_says (Make f id ms cs ss) h =
-      let set = set_values all_rows f.now folder text id h.1 refl refl in
+  make_says : (choice : SetChoice) (line : Invocation) → SaysInvocation (codes "make") all_rows choice line
+      → IsLineOf (MakeOf folder text members chunk stripes) choice line
+  make_says choice (Make f id ms cs ss) h =
+      let set = set_values (codes "make") all_rows f.now folder text choice id h.1 refl refl in
       let same = one_sizes all_rows ms cs ss members chunk stripes h.2 sizes in
       (set.0, set.1, same.members_same, same.chunk_same, same.stripes_same)
-  make_says invocation h = absurd (other_invocation (codes "make") all_rows invocation refl h)
+  make_says choice (MakeSized f id ms cs size over reserve) h = absurd (one_form all_rows form h.2.by_size)
+  make_says choice (ChangeVolumes f id change) h = absurd (no_change (codes "make") all_rows change refl refl refl refl refl h.1)
+  make_says choice line h = absurd (other_invocation (codes "make") all_rows choice line refl h)
 
 -- what clap makes of them
-pub reads_make : (folder text : Text) (members chunk stripes : ℕ) → IsPlainSet folder text → members < 2 ^ 8 → chunk < 2 ^ 16 → stripes < 2 ^ 32
+pub reads_make : (folder text : Text) (members chunk stripes : ℕ) → IsPlainNewSet folder text → members < 2 ^ 8 → chunk < 2 ^ 16 → stripes < 2 ^ 32
     → Reads (MakeOf folder text members chunk stripes)
 reads_make folder text members chunk stripes is m c s =
     let small : AreSmall members chunk stripes = record { members_small = m; chunk_small = c; stripes_small = s } in
@@ -129,6 +136,8 @@ reads_make folder text members chunk stripes is m c s =
       name = codes "make";
       rows = all_rows folder text members chunk stripes is.0 is.1 small;
       enters = make_enters folder text members chunk stripes is.0 is.1 small;
-      good = no_bad (all_rows folder text members chunk stripes is.0 is.1 small) text refl is.1;
+      good =
+          no_fault_by_stripes (all_rows folder text members chunk stripes is.0 is.1 small) (form folder text members chunk stripes is.0 is.1 small)
+          (no_bad (codes "make") (all_rows folder text members chunk stripes is.0 is.1 small) text refl (new_choice text is.1));
       says = make_says folder text members chunk stripes is.0 is.1 small;
     }

@@ -1,5 +1,5 @@
 -- The decimal digits of a number stand as the value of an option of numbers.
-use Rattle.std.proofs.Common.{◌≡◌, ◌<◌, ◌≤◌, ◌^◌, ℕ, true, false, [], ◌∷◌, arith, refl}
+use Rattle.std.proofs.Common.{inl, inr, ◌++◌, ◌≡◌, ◌<◌, ◌≤◌, ◌^◌, ℕ, true, false, [], ◌∷◌, arith, codes, refl}
 use Rattle.std.specs.Prelude.{decimal, pos}
 use Rattle.std.specs.Str.Parse.{IsNumeral, signed_digits_value, starts_with_minus, without_leading_plus, without_leading_sign}
 use Rattle.std.proofs.lemmas.Bool.{ne_eqb}
@@ -14,8 +14,12 @@ use Rattle.clap.proofs.ValueTestLemmas.{Accepts-accepts}
 use Rattle.command_line.specs.Commands.{from_one, up_to}
 use Rattle.command_line.specs.Invocations.{Spells}
 use Rattle.command_line.specs.Requests.{IsPlainWord}
+use Rattle.command_line.specs.declared.Size.{Size}
+use Rattle.command_line.specs.declared.Size.TheVariants.{Blocks, Most}
+use Rattle.command_line.specs.Sizes.{IsAmount, IsRoom, SpellsUnits}
+use Rattle.command_line.proofs.SizeTexts.{small_number}
 use Rattle.command_line.proofs.NumberReads.{no_plus}
-use Rattle.command_line.proofs.PlainSteps.{IsValue, value_from_first}
+use Rattle.command_line.proofs.PlainSteps.{IsValue, other_first, value_from_first}
 
 -- the text stands as a value, and passes this range
 pub record IsNumberValue (range : ValueParser) (text : Text) : Type 0 where
@@ -64,3 +68,23 @@ decimal_count n least small =
       rw (plain, numeral.1) (omega (arith, small)),
     ) in
     record { value = value_from_first (decimal n) (plain_numeral (decimal n) numeral.0); passes = Accepts-accepts false from_one (decimal n) in_range }
+
+-- ---- sizes
+
+-- what begins with a number does not begin with a hyphen
+plain_units : (text : Text) (letter blocks : ℕ) → SpellsUnits text letter blocks → blocks < 2 ^ 64 → IsPlainWord text
+plain_units text letter blocks s small =
+    let few = small_number text letter blocks s in
+    rw s.spelled (after (decimal s.number) (decimal_is_IsNumeral s.number (omega arith)).0)
+  where
+    after : (ds : Text) → IsNumeral 10 ds → IsPlainWord (ds ++ letter ∷ [])
+    after [] h = absurd (omega (arith, h.0))
+    after (d ∷ ds) h = λ is. plain_numeral (d ∷ ds) h is
+
+pub plain_amount : (text : Text) (blocks : ℕ) → IsAmount text blocks → blocks < 2 ^ 64 → IsPlainWord text
+plain_amount text blocks (inl is) small = rw is (plain_numeral (decimal blocks) (decimal_is_IsNumeral blocks small).0)
+plain_amount text blocks (inr s) small = plain_units text s.0 blocks s.1 small
+
+pub plain_room : (text : Text) (size : Size) → IsRoom text size → IsPlainWord text
+plain_room text Most is = rw is (other_first (codes "max") 109 refl (λ e. omega (arith, e)))
+plain_room text (Blocks blocks) is = plain_units text is.0 blocks is.1 is.4

@@ -4,14 +4,15 @@ use Rattle.std.specs.Prelude.{decimal}
 use Rattle.clap.specs.Faults.{defaults_fault, walk_fault}
 use Rattle.clap.specs.Walk.{Row, Text, Walk, finished, nothing_held, used, walk_from, walked}
 use Rattle.command_line.specs.declared.Invocation.{Invocation}
-use Rattle.command_line.specs.declared.Invocation.TheVariants.{Fail, Replace}
+use Rattle.command_line.specs.declared.SetChoice.{SetChoice}
+use Rattle.command_line.specs.declared.Invocation.TheVariants.{Change as ChangeVolumes, Fail, Replace}
 use Rattle.command_line.specs.Commands.{up_to}
-use Rattle.command_line.specs.Invocations.{Enters, HasNumber, IsIdText, SaysInvocation}
-use Rattle.command_line.specs.Requests.{FailOf, IsInvocationOf, IsPlainSet, IsPlainWord, ReplaceOf, words_of}
-use Rattle.command_line.proofs.Answering.{Reads, no_bad}
-use Rattle.command_line.proofs.Asked.{one_number, other_invocation}
+use Rattle.command_line.specs.Invocations.{Enters, HasNumber, SaysInvocation}
+use Rattle.command_line.specs.Requests.{FailOf, IsLineOf, IsPlainSet, IsPlainWord, IsSetText, ReplaceOf, words_of}
+use Rattle.command_line.proofs.Answering.{Reads, no_bad, no_fault_in}
+use Rattle.command_line.proofs.OneAsked.{no_change, one_number, other_invocation}
 use Rattle.command_line.proofs.PlainNumbers.{IsNumberValue, decimal_spells, decimal_value}
-use Rattle.command_line.proofs.PlainSteps.{IsValue, given, plain_id, value_from_first}
+use Rattle.command_line.proofs.PlainSteps.{IsValue, given, plain_choice, set_choice, value_from_first}
 use Rattle.command_line.proofs.PlainWalks.{EndsWell, Goes, HasSetRules, IsOption, StopsAt, id_rows, option_goes, set_goes, stays, sub_enters}
 use Rattle.command_line.proofs.PlainWords.{set_values}
 use Rattle.command_line.proofs.TakenWords.{built_folder, built_id, built_slot, built_slotted}
@@ -44,12 +45,12 @@ module _ (name folder text number : Text) (is_folder : IsValue folder) (is_id : 
 
 -- ---- `fail` and `replace`
 
-module _ (folder text : Text) (slot : ℕ) (is_plain : IsPlainWord folder) (is_id : IsIdText text) (small : slot < 2 ^ 8) where
+module _ (folder text : Text) (slot : ℕ) (is_plain : IsPlainWord folder) (is_id : IsSetText text) (small : slot < 2 ^ 8) where
   abbrev v : IsValue folder
   v = value_from_first folder is_plain
 
   abbrev t : IsValue text
-  t = value_from_first text (plain_id text is_id)
+  t = value_from_first text (plain_choice text is_id)
 
   abbrev k : IsNumberValue (up_to 255) (decimal slot)
   k = decimal_value 255 slot (omega (arith, small)) (omega arith)
@@ -77,12 +78,13 @@ module _ (folder text : Text) (slot : ℕ) (is_plain : IsPlainWord folder) (is_i
   fail_enters = slot_enters (codes "fail") fail_stops
 
   -- all that they say
-  fail_says : (invocation : Invocation) → SaysInvocation (codes "fail") (slot_rows (codes "fail")) invocation
-      → IsInvocationOf (FailOf folder text slot) invocation
-  fail_says (Fail f id n) h =
-      let set = set_values (slot_rows (codes "fail")) f.now folder text id h.1 refl refl in
+  fail_says : (choice : SetChoice) (line : Invocation) → SaysInvocation (codes "fail") (slot_rows (codes "fail")) choice line
+      → IsLineOf (FailOf folder text slot) choice line
+  fail_says choice (Fail f id n) h =
+      let set = set_values (codes "fail") (slot_rows (codes "fail")) f.now folder text choice id h.1 refl refl in
       (set.0, set.1, one_number (slot_rows (codes "fail")) (codes "slot") n slot h.2 (slot_is (codes "fail")))
-  fail_says invocation h = absurd (other_invocation (codes "fail") (slot_rows (codes "fail")) invocation refl h)
+  fail_says choice (ChangeVolumes f id change) h = absurd (no_change (codes "fail") (slot_rows (codes "fail")) change refl refl refl refl refl h.1)
+  fail_says choice line h = absurd (other_invocation (codes "fail") (slot_rows (codes "fail")) choice line refl h)
 
   replace_stops : StopsAt (built_slotted (codes "replace")) slot_words
   unfolding walked walk_fault
@@ -92,12 +94,13 @@ module _ (folder text : Text) (slot : ℕ) (is_plain : IsPlainWord folder) (is_i
   replace_enters = slot_enters (codes "replace") replace_stops
 
   -- all that they say
-  replace_says : (invocation : Invocation) → SaysInvocation (codes "replace") (slot_rows (codes "replace")) invocation
-      → IsInvocationOf (ReplaceOf folder text slot) invocation
-  replace_says (Replace f id n) h =
-      let set = set_values (slot_rows (codes "replace")) f.now folder text id h.1 refl refl in
+  replace_says : (choice : SetChoice) (line : Invocation) → SaysInvocation (codes "replace") (slot_rows (codes "replace")) choice line
+      → IsLineOf (ReplaceOf folder text slot) choice line
+  replace_says choice (Replace f id n) h =
+      let set = set_values (codes "replace") (slot_rows (codes "replace")) f.now folder text choice id h.1 refl refl in
       (set.0, set.1, one_number (slot_rows (codes "replace")) (codes "slot") n slot h.2 (slot_is (codes "replace")))
-  replace_says invocation h = absurd (other_invocation (codes "replace") (slot_rows (codes "replace")) invocation refl h)
+  replace_says choice (ChangeVolumes f id change) h = absurd (no_change (codes "replace") (slot_rows (codes "replace")) change refl refl refl refl refl h.1)
+  replace_says choice line h = absurd (other_invocation (codes "replace") (slot_rows (codes "replace")) choice line refl h)
 
 -- what clap makes of each of them
 pub reads_fail : (folder text : Text) (slot : ℕ) → IsPlainSet folder text → slot < 2 ^ 8 → Reads (FailOf folder text slot)
@@ -105,7 +108,9 @@ reads_fail folder text slot is small = record {
   name = codes "fail";
   rows = slot_rows folder text slot is.0 is.1 small (codes "fail");
   enters = fail_enters folder text slot is.0 is.1 small;
-  good = no_bad (slot_rows folder text slot is.0 is.1 small (codes "fail")) text refl is.1;
+  good =
+      no_fault_in (codes "fail") (slot_rows folder text slot is.0 is.1 small (codes "fail")) refl refl refl
+      (no_bad (codes "fail") (slot_rows folder text slot is.0 is.1 small (codes "fail")) text refl (set_choice (codes "fail") text refl is.1));
   says = fail_says folder text slot is.0 is.1 small;
 }
 
@@ -114,6 +119,8 @@ reads_replace folder text slot is small = record {
   name = codes "replace";
   rows = slot_rows folder text slot is.0 is.1 small (codes "replace");
   enters = replace_enters folder text slot is.0 is.1 small;
-  good = no_bad (slot_rows folder text slot is.0 is.1 small (codes "replace")) text refl is.1;
+  good =
+      no_fault_in (codes "replace") (slot_rows folder text slot is.0 is.1 small (codes "replace")) refl refl refl
+      (no_bad (codes "replace") (slot_rows folder text slot is.0 is.1 small (codes "replace")) text refl (set_choice (codes "replace") text refl is.1));
   says = replace_says folder text slot is.0 is.1 small;
 }

@@ -3,12 +3,13 @@ use Rattle.std.proofs.Common.{◌≡◌, refl, Bool, true, false, List, [], ◌�
 use Rattle.clap.specs.Faults.{defaults_fault, walk_fault}
 use Rattle.clap.specs.Walk.{Row, Text, Walk, finished, first_of, nothing_held, used, walk_from, walked}
 use Rattle.command_line.specs.declared.Invocation.{Invocation}
-use Rattle.command_line.specs.declared.Invocation.TheVariants.{Status}
+use Rattle.command_line.specs.declared.SetChoice.{SetChoice}
+use Rattle.command_line.specs.declared.Invocation.TheVariants.{Change as ChangeVolumes, Status}
 use Rattle.command_line.specs.Invocations.{Enters, HasFlag, SaysInvocation}
-use Rattle.command_line.specs.Requests.{IsInvocationOf, IsPlainSet, StatusOf, flag_words, words_of}
-use Rattle.command_line.proofs.Answering.{Reads, no_bad}
-use Rattle.command_line.proofs.Asked.{one_flag, other_invocation}
-use Rattle.command_line.proofs.PlainSteps.{IsName, IsValue, flagged, plain_id, value_from_first}
+use Rattle.command_line.specs.Requests.{IsLineOf, IsPlainSet, StatusOf, flag_words, words_of}
+use Rattle.command_line.proofs.Answering.{Reads, no_bad, no_fault_in}
+use Rattle.command_line.proofs.OneAsked.{no_change, one_flag, other_invocation}
+use Rattle.command_line.proofs.PlainSteps.{IsName, IsValue, flagged, plain_choice, set_choice, value_from_first}
 use Rattle.command_line.proofs.PlainWalks.{EndsWell, Goes, HasSetRules, StopsAt, flag_goes, flags_go, id_given, id_rows, set_goes, stays, sub_enters}
 use Rattle.command_line.proofs.PlainWords.{set_values}
 use Rattle.command_line.proofs.TakenWords.{built_check, built_folder, built_id, built_json, built_status}
@@ -95,26 +96,29 @@ module _ (folder text : Text) (is_folder : IsValue folder) (is_id : IsValue text
   has_check true true = refl
 
   -- all that they say
-  plain_says : (json check : Bool) (invocation : Invocation) → SaysInvocation (codes "status") (rows json check) invocation
-      → IsInvocationOf (StatusOf folder text json check) invocation
-  plain_says json check (Status f id as_json as_check) h =
-      let set = set_values (rows json check) f.now folder text id h.1 (has_folder json check) (has_id json check) in (
+  plain_says : (json check : Bool) (choice : SetChoice) (line : Invocation) → SaysInvocation (codes "status") (rows json check) choice line
+      → IsLineOf (StatusOf folder text json check) choice line
+  plain_says json check choice (Status f id as_json as_check) h =
+      let set = set_values (codes "status") (rows json check) f.now folder text choice id h.1 (has_folder json check) (has_id json check) in (
         set.0,
         set.1,
         one_flag (rows json check) (codes "json") as_json json h.2 (has_json json check),
         one_flag (rows json check) (codes "check") as_check check h.3 (has_check json check),
       )
-  plain_says json check invocation h = absurd (other_invocation (codes "status") (rows json check) invocation refl h)
+  plain_says json check choice (ChangeVolumes f id change) h = absurd (no_change (codes "status") (rows json check) change refl refl refl refl refl h.1)
+  plain_says json check choice line h = absurd (other_invocation (codes "status") (rows json check) choice line refl h)
 
 -- what clap makes of them
 pub reads_status : (folder text : Text) (json check : Bool) → IsPlainSet folder text → Reads (StatusOf folder text json check)
 reads_status folder text json check is =
     let v = value_from_first folder is.0 in
-    let t = value_from_first text (plain_id text is.1) in
+    let t = value_from_first text (plain_choice text is.1) in
     record {
       name = codes "status";
       rows = rows folder text v t json check;
       enters = plain_enters folder text v t json check;
-      good = no_bad (rows folder text v t json check) text (has_id folder text v t json check) is.1;
+      good =
+          no_fault_in (codes "status") (rows folder text v t json check) refl refl refl
+          (no_bad (codes "status") (rows folder text v t json check) text (has_id folder text v t json check) (set_choice (codes "status") text refl is.1));
       says = plain_says folder text v t json check;
     }

@@ -1,16 +1,18 @@
 -- The walk over plain words, piece by piece: FOLDER and the id, an option with its value, or a flag; and what it comes to for a subcommand.
-use Rattle.std.proofs.Common.{◌≡◌, ◌∙◌, refl, ap, false, true, List, [], ◌∷◌, Option, Some, None, codes}
-use Rattle.std.specs.Prelude.{find, fold, nat_lt, option_map}
+use Rattle.std.proofs.Common.{◌≡◌, ◌∙◌, ◌+◌, refl, ap, ℕ, false, true, List, [], ◌∷◌, Option, Some, None, codes}
+use Rattle.std.specs.Prelude.{find, fold, min, nat_lt, option_map}
 use Rattle.std.specs.Str.{bytes_eq}
 use Rattle.clap.specs.Faults.{check_fault, defaults_fault, level_fault, settle_fault, turn_fault, use_fault, walk_fault}
-use Rattle.clap.specs.Lexer.{long_of}
+use Rattle.clap.specs.Lexer.{long_of, usize_max}
 use Rattle.clap.specs.Simple.{Shape, built, entered, label_of, names_of, rows_at}
-use Rattle.clap.specs.Walk.{Row, Rule, Text, Walk, answers_to, arg_by_id, arg_by_index, arg_by_long, finished, most_values, nothing_held, pending_count}
+use Rattle.clap.specs.Walk.{Row, Rule, Text, Walk, answers_to, arg_by_id, arg_by_index, arg_by_long, finished, is_multiple, most_values, nothing_held}
+use Rattle.clap.specs.Walk.{pending_count, takes_several}
 use Rattle.clap.specs.Walk.{settled, takes_values, used, walk, walk_from, walked}
 use Rattle.command_line.specs.Commands.{raidtool_app}
 use Rattle.command_line.specs.Invocations.{Enters}
-use Rattle.command_line.proofs.PlainSteps.{IsName, IsValue, flag_step, flag_turn, more_step, more_turn, flagged, folder_step, folder_turn, given, named_step}
-use Rattle.command_line.proofs.PlainSteps.{named_turn, value_step, value_turn}
+use Rattle.command_line.proofs.PlainSteps.{IsName, IsValue, flag_step, flag_turn, more_step, more_turn, flagged, folder_step, folder_turn, given, given_at}
+use Rattle.command_line.proofs.PlainSteps.{named_step}
+use Rattle.command_line.proofs.PlainSteps.{named_turn, value_step, value_turn, word_step, word_turn}
 use Rattle.command_line.proofs.TakenWords.{built_folder, built_id}
 
 -- from one place in the walk these words lead to another, and none of them is a fault
@@ -63,10 +65,10 @@ module _ (s : Shape) where
         → Goes s (given (used a (text ∷ []) rows) b.id value) words to → Goes s (given rows a.id text) (word ∷ value ∷ words) to
     option_goes word name b is value v words to goes =
         let is_name : IsName s word name b = record { not_end = is.not_end; is_long = is.is_long; found = is.found } in
-        one_word _ _ to word (value ∷ words) (named_step s a b own rows text word name is_name is.takes)
-        (named_turn s a b own rows text word name is_name is.takes passes)
-        (one_word _ _ to value words (value_step s b is.own (used a (text ∷ []) rows) value v (is.one_value value))
-        (value_turn s b is.own (used a (text ∷ []) rows) value v) goes)
+        one_word _ _ to word (value ∷ words) (named_step s a b own rows text word name is_name 2 is.takes)
+        (named_turn s a b own rows text word name is_name 2 is.takes passes)
+        (one_word _ _ to value words (value_step s 2 b is.own (used a (text ∷ []) rows) value v (is.one_value value))
+        (value_turn s 2 b is.own (used a (text ∷ []) rows) value v) goes)
 
     pub flag_goes : (word name : Text) (b : Rule) → IsName s word name b → takes_values b ≡ false
         → use_fault s.args_override_self b [] (used a (text ∷ []) rows) ≡ []
@@ -92,6 +94,27 @@ module _ (s : Shape) where
       → Goes s (given [] (codes "folder") folder) words to → Goes s (walk_from nothing_held) (folder ∷ words) to
   folder_goes first folder is_folder words to goes =
       one_word _ _ to folder words (folder_step s first folder is_folder) (folder_turn s first folder is_folder) goes
+
+  -- the id as the last option, after words to this position
+  pub last_id_goes : (p : ℕ) (a : Rule) → arg_by_id s.rules a.id ≡ Some a → arg_by_id s.rules built_id.id ≡ Some built_id
+      → arg_by_long s.rules (codes "id") ≡ Some built_id → (rows : List Row) (word : Text) → use_fault s.args_override_self a (word ∷ []) rows ≡ []
+      → (text : Text) → IsValue text
+      → Goes s (given_at p rows a.id word) (codes "--id" ∷ text ∷ []) (given_at p (used a (word ∷ []) rows) (codes "id") text)
+  last_id_goes p a own own_id found rows word passes text v =
+      let is_name : IsName s (codes "--id") (codes "id") built_id = record { not_end = refl; is_long = refl; found = found } in
+      one_word _ _ _ (codes "--id") (text ∷ []) (named_step s a built_id own rows word (codes "--id") (codes "id") is_name p refl)
+      (named_turn s a built_id own rows word (codes "--id") (codes "id") is_name p refl passes)
+      (one_word _ _ _ text [] (value_step s p built_id own_id (used a (word ∷ []) rows) text v refl)
+      (value_turn s p built_id own_id (used a (word ∷ []) rows) text v) (stays (given_at p (used a (word ∷ []) rows) (codes "id") text)))
+
+  -- a word after a word
+  pub word_goes : (p next : ℕ) (a b : Rule) → arg_by_id s.rules a.id ≡ Some a → arg_by_index s.rules p ≡ Some b → is_multiple b ≡ false
+      → takes_several b ≡ false → b.trailing_var_arg ≡ false → min (p + 1) usize_max ≡ next → (rows : List Row) (text : Text)
+      → use_fault s.args_override_self a (text ∷ []) rows ≡ [] → (word : Text) → IsValue word → (words : List Text) (to : Walk)
+      → Goes s (given_at next (used a (text ∷ []) rows) b.id word) words to → Goes s (given_at p rows a.id text) (word ∷ words) to
+  word_goes p next a b own index single several ends after rows text passes word v words to goes =
+      one_word _ _ to word words (word_step s p next a b own index single several ends after rows text word v)
+      (word_turn s p next a b own index single several ends after rows text word v passes) goes
 
   pub set_goes : HasSetRules s → (folder text : Text) → IsValue folder → IsValue text → (words : List Text) (to : Walk)
       → Goes s (id_given folder text) words to → Goes s (walk_from nothing_held) (folder ∷ codes "--id" ∷ text ∷ words) to

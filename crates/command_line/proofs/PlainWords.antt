@@ -1,25 +1,25 @@
--- What clap makes of the words `run FOLDER --id H`, `scrub FOLDER --id H` and `upgrade FOLDER --id H`.
-use Rattle.std.proofs.Common.{◌≡◌, ◌∙◌, refl, sym, ap, ℕ, List, [], ◌∷◌, Some, codes}
-use Rattle.std.specs.Prelude.{Ok}
-use Rattle.hex.specs.Hex.{decode_of}
+-- What clap makes of the words `run FOLDER --id H`, and of `scrub`, `upgrade` and `list` likewise.
+use Rattle.std.proofs.Common.{◌≡◌, ◌∙◌, refl, sym, ℕ, List, [], ◌∷◌, Some, codes}
 use Rattle.clap.specs.Faults.{defaults_fault, walk_fault}
 use Rattle.clap.specs.Walk.{Row, Text, finished, first_of, nothing_held, walk_from, walked}
+use Rattle.command_line.specs.declared.Change.TheVariants as change
 use Rattle.command_line.specs.declared.Invocation.{Invocation}
-use Rattle.command_line.specs.declared.Invocation.TheVariants.{Run, Scrub, Upgrade}
-use Rattle.command_line.specs.Invocations.{Enters, NamesSet, SaysInvocation}
-use Rattle.command_line.specs.Requests.{IsInvocationOf, IsPlainSet, RunOf, ScrubOf, UpgradeOf, words_of}
-use Rattle.command_line.proofs.Answering.{Reads, no_bad}
-use Rattle.command_line.proofs.Asked.{other_invocation, same_text}
-use Rattle.command_line.proofs.PlainSteps.{IsValue, plain_id, value_from_first}
+use Rattle.command_line.specs.declared.Invocation.TheVariants.{Run, Scrub, Upgrade, Change as ChangeVolumes}
+use Rattle.command_line.specs.declared.SetChoice.{SetChoice}
+use Rattle.command_line.specs.Invocations.{Chooses, Enters, NamesSet, SaysInvocation}
+use Rattle.command_line.specs.Requests.{IsLineOf, IsPlainSet, ListOf, RunOf, ScrubOf, UpgradeOf, words_of}
+use Rattle.command_line.proofs.Answering.{Reads, no_bad, no_fault_in}
+use Rattle.command_line.proofs.OneAsked.{no_change, other_change, other_invocation, same_text}
+use Rattle.command_line.proofs.PlainSteps.{IsValue, plain_choice, set_choice, value_from_first}
 use Rattle.command_line.proofs.PlainWalks.{EndsWell, Goes, HasSetRules, StopsAt, id_given, set_goes, stays, sub_enters}
 use Rattle.command_line.proofs.TakenWords.{built_set}
 
 -- the set that rows name, by their values
-pub set_values : (rows : List Row) (f folder text : Text) (id : List ℕ) → NamesSet rows f id → first_of (codes "folder") rows ≡ Some folder
-    → first_of (codes "id") rows ≡ Some text → (f ≡ folder) × (decode_of text ≡ Ok id)
-set_values rows f folder text id h is_folder is_text =
+pub set_values : (name : Text) (rows : List Row) (f folder text : Text) (choice : SetChoice) (id : List ℕ) → NamesSet name rows f choice id
+    → first_of (codes "folder") rows ≡ Some folder → first_of (codes "id") rows ≡ Some text → (f ≡ folder) × Chooses name text choice id
+set_values name rows f folder text choice id h is_folder is_text =
     let same : text ≡ h.text = same_text text h.text (sym is_text ∙ h.id_value) in
-    (same_text f folder (sym h.folder_value ∙ is_folder), ap decode_of same ∙ h.spelled)
+    (same_text f folder (sym h.folder_value ∙ is_folder), rw same h.chosen)
 
 -- ---- the words after the name
 
@@ -41,7 +41,7 @@ module _ (name folder text : Text) (is_folder : IsValue folder) (is_id : IsValue
   unfolding defaults_fault
   ends_well = record { settles = refl; defaults = refl; checks = refl }
 
--- ---- `run`, `scrub` and `upgrade`
+-- ---- `run`, `scrub`, `upgrade` and `list`
 
 module _ (folder text : Text) (is_folder : IsValue folder) (is_id : IsValue text) where
   abbrev rows_of : Text → List Row
@@ -57,9 +57,11 @@ module _ (folder text : Text) (is_folder : IsValue folder) (is_id : IsValue text
       (ends_well (codes "run") folder text is_folder is_id)
 
   -- all that they say
-  run_says : (invocation : Invocation) → SaysInvocation (codes "run") (rows_of (codes "run")) invocation → IsInvocationOf (RunOf folder text) invocation
-  run_says (Run f id) h = set_values (rows_of (codes "run")) f.now folder text id h.1 refl refl
-  run_says invocation h = absurd (other_invocation (codes "run") (rows_of (codes "run")) invocation refl h)
+  run_says : (choice : SetChoice) (line : Invocation) → SaysInvocation (codes "run") (rows_of (codes "run")) choice line
+      → IsLineOf (RunOf folder text) choice line
+  run_says choice (Run f id) h = set_values (codes "run") (rows_of (codes "run")) f.now folder text choice id h.1 refl refl
+  run_says choice (ChangeVolumes f id change) h = absurd (no_change (codes "run") (rows_of (codes "run")) change refl refl refl refl refl h.1)
+  run_says choice line h = absurd (other_invocation (codes "run") (rows_of (codes "run")) choice line refl h)
 
   scrub_stops : StopsAt (built_set (codes "scrub")) (folder ∷ codes "--id" ∷ text ∷ [])
   unfolding walked walk_fault
@@ -71,9 +73,11 @@ module _ (folder text : Text) (is_folder : IsValue folder) (is_id : IsValue text
       (ends_well (codes "scrub") folder text is_folder is_id)
 
   -- all that they say
-  scrub_says : (invocation : Invocation) → SaysInvocation (codes "scrub") (rows_of (codes "scrub")) invocation → IsInvocationOf (ScrubOf folder text) invocation
-  scrub_says (Scrub f id) h = set_values (rows_of (codes "scrub")) f.now folder text id h.1 refl refl
-  scrub_says invocation h = absurd (other_invocation (codes "scrub") (rows_of (codes "scrub")) invocation refl h)
+  scrub_says : (choice : SetChoice) (line : Invocation) → SaysInvocation (codes "scrub") (rows_of (codes "scrub")) choice line
+      → IsLineOf (ScrubOf folder text) choice line
+  scrub_says choice (Scrub f id) h = set_values (codes "scrub") (rows_of (codes "scrub")) f.now folder text choice id h.1 refl refl
+  scrub_says choice (ChangeVolumes f id change) h = absurd (no_change (codes "scrub") (rows_of (codes "scrub")) change refl refl refl refl refl h.1)
+  scrub_says choice line h = absurd (other_invocation (codes "scrub") (rows_of (codes "scrub")) choice line refl h)
 
   upgrade_stops : StopsAt (built_set (codes "upgrade")) (folder ∷ codes "--id" ∷ text ∷ [])
   unfolding walked walk_fault
@@ -85,44 +89,77 @@ module _ (folder text : Text) (is_folder : IsValue folder) (is_id : IsValue text
       (ends_well (codes "upgrade") folder text is_folder is_id)
 
   -- all that they say
-  upgrade_says : (invocation : Invocation) → SaysInvocation (codes "upgrade") (rows_of (codes "upgrade")) invocation
-      → IsInvocationOf (UpgradeOf folder text) invocation
-  upgrade_says (Upgrade f id) h = set_values (rows_of (codes "upgrade")) f.now folder text id h.1 refl refl
-  upgrade_says invocation h = absurd (other_invocation (codes "upgrade") (rows_of (codes "upgrade")) invocation refl h)
+  upgrade_says : (choice : SetChoice) (line : Invocation) → SaysInvocation (codes "upgrade") (rows_of (codes "upgrade")) choice line
+      → IsLineOf (UpgradeOf folder text) choice line
+  upgrade_says choice (Upgrade f id) h = set_values (codes "upgrade") (rows_of (codes "upgrade")) f.now folder text choice id h.1 refl refl
+  upgrade_says choice (ChangeVolumes f id change) h = absurd (no_change (codes "upgrade") (rows_of (codes "upgrade")) change refl refl refl refl refl h.1)
+  upgrade_says choice line h = absurd (other_invocation (codes "upgrade") (rows_of (codes "upgrade")) choice line refl h)
+
+  list_stops : StopsAt (built_set (codes "list")) (folder ∷ codes "--id" ∷ text ∷ [])
+  unfolding walked walk_fault
+  list_stops = record { walk_is = refl; no_fault = refl; found = refl }
+
+  list_enters : Enters (words_of (ListOf folder text)) (codes "list") (rows_of (codes "list"))
+  list_enters =
+      sub_enters (built_set (codes "list")) _ (id_given folder text) list_stops (goes (codes "list") folder text is_folder is_id)
+      (ends_well (codes "list") folder text is_folder is_id)
+
+  -- all that they say
+  list_says : (choice : SetChoice) (line : Invocation) → SaysInvocation (codes "list") (rows_of (codes "list")) choice line
+      → IsLineOf (ListOf folder text) choice line
+  list_says choice (ChangeVolumes f id change.List) h = set_values (codes "list") (rows_of (codes "list")) f.now folder text choice id h.0 refl refl
+  list_says choice (ChangeVolumes f id change) h = absurd (other_change (codes "list") (rows_of (codes "list")) change refl h.1)
+  list_says choice line h = absurd (other_invocation (codes "list") (rows_of (codes "list")) choice line refl h)
 
 -- what clap makes of each of them
 pub reads_run : (folder text : Text) → IsPlainSet folder text → Reads (RunOf folder text)
 reads_run folder text is =
     let v = value_from_first folder is.0 in
-    let t = value_from_first text (plain_id text is.1) in
+    let t = value_from_first text (plain_choice text is.1) in
+    let rows = rows_of folder text v t (codes "run") in
     record {
       name = codes "run";
-      rows = rows_of folder text v t (codes "run");
+      rows = rows;
       enters = run_enters folder text v t;
-      good = no_bad (rows_of folder text v t (codes "run")) text refl is.1;
+      good = no_fault_in (codes "run") rows refl refl refl (no_bad (codes "run") rows text refl (set_choice (codes "run") text refl is.1));
       says = run_says folder text v t;
     }
 
 pub reads_scrub : (folder text : Text) → IsPlainSet folder text → Reads (ScrubOf folder text)
 reads_scrub folder text is =
     let v = value_from_first folder is.0 in
-    let t = value_from_first text (plain_id text is.1) in
+    let t = value_from_first text (plain_choice text is.1) in
+    let rows = rows_of folder text v t (codes "scrub") in
     record {
       name = codes "scrub";
-      rows = rows_of folder text v t (codes "scrub");
+      rows = rows;
       enters = scrub_enters folder text v t;
-      good = no_bad (rows_of folder text v t (codes "scrub")) text refl is.1;
+      good = no_fault_in (codes "scrub") rows refl refl refl (no_bad (codes "scrub") rows text refl (set_choice (codes "scrub") text refl is.1));
       says = scrub_says folder text v t;
     }
 
 pub reads_upgrade : (folder text : Text) → IsPlainSet folder text → Reads (UpgradeOf folder text)
 reads_upgrade folder text is =
     let v = value_from_first folder is.0 in
-    let t = value_from_first text (plain_id text is.1) in
+    let t = value_from_first text (plain_choice text is.1) in
+    let rows = rows_of folder text v t (codes "upgrade") in
     record {
       name = codes "upgrade";
-      rows = rows_of folder text v t (codes "upgrade");
+      rows = rows;
       enters = upgrade_enters folder text v t;
-      good = no_bad (rows_of folder text v t (codes "upgrade")) text refl is.1;
+      good = no_fault_in (codes "upgrade") rows refl refl refl (no_bad (codes "upgrade") rows text refl (set_choice (codes "upgrade") text refl is.1));
       says = upgrade_says folder text v t;
+    }
+
+pub reads_list : (folder text : Text) → IsPlainSet folder text → Reads (ListOf folder text)
+reads_list folder text is =
+    let v = value_from_first folder is.0 in
+    let t = value_from_first text (plain_choice text is.1) in
+    let rows = rows_of folder text v t (codes "list") in
+    record {
+      name = codes "list";
+      rows = rows;
+      enters = list_enters folder text v t;
+      good = no_fault_in (codes "list") rows refl refl refl (no_bad (codes "list") rows text refl (set_choice (codes "list") text refl is.1));
+      says = list_says folder text v t;
     }

@@ -18,6 +18,14 @@ abbrev pub HasNumberTo : List Row → Text → ℕ → Type 0
 HasNumberTo rows name most = (text : Text) × (first_of name rows ≡ Some text) × (one_of name rows ≡ Some (without_minus text))
     × IsSignedIn (pos 0) (pos most) text
 
+-- the option of this name has a value, which is a number from 0 to `most`, or it is left out
+abbrev pub HasNumberToOrNone : List Row → Text → ℕ → Type 0
+HasNumberToOrNone rows name most = ((first_of name rows ≡ None) × (one_of name rows ≡ None)) ⊎ HasNumberTo rows name most
+
+-- the argument of this name has a value
+abbrev pub HasWord : List Row → Text → Type 0
+HasWord rows name = IsSome (first_of name rows)
+
 -- the flag of this name has a value
 abbrev pub HasFlagValue : List Row → Text → Type 0
 HasFlagValue rows name = (is_given : Bool) × (first_of name rows ≡ Some (bool_text is_given)) × (one_of name rows ≡ Some (bool_text is_given))
@@ -31,11 +39,18 @@ HasCountOrNone rows name = ((first_of name rows ≡ None) × (one_of name rows �
 abbrev pub HasFlags : List Row → Type 0
 HasFlags rows = HasFlagValue rows (codes "json") × HasFlagValue rows (codes "check")
 
+-- the options of `make` beside the id: the members are given
+pub record HasMakeValues (rows : List Row) : Type 0 where
+  pub members : HasNumberTo rows (codes "members") 255
+  pub chunk : HasNumberToOrNone rows (codes "chunk") 65535
+  pub stripes : HasNumberToOrNone rows (codes "stripes") 4294967295
+  pub over : HasFlagValue rows (codes "over")
+  pub reserve : HasFlagValue rows (codes "reserve")
+
 -- the rows of a subcommand of this name have all its values beside FOLDER and the id
 pub data HasValues (name : Text) (rows : List Row) : Type 0 where
   of_run : name ≡ codes "run" → HasValues name rows
-  of_make : name ≡ codes "make" → HasNumberTo rows (codes "members") 255 → HasNumberTo rows (codes "chunk") 65535
-      → HasNumberTo rows (codes "stripes") 4294967295 → HasValues name rows
+  of_make : name ≡ codes "make" → HasMakeValues rows → HasValues name rows
   of_status : name ≡ codes "status" → HasFlags rows → HasValues name rows
   of_fail : name ≡ codes "fail" → HasNumberTo rows (codes "slot") 255 → HasValues name rows
   of_replace : name ≡ codes "replace" → HasNumberTo rows (codes "slot") 255 → HasValues name rows
@@ -43,6 +58,11 @@ pub data HasValues (name : Text) (rows : List Row) : Type 0 where
   of_scrub : name ≡ codes "scrub" → HasValues name rows
   of_upgrade : name ≡ codes "upgrade" → HasValues name rows
   of_examine : name ≡ codes "examine" → HasFlags rows → HasValues name rows
+  of_create : name ≡ codes "create" → HasWord rows (codes "name") → HasWord rows (codes "size") → HasValues name rows
+  of_extend : name ≡ codes "extend" → HasWord rows (codes "name") → HasWord rows (codes "size") → HasValues name rows
+  of_remove : name ≡ codes "remove" → HasWord rows (codes "name") → HasValues name rows
+  of_rename : name ≡ codes "rename" → HasWord rows (codes "name") → HasWord rows (codes "new") → HasValues name rows
+  of_list : name ≡ codes "list" → HasValues name rows
 
 -- the rows of a subcommand of this name have all its values
 pub record IsComplete (name : Text) (rows : List Row) : Type 0 where

@@ -4,11 +4,13 @@ ghost use Rattle.clap.specs.Simple.{App};
 ghost use Rattle.clap.specs.Values.{kind_of};
 ghost use Rattle.clap.specs.Words.{app_of, rule_of, with_subcommand};
 ghost use Rattle.clap.specs.declared.builder.command.Command.TheViews.{out-Command};
-ghost use Rattle.command_line.specs.Commands.{HasApp, bare_app, check_rule, chunk_rule, examine_app, fail_app};
-ghost use Rattle.command_line.specs.Commands.{folder_rule, id_rule, json_rule, make_app, members_rule, number_rule};
-ghost use Rattle.command_line.specs.Commands.{raidtool_app, rebuild_app, replace_app, run_app, scrub_app, set_app};
-ghost use Rattle.command_line.specs.Commands.{slot_rule, some_id_rule, status_app, steps_rule, stripes_rule};
-ghost use Rattle.command_line.specs.Commands.{upgrade_app};
+ghost use Rattle.command_line.specs.Commands.{HasApp, bare_app, blocks_rule, check_rule, chunk_rule, create_app};
+ghost use Rattle.command_line.specs.Commands.{examine_app, extend_app, fail_app, flag_rule, folder_rule, id_rule};
+ghost use Rattle.command_line.specs.Commands.{json_rule, list_app, make_app, members_rule, name_rule, new_name_rule};
+ghost use Rattle.command_line.specs.Commands.{number_rule, over_rule, raidtool_app, rebuild_app, remove_app};
+ghost use Rattle.command_line.specs.Commands.{rename_app, replace_app, reserve_rule, run_app, scrub_app, set_app};
+ghost use Rattle.command_line.specs.Commands.{size_rule, slot_rule, some_id_rule, some_number_rule, status_app, steps_rule};
+ghost use Rattle.command_line.specs.Commands.{stripes_rule, upgrade_app, volume_app, word_rule};
 
 use clap::builder::ValueParser;
 use clap::error::ErrorKind;
@@ -16,7 +18,7 @@ use clap::{Arg, ArgAction, Command, value_parser};
 use std::alloc::{AllocError, Global};
 
 // The version of the program.
-const VERSION: &str = "0.4.0";
+const VERSION: &str = "0.5.0";
 
 /// The program's command, with each of its subcommands.
 pub(crate) fn raidtool_command<'a>(alloc: Global) -> Result<Command<'a>, clap::Error>
@@ -31,7 +33,12 @@ pub(crate) fn raidtool_command<'a>(alloc: Global) -> Result<Command<'a>, clap::E
     let with_rebuild = added(with_replace, rebuild_command(alloc));
     let with_scrub = added(with_rebuild, scrub_command(alloc));
     let with_upgrade = added(with_scrub, upgrade_command(alloc));
-    added(with_upgrade, examine_command(alloc))
+    let with_examine = added(with_upgrade, examine_command(alloc));
+    let with_create = added(with_examine, create_command(alloc));
+    let with_extend = added(with_create, extend_command(alloc));
+    let with_remove = added(with_extend, remove_command(alloc));
+    let with_rename = added(with_remove, rename_command(alloc));
+    added(with_rename, list_command(alloc))
 }
 
 // A command with one more subcommand, where there was memory for both.
@@ -70,21 +77,23 @@ fn folder_argument<'a>(alloc: Global) -> Arg<'a>
     ensures rule { rule_of result ≡ folder_rule }
     ensures local { result.global ≡ false }
 {
-    Arg::new(alloc, "folder")
-        .value_name("FOLDER")
-        .help("The folder of dev0.img, dev1.img and so on")
-        .required(true)
+    word(
+        alloc,
+        "folder",
+        "FOLDER",
+        "The folder of dev0.img, dev1.img and so on",
+    )
 }
 
 // The option `--id H`.
-fn id_option<'a>(alloc: Global) -> Arg<'a>
+fn id_option<'a>(alloc: Global, help: &'a str) -> Arg<'a>
     ensures rule { rule_of result ≡ id_rule }
     ensures local { result.global ≡ false }
 {
     Arg::new(alloc, "id")
         .long("id")
         .value_name("H")
-        .help("The id of the set, 32 hexadecimal digits")
+        .help(help)
         .required(true)
 }
 
@@ -99,15 +108,50 @@ fn number_option<'a>(
     ensures rule { rule_of result ≡ number_rule name.entry.now parser.entry }
     ensures local { result.global ≡ false }
 {
+    some_number_option(alloc, name, value, help, parser).required(true)
+}
+
+// The same where the option may be left out.
+fn some_number_option<'a>(
+    alloc: Global,
+    name: &'a str,
+    value: &'a str,
+    help: &'a str,
+    parser: ValueParser<'a>,
+) -> Arg<'a>
+    ensures rule { rule_of result ≡ some_number_rule name.entry.now parser.entry }
+    ensures local { result.global ≡ false }
+{
     Arg::new(alloc, name)
         .long(name)
         .value_name(value)
         .help(help)
         .value_parser(parser)
+}
+
+// A flag of this name.
+fn flag<'a>(alloc: Global, name: &'a str, help: &'a str) -> Arg<'a>
+    ensures rule { rule_of result ≡ flag_rule name.entry.now }
+    ensures local { result.global ≡ false }
+{
+    Arg::new(alloc, name)
+        .long(name)
+        .help(help)
+        .action(ArgAction::SetTrue)
+}
+
+// An argument of this name that is no option's value.
+fn word<'a>(alloc: Global, name: &'a str, value: &'a str, help: &'a str) -> Arg<'a>
+    ensures rule { rule_of result ≡ word_rule name.entry.now }
+    ensures local { result.global ≡ false }
+{
+    Arg::new(alloc, name)
+        .value_name(value)
+        .help(help)
         .required(true)
 }
 
-// A command of this name with FOLDER and `--id H`.
+// A command of this name with FOLDER and `--id H`, on a set that is there.
 fn set_command<'a>(alloc: Global, name: &'a str, about: &'a str) -> Result<Command<'a>, AllocError>
     ensures { IfOk result (λ command. (app_of command ≡ set_app name.entry.now)
         × ((out-Command command).has_globals ≡ false)) }
@@ -115,7 +159,10 @@ fn set_command<'a>(alloc: Global, name: &'a str, about: &'a str) -> Result<Comma
     Command::new(alloc, name)
         .about(about)
         .arg(folder_argument(alloc))?
-        .arg(id_option(alloc))
+        .arg(id_option(
+            alloc,
+            "The id of the set, 32 hexadecimal digits, or auto for the only one there",
+        ))
 }
 
 // The command `run FOLDER --id H`.
@@ -129,18 +176,27 @@ fn run_command<'a>(alloc: Global) -> Result<Command<'a>, AllocError>
     )
 }
 
-// The command `make FOLDER --id H --members N --chunk C --stripes S`.
+// The command `make FOLDER --id H --members N [--chunk C] [--stripes S] [--size SIZE] [--over]
+// [--reserve]`.
 fn make_command<'a>(alloc: Global) -> Result<Command<'a>, AllocError>
     ensures { HasApp make_app result }
 {
-    set_command(
-        alloc,
-        "make",
-        "Makes a set on the device files of a folder, whatever they held",
-    )?
-    .arg(members_option(alloc))?
-    .arg(chunk_option(alloc))?
-    .arg(stripes_option(alloc))
+    Command::new(alloc, "make")
+        .about(
+            "Makes a set on the device files of a folder, whatever they held \
+(with --size no set, unless --over is given)",
+        )
+        .arg(folder_argument(alloc))?
+        .arg(id_option(
+            alloc,
+            "The id of the set, 32 hexadecimal digits, or new for one that is drawn",
+        ))?
+        .arg(members_option(alloc))?
+        .arg(chunk_option(alloc))?
+        .arg(stripes_option(alloc))?
+        .arg(size_option(alloc))?
+        .arg(over_flag(alloc))?
+        .arg(reserve_flag(alloc))
 }
 
 // The option `--members N`.
@@ -162,11 +218,12 @@ fn chunk_option<'a>(alloc: Global) -> Arg<'a>
     ensures rule { rule_of result ≡ chunk_rule }
     ensures local { result.global ≡ false }
 {
-    number_option(
+    some_number_option(
         alloc,
         "chunk",
         "C",
-        "The sectors of a chunk: 8, 16, 32, 64 or 128",
+        "The sectors of a chunk: 8 to 1024, a power of 2 (up to 128 without --size); \
+128 where it is left out",
         value_parser!(u16),
     )
 }
@@ -176,12 +233,47 @@ fn stripes_option<'a>(alloc: Global) -> Arg<'a>
     ensures rule { rule_of result ≡ stripes_rule }
     ensures local { result.global ≡ false }
 {
-    number_option(
+    some_number_option(
         alloc,
         "stripes",
         "S",
         "The stripes, 2 to 65536",
         value_parser!(u32),
+    )
+}
+
+// The option `--size SIZE`.
+fn size_option<'a>(alloc: Global) -> Arg<'a>
+    ensures rule { rule_of result ≡ size_rule }
+    ensures local { result.global ≡ false }
+{
+    Arg::new(alloc, "size").long("size").value_name("SIZE").help(
+        "The room for volumes: a number with M, G or T, or max for all that \
+the shortest member allows",
+    )
+}
+
+// The flag `--over`.
+fn over_flag<'a>(alloc: Global) -> Arg<'a>
+    ensures rule { rule_of result ≡ over_rule }
+    ensures local { result.global ≡ false }
+{
+    flag(
+        alloc,
+        "over",
+        "Make it also where the files have a set, which is lost",
+    )
+}
+
+// The flag `--reserve`.
+fn reserve_flag<'a>(alloc: Global) -> Arg<'a>
+    ensures rule { rule_of result ≡ reserve_rule }
+    ensures local { result.global ≡ false }
+{
+    flag(
+        alloc,
+        "reserve",
+        "Write zeros where a file is lengthened, so that its room is there",
     )
 }
 
@@ -203,10 +295,7 @@ fn json_flag<'a>(alloc: Global) -> Arg<'a>
     ensures rule { rule_of result ≡ json_rule }
     ensures local { result.global ≡ false }
 {
-    Arg::new(alloc, "json")
-        .long("json")
-        .help("As JSON in one line")
-        .action(ArgAction::SetTrue)
+    flag(alloc, "json", "As JSON in one line")
 }
 
 // The flag `--check`.
@@ -214,10 +303,11 @@ fn check_flag<'a>(alloc: Global) -> Arg<'a>
     ensures rule { rule_of result ≡ check_rule }
     ensures local { result.global ≡ false }
 {
-    Arg::new(alloc, "check")
-        .long("check")
-        .help("End with 3 where a set is not complete, and with 4 where it can't be assembled")
-        .action(ArgAction::SetTrue)
+    flag(
+        alloc,
+        "check",
+        "End with 3 where a set is not complete, and with 4 where it can't be assembled",
+    )
 }
 
 // The command `fail FOLDER --id H --slot K`.
@@ -275,11 +365,13 @@ fn steps_option<'a>(alloc: Global) -> Arg<'a>
     ensures rule { rule_of result ≡ steps_rule }
     ensures local { result.global ≡ false }
 {
-    Arg::new(alloc, "steps")
-        .long("steps")
-        .value_name("T")
-        .help("The steps of 64 rows, 1 or more, or all that there are where it is left out")
-        .value_parser(ValueParser::unsigned(1, u64::MAX))
+    some_number_option(
+        alloc,
+        "steps",
+        "T",
+        "The steps, 1 or more, of 64 rows or 4096 in a large set; all that there are if left out",
+        ValueParser::unsigned(1, u64::MAX),
+    )
 }
 
 // The command `scrub FOLDER --id H`.
@@ -310,7 +402,8 @@ fn some_id_option<'a>(alloc: Global) -> Arg<'a>
     ensures local { result.global ≡ false }
 {
     Arg::new(alloc, "id").long("id").value_name("H").help(
-        "The id of the set, 32 hexadecimal digits, or each set where it is left out",
+        "The id of the set, 32 hexadecimal digits, or auto for the only one there; \
+each set where it is left out",
     )
 }
 
@@ -324,4 +417,95 @@ fn examine_command<'a>(alloc: Global) -> Result<Command<'a>, AllocError>
         .arg(some_id_option(alloc))?
         .arg(json_flag(alloc))?
         .arg(check_flag(alloc))
+}
+
+// The argument NAME.
+fn name_argument<'a>(alloc: Global) -> Arg<'a>
+    ensures rule { rule_of result ≡ name_rule }
+    ensures local { result.global ≡ false }
+{
+    word(alloc, "name", "NAME", "The name of the volume")
+}
+
+// The argument SIZE, of which `help` says what it is for.
+fn blocks_argument<'a>(alloc: Global, help: &'a str) -> Arg<'a>
+    ensures rule { rule_of result ≡ blocks_rule }
+    ensures local { result.global ≡ false }
+{
+    word(alloc, "size", "SIZE", help)
+}
+
+// The argument NEW.
+fn new_name_argument<'a>(alloc: Global) -> Arg<'a>
+    ensures rule { rule_of result ≡ new_name_rule }
+    ensures local { result.global ≡ false }
+{
+    word(alloc, "new", "NEW", "The new name of the volume")
+}
+
+// A command of this name with FOLDER, NAME and `--id H`.
+fn volume_command<'a>(
+    alloc: Global,
+    name: &'a str,
+    about: &'a str,
+) -> Result<Command<'a>, AllocError>
+    ensures { IfOk result (λ command. (app_of command ≡ volume_app name.entry.now)
+        × ((out-Command command).has_globals ≡ false)) }
+{
+    set_command(alloc, name, about)?.arg(name_argument(alloc))
+}
+
+// The command `create FOLDER NAME SIZE --id H`.
+fn create_command<'a>(alloc: Global) -> Result<Command<'a>, AllocError>
+    ensures { HasApp create_app result }
+{
+    volume_command(alloc, "create", "Creates a volume in the set of a folder")?.arg(
+        blocks_argument(
+            alloc,
+            "The size of the volume: blocks of 512 bytes, or a number with K, M, G or T; \
+2 TiB less a block at most",
+        ),
+    )
+}
+
+// The command `extend FOLDER NAME SIZE --id H`.
+fn extend_command<'a>(alloc: Global) -> Result<Command<'a>, AllocError>
+    ensures { HasApp extend_app result }
+{
+    volume_command(
+        alloc,
+        "extend",
+        "Makes a volume of the set of a folder longer",
+    )?
+    .arg(blocks_argument(
+        alloc,
+        "What is added to the volume: blocks of 512 bytes, or a number with K, M, G or T; \
+the volume has 2 TiB less a block at most",
+    ))
+}
+
+// The command `remove FOLDER NAME --id H`.
+fn remove_command<'a>(alloc: Global) -> Result<Command<'a>, AllocError>
+    ensures { HasApp remove_app result }
+{
+    volume_command(alloc, "remove", "Removes a volume of the set of a folder")
+}
+
+// The command `rename FOLDER NAME NEW --id H`.
+fn rename_command<'a>(alloc: Global) -> Result<Command<'a>, AllocError>
+    ensures { HasApp rename_app result }
+{
+    volume_command(
+        alloc,
+        "rename",
+        "Gives a volume of the set of a folder a new name",
+    )?
+    .arg(new_name_argument(alloc))
+}
+
+// The command `list FOLDER --id H`.
+fn list_command<'a>(alloc: Global) -> Result<Command<'a>, AllocError>
+    ensures { HasApp list_app result }
+{
+    set_command(alloc, "list", "Lists the volumes of the set of a folder")
 }

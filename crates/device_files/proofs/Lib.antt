@@ -1,8 +1,11 @@
 pub mod Appended
+pub mod Cleared
+pub mod Found
 pub mod Held
 pub mod Lent
 pub mod MadeSafe
 pub mod PathsBySlot
+pub mod Shortest
 pub mod SlotBySlot
 pub mod Tables
 pub mod ToldLines

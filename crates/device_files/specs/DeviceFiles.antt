@@ -122,6 +122,13 @@ IsTakenBackOrFailed tells told HasFailed Removes note old new = IsCutOrFailed te
 abbrev pub path_in : List (List ℕ) → ℕ → List ℕ
 path_in paths slot = slice_index_or paths slot []
 
+-- the file of one of the first slots has so many bytes, and none of the others has fewer
+pub record IsShortest {F : Type 0} (told : F → List ℕ) (files : List (Option F)) (slots least : ℕ) : Type 0 where
+  pub slot : ℕ
+  pub among : slot < slots
+  pub here : IsSomeAnd (file_in files slot) (λ file. length (told file) ≡ least)
+  pub each : (other : ℕ) → other < slots → IsSomeAnd (file_in files other) (λ file. least ≤ length (told file))
+
 -- ---- what is made safe where files are opened
 
 -- why the file of a slot, which is there, could not be opened

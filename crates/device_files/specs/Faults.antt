@@ -1,9 +1,10 @@
 -- What stops a call over the device files of a folder, and the line that tells it.
 use Rattle.std.specs.Prelude.{◌≡◌, ◌≢◌, ◌⊎◌, ◌≤◌, ◌<◌, ℕ, zero, suc, Bool, true, pos, List, [], ◌∷◌, ◌++◌, codes, Option, None, Some, Result, Ok, Err}
-use Rattle.std.specs.Prelude.{IfErr, IsSomeAnd}
+use Rattle.std.specs.Prelude.{IfErr, IsSome, IsSomeAnd}
 use Rattle.std.specs.declared.io.Error.{Error}
 use Rattle.std.specs.declared.io.ErrorKind.TheVariants.{NotADirectory, NotFound}
 use Rattle.std.specs.Io.KnownBytes.{Appends}
+use Rattle.hex.specs.Hex.{encode_lower}
 use Rattle.std.specs.IoError.{error_kind, raw_os_error}
 use Rattle.sector_model.specs.declared.refusal.Refusal.TheVariants.{Memory, Worn}
 use Rattle.report.specs.Replies.{refusal_line, slot_line}
@@ -16,7 +17,7 @@ use Rattle.device_files.specs.declared.slot_files.CreateFault.{CreateFault}
 use Rattle.device_files.specs.declared.slot_files.OpenFault.{OpenFault}
 use Rattle.device_files.specs.declared.Reason.TheVariants.{NotPermitted, Permission, ReadOnly, TooManyFiles, TooManyFilesInSystem}
 use Rattle.device_files.specs.declared.FolderFault.{FolderFault}
-use Rattle.device_files.specs.declared.FolderFault.TheVariants.{InUse, NoFile, NotOpened, NotRegular, NotSafe, NotSynced, OtherSet, Refused}
+use Rattle.device_files.specs.declared.FolderFault.TheVariants.{Absent, InUse, NoFile, NotOpened, NotRegular, NotSafe, NotSynced, OtherSet, Refused, SetThere}
 
 -- ---- why a file that is there could not be opened
 
@@ -98,6 +99,10 @@ IsOpening Opens Leads (Err reason) = (error : Error) × Opens (Err error) × (ra
 abbrev pub unsynced_line : (folder : List ℕ) → List ℕ
 unsynced_line folder = codes "cannot sync " ++ folder ++ 10 ∷ []
 
+-- a superblock of the set of this id is there
+abbrev pub set_there_line : (id : List ℕ) → List ℕ
+set_there_line id = codes "there is a set: " ++ encode_lower id ++ 10 ∷ []
+
 -- the line of what stopped a command over this folder
 abbrev pub fault_line : (folder : List ℕ) → FolderFault → List ℕ
 fault_line folder (NoFile slot) = slot_line (codes "cannot make ") slot []
@@ -106,6 +111,8 @@ fault_line folder (NotOpened slot reason) = slot_line (codes "cannot open ") slo
 fault_line folder (NotRegular slot) = slot_line (codes "not a regular file: ") slot []
 fault_line folder (NotSafe slot shortage) = slot_line (codes "cannot sync ") slot (shortage_words shortage)
 fault_line folder (OtherSet slot) = slot_line (codes "another set with this id: ") slot []
+fault_line folder (Absent slot) = slot_line (codes "no file: ") slot []
+fault_line folder (SetThere id) = set_there_line id
 fault_line folder NotSynced = unsynced_line folder
 fault_line folder (Refused refusal) = refusal_line refusal
 
@@ -198,6 +205,24 @@ IsUnsafe HasFailed files fault = ⊥
 abbrev pub IsUnsyncedIn : (unsynced : List Bool) (first end : ℕ) → FolderFault → Type 0
 IsUnsyncedIn unsynced first end (NoFile slot) = ((first ≤ slot) × ((slot < end) × (slot < 10))) × (flag_in unsynced slot ≡ true)
 IsUnsyncedIn unsynced first end fault = ⊥
+
+-- why the length of the file of this very slot could not be told: there is none, or a call of it failed
+abbrev pub IsNoLength : {F : Type 0} → (HasFailed : F → Type 0) → (slot : ℕ) → Option F → FolderFault → Type 0
+IsNoLength HasFailed slot file (Absent other) = (other ≡ slot) × (file ≡ None)
+IsNoLength HasFailed slot file (NoFile other) = (other ≡ slot) × IsSomeAnd file HasFailed
+IsNoLength HasFailed slot file fault = ⊥
+
+-- Why the lengths of the files of the first slots could not be told: there is no file of this slot, or a call of it failed. Each lower slot has one.
+abbrev pub IsLengthFault : {F : Type 0} → (HasFailed : F → Type 0) → List (Option F) → (slots : ℕ) → FolderFault → Type 0
+IsLengthFault HasFailed files slots (Absent slot) = (slot < slots) × (file_in files slot ≡ None) × ((lower : ℕ) → lower < slot → IsSome (file_in files lower))
+IsLengthFault HasFailed files slots (NoFile slot) =
+    (slot < slots) × IsSomeAnd (file_in files slot) HasFailed × ((lower : ℕ) → lower < slot → IsSome (file_in files lower))
+IsLengthFault HasFailed files slots fault = ⊥
+
+-- the file of one of ten slots, from one on, is named, of which a call failed
+abbrev pub IsClearingFault : {F : Type 0} → (HasFailed : F → Type 0) → (first : ℕ) → List (Option F) → FolderFault → Type 0
+IsClearingFault HasFailed first files (NoFile slot) = (first ≤ slot) × (slot < 10) × IsSomeAnd (file_in files slot) HasFailed
+IsClearingFault HasFailed first files fault = ⊥
 
 -- why an open file was not taken
 abbrev pub IsUnclaimed : (Busy Other : Type 0) → OpenFault → Type 0

@@ -3,3 +3,4 @@ pub mod DeviceFiles
 pub mod Faults
 pub mod HeldFiles
 pub mod SlotCalls
+pub mod Superblocks

@@ -1,5 +1,5 @@
 //! Device files get the bytes that they lack: zero bytes are appended, so that their room is theirs before a set lies
-//! there.
+//! there; or their length alone is set, which takes no room yet.
 ghost use Rattle.std.specs.Prelude.{◌≡◌, ◌<◌, ◌≤◌, ◌++◌, Bool, IsTrue, IfErr, IfOk, List, Ok, OnErr, OnOk, length};
 ghost use Rattle.std.specs.Prelude.{replicate, take, true, ℕ};
 ghost use Rattle.std.specs.declared.io.Error.{Error};
@@ -30,7 +30,8 @@ pub trait Growing {
     /// A file is locked to whoever opened it, or lies on a file system without locks.
     ghost is_locked: { Self → Type 0 };
 
-    /// A call of the file answered a fault, or took none of the bytes that it was given.
+    /// A call of the file answered a fault, took none of the bytes that it was given, or gave none of those that it was
+    /// asked for.
     ghost has_failed: { Self → Type 0 };
 
     /// A sync of the file answered this fault.
@@ -49,6 +50,14 @@ pub trait Growing {
         ensures failed { OnErr result (has_failed self.new) }
         ensures full { result ≡ Ok 0 → 0 < length bytes.now → has_failed self.new };
 
+    /// Makes the file so many bytes long where it is shorter: those after its end are zero, and take no room yet. No
+    /// byte that is there is changed, also where that fails.
+    fn stretch(&mut self, bytes: u64) -> io::Result<()>
+        ensures told { IsTrue tells → OnOk result (told self.new ≡ lengthened bytes (told self.old)) }
+        ensures kept { IsTrue tells → Begins (told self.old) (told self.new) }
+        ensures locked { is_locked self.old → is_locked self.new }
+        ensures failed { OnErr result (has_failed self.new) };
+
     /// Cuts the file to so many bytes.
     fn cut(&mut self, bytes: u64) -> io::Result<()>
         ensures told { IsTrue tells → OnOk result (told self.new ≡ take bytes (told self.old)) }
@@ -63,8 +72,8 @@ pub trait Growing {
         ensures answered { IfErr result (sync_failed self.new) };
 }
 
-/// A file of the system tells nothing. It is safe where it was synced after it was locked, and not lengthened or cut
-/// since.
+/// A file of the system tells nothing. It is safe where it was synced after it was locked, and not lengthened, cut or
+/// written since.
 impl<F: OpenFile + FileExt + Lock> Growing for Locked<F> {
     ghost use Rattle.std.specs.Prelude.{false, [], ⊤};
 
@@ -90,6 +99,14 @@ impl<F: OpenFile + FileExt + Lock> Growing for Locked<F> {
         self.file.write_at(bytes, end)
     }
 
+    fn stretch(&mut self, bytes: u64) -> io::Result<()> {
+        self.is_synced = false;
+        if self.file.metadata()?.len() < bytes {
+            self.file.set_len(bytes)?;
+        }
+        Ok(())
+    }
+
     fn cut(&mut self, bytes: u64) -> io::Result<()> {
         self.is_synced = false;
         self.file.set_len(bytes)
@@ -103,16 +120,20 @@ impl<F: OpenFile + FileExt + Lock> Growing for Locked<F> {
     }
 }
 
-/// Appends zero bytes to a file that is too short, and syncs it. No byte that is there is changed, also where that
-/// fails.
-pub(super) fn lengthen<F: Growing>(file: &mut F, bytes: u64) -> io::Result<()>
+/// Lengthens a file that is too short by zero bytes, and syncs it: with `reserve` they are appended, so that they have
+/// their room, else its length is set. No byte that is there is changed, also where that fails.
+pub(super) fn lengthen<F: Growing>(file: &mut F, bytes: u64, reserve: bool) -> io::Result<()>
     ensures long { IsTrue F.tells → OnOk result (F.told file.new ≡ lengthened bytes (F.told file.old)) }
     ensures safe { OnOk result (F.is_safe file.new) }
     ensures kept { IsTrue F.tells → Begins (F.told file.old) (F.told file.new) }
     ensures failed { OnErr result (F.has_failed file.new) }
 {
-    let size = file.size()?;
-    append_zeros(file, bytes.saturating_sub(size))?;
+    if reserve {
+        let size = file.size()?;
+        append_zeros(file, bytes.saturating_sub(size))?;
+    } else {
+        file.stretch(bytes)?;
+    }
     sync_whole(file)
 }
 

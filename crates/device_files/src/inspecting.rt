@@ -71,6 +71,10 @@ impl<F: OpenFile + FileExt> Growing for InspectedFile<F> {
         not_permitted()
     }
 
+    fn stretch(&mut self, _bytes: u64) -> io::Result<()> {
+        not_permitted()
+    }
+
     fn cut(&mut self, _bytes: u64) -> io::Result<()> {
         not_permitted()
     }

@@ -1,6 +1,6 @@
 //! A bank over device files that stay with whoever opened them, who so holds their locks to the end; and one that only
 //! reads them.
-ghost use Rattle.std.specs.Prelude.{◌≡◌, ◌≤◌, ◌<◌, ◌+◌, ◌^◌, IfErr, IfOk, IsTrue, List, OnOk, length, map, ℕ};
+ghost use Rattle.std.specs.Prelude.{◌≡◌, ◌≤◌, ◌<◌, ◌+◌, ◌^◌, IfErr, IfOk, IsTrue, List, Ok, OnErr, OnOk, length, map, ℕ};
 ghost use Rattle.std.specs.IoError.{error_kind};
 ghost use Rattle.std.specs.Option.{option_map};
 ghost use Rattle.sector_model.specs.DeviceFiles.{AreAt, IsSynced, IsWritten};
@@ -32,7 +32,9 @@ pub trait BankFile: Growing + Drop + 'static {
         requires within { IsTrue Self.tells → place + length to.old ≤ length (Self.told self.now) }
         ensures bound { IfOk result (λ n. n ≤ length to.new) }
         ensures read { IsTrue Self.tells
-            → IfOk result (λ n. AreAt (contents_by Self.told left self.now).byte place n to.new) };
+            → IfOk result (λ n. AreAt (contents_by Self.told left self.now).byte place n to.new) }
+        ensures failed { OnErr result (Self.has_failed self.now) }
+        ensures ended { result ≡ Ok 0 → 0 < length to.new → Self.has_failed self.now };
 
     /// Writes bytes from a byte place on, the first of them or all, and says how many. An interrupted call wrote none;
     /// after another fault nothing is known of the file.
@@ -44,7 +46,9 @@ pub trait BankFile: Growing + Drop + 'static {
             (contents_by Self.told left self.old) (contents_by Self.told left self.new)) }
         ensures interrupted { IsTrue Self.tells → IfErr result (λ error. error_kind error ≡ ErrorKind.Interrupted
             → contents_by Self.told left self.new ≡ contents_by Self.told left self.old) }
-        ensures length { IsTrue Self.tells → length (Self.told self.new) ≡ length (Self.told self.old) };
+        ensures length { IsTrue Self.tells → length (Self.told self.new) ≡ length (Self.told self.old) }
+        ensures failed { OnErr result (Self.has_failed self.new) }
+        ensures full { result ≡ Ok 0 → 0 < length from.now → Self.has_failed self.new };
 
     /// Makes safe all that was written.
     fn sync_written(&mut self) -> io::Result<()>

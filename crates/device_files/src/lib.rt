@@ -1,17 +1,24 @@
-//! The device files of a folder: opened and locked, made safe, lengthened and taken back, lent to a bank, or read
-//! alone; and what stops that, with the line and the exit status of a program that it stops.
+//! The device files of a folder: opened and locked, made safe, searched for superblocks and cleared of them, lengthened
+//! and taken back, lent to a bank, or read alone; and what stops that, with the line and the exit status of a program
+//! that it stops.
 #![tactic(auto)]
 
-ghost use Rattle.std.specs.Prelude.{◌≡◌, ◌≤◌, ◌*◌, IfErr, IfOk, OnOk, if◌then◌else◌, is_ok, length, string_bytes};
+ghost use Rattle.std.specs.Prelude.{◌≡◌, ◌≤◌, ◌*◌, ◌++◌, [], ◌∷◌, IfErr, IfOk, OnOk, if◌then◌else◌, is_ok, length};
+ghost use Rattle.std.specs.Prelude.{string_bytes};
+ghost use Rattle.hex.specs.Hex.{encode_lower};
 ghost use Rattle.superblock.specs.Counted.{least_sectors};
 ghost use Rattle.device_files.specs.DeviceFiles.{slot_path};
 ghost use Rattle.report.specs.Written.{WritesText};
-ghost use Rattle.device_files.specs.Faults.{IsFaultTold, fault_line, shortage_words, unsynced_line, words_for};
+ghost use Rattle.device_files.specs.Faults.{IsFaultTold, fault_line, set_there_line, shortage_words, unsynced_line};
+ghost use Rattle.device_files.specs.Faults.{words_for};
 
+mod clearing;
+mod finding;
 mod folders;
 mod growing;
 mod inspecting;
 mod lending;
+mod lengths;
 mod locked;
 mod memory;
 mod opening;
@@ -20,11 +27,14 @@ mod paths;
 mod reserving;
 mod slot_files;
 
+pub use clearing::clear_places;
+pub use finding::find_set;
 pub use folders::{FolderSync, SystemFolders, sync_folders};
 pub use growing::Growing;
 pub use inspecting::{InspectFiles, InspectedFile, inspect_folder};
 use layout_map::Geometry;
 pub use lending::{BankFile, LentFile, ReadOnlyFile, bank_on, bank_to_inspect};
+pub use lengths::shortest_of;
 pub use locked::{Before, DeviceFiles, Lock, Locked, UndoLog};
 pub use memory::HeldFile;
 pub use opening::{open_folder, refuse_unsynced};
@@ -69,7 +79,8 @@ pub enum Shortage {
 /// Why a command over the device files of a folder was not done. A slot is below 10.
 #[derive(Clone, Copy, Drop)]
 pub enum FolderFault {
-    /// The file of this slot could not be created, lengthened or synced, also where its sync failed when it was opened.
+    /// The file of this slot could not be created, lengthened, cleared or synced, also where its sync failed when it was
+    /// opened, or its length could not be told.
     NoFile(u8),
     /// Another program, or another slot, has the lock of this slot's file, or its path leads elsewhere since it was
     /// opened.
@@ -82,6 +93,10 @@ pub enum FolderFault {
     NotSafe(u8, Shortage),
     /// This slot, after those of the set that was to be made, has a superblock of the same id.
     OtherSet(u8),
+    /// The file of this slot is not there, and is needed.
+    Absent(u8),
+    /// A superblock of the set of this id is there, where no set may be.
+    SetThere([u8; 16]),
     /// The folder, or one to which a link in it leads, could not be synced.
     NotSynced,
     /// The command was refused.
@@ -120,6 +135,8 @@ impl From<AllocError> for FolderFault {
 /// - `not a regular file: dev3.img`
 /// - `cannot sync dev3.img: no space left on device`, or `disk quota exceeded`
 /// - `another set with this id: dev5.img`
+/// - `no file: dev2.img`
+/// - `there is a set: ` and the id in 32 lower case hexadecimal digits
 /// - `cannot sync FOLDER`
 /// - a refusal, as `refused 11 NotUsable`
 pub fn folder_status<E: Write>(done: Result<(), FolderFault>, folder: &str, err: &mut E) -> u8
@@ -151,6 +168,8 @@ fn write_fault<E: Write>(err: &mut E, folder: &str, fault: FolderFault) -> Resul
         FolderFault::OtherSet(slot) => {
             write_slot_line(err, b"another set with this id: ", slot, b"")
         }
+        FolderFault::Absent(slot) => write_slot_line(err, b"no file: ", slot, b""),
+        FolderFault::SetThere(id) => write_set_there(err, &id),
         FolderFault::NotSynced => write_unsynced(err, folder),
         FolderFault::Refused(refusal) => write_reply(err, &Answer::Refused(refusal)),
     }
@@ -179,6 +198,23 @@ fn words_of_shortage(shortage: Shortage) -> &'static [u8]
         Shortage::Space => b": no space left on device",
         Shortage::Quota => b": disk quota exceeded",
     }
+}
+
+// Writes `there is a set: `, the digits of an id and a newline.
+fn write_set_there<E: Write>(err: &mut E, id: &[u8; 16]) -> Result<(), Refusal>
+    ensures { WritesText (E.contents err.old) (E.contents err.new) (set_there_line id.now) result }
+{
+    write_text(err, b"there is a set: ")?;
+    write_text(err, &id_line(id))
+}
+
+// The digits of an id and a newline.
+fn id_line(id: &[u8; 16]) -> [u8; 33]
+    ensures { result ≡ encode_lower id.now ++ 10 ∷ [] }
+{
+    let mut line = [b'\n'; 33];
+    let _ = hex::encode_to_slice(id, &mut line[..32]);
+    line
 }
 
 // Writes `cannot sync FOLDER` and a newline.

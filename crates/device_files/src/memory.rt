@@ -69,6 +69,13 @@ impl Growing for HeldFile {
         Ok(bytes.len())
     }
 
+    fn stretch(&mut self, bytes: u64) -> io::Result<()> {
+        if self.bytes.len() < bytes as usize {
+            self.bytes.resize(bytes as usize, 0)?;
+        }
+        Ok(())
+    }
+
     fn cut(&mut self, bytes: u64) -> io::Result<()> {
         self.bytes.truncate(bytes as usize);
         Ok(())

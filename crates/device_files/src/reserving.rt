@@ -17,8 +17,9 @@ use std::alloc::{AllocError, Global};
 use std::io;
 
 /// Creates the file of a slot (below 10, condition) where it was not opened, lengthens it by zero bytes where it is
-/// shorter than so many, and syncs it. No byte that is there is changed, also where that fails, and what the file was
-/// is noted, so that `undo` takes it back.
+/// shorter than so many, and syncs it. With `reserve` the zero bytes are appended, so that they have their room on the
+/// device; without it the length is set, and they take room once they are written. No byte that is there is changed,
+/// also where that fails, and what the file was is noted, so that `undo` takes it back.
 ///
 /// `NoFile` where the file could not be created, lengthened or synced, `InUse` where another program has locked it,
 /// each with this slot, and `Memory` where an allocation was refused.
@@ -29,6 +30,7 @@ pub fn lengthen_slot<D: SlotFiles>(
     slot: u8,
     bytes: u64,
     files: &mut DeviceFiles<D::File>,
+    reserve: bool,
 ) -> Result<(), FolderFault>
     requires { slot < 10 }
     ensures { LengthensSlot D.File.tells D.File.told D.File.is_safe D.File.has_failed (D.creates disk.now)
@@ -37,11 +39,16 @@ pub fn lengthen_slot<D: SlotFiles>(
     create_absent(alloc, disk, folder, slot, files)?;
     let at = slot as usize;
     files.before[at] = noted(files.before[at], bytes, &files.files[at]);
-    lengthen_file(slot, bytes, &mut files.files[at])
+    lengthen_file(slot, bytes, &mut files.files[at], reserve)
 }
 
 // Lengthens the file of a slot, and syncs it. `NoFile` where that failed, or there is none.
-fn lengthen_file<G: Growing>(slot: u8, bytes: u64, file: &mut Option<G>) -> Result<(), FolderFault>
+fn lengthen_file<G: Growing>(
+    slot: u8,
+    bytes: u64,
+    file: &mut Option<G>,
+    reserve: bool,
+) -> Result<(), FolderFault>
     ensures long { IsTrue G.tells → OnOk result
         (HasFile file.old file.new (λ old new. G.told new ≡ lengthened bytes (G.told old))) }
     ensures kept { IsTrue G.tells → StaysThere file.old file.new (λ old new. Begins (G.told old) (G.told new)) }
@@ -52,7 +59,7 @@ fn lengthen_file<G: Growing>(slot: u8, bytes: u64, file: &mut Option<G>) -> Resu
     let Some(file) = file else {
         return Err(FolderFault::NoFile(slot));
     };
-    lengthen(file, bytes).map_err(|_| FolderFault::NoFile(slot))
+    lengthen(file, bytes, reserve).map_err(|_| FolderFault::NoFile(slot))
 }
 
 /// Creates the file of a slot (below 10, condition) where it was not opened, and syncs it. Where it was shorter than so

@@ -2,6 +2,9 @@
 //! faults.
 ghost use Rattle.std.specs.Prelude.{◌≡◌, true};
 
+mod superblocks;
+mod system_files;
+
 use super::growing::{Growing, lengthen, renew};
 use super::opening::make_safe;
 use super::slot_files::before_of;
@@ -66,6 +69,15 @@ impl Growing for Bytes {
         Ok(count)
     }
 
+    fn stretch(&mut self, bytes: u64) -> io::Result<()> {
+        self.fault.pass()?;
+        if self.bytes.len() < bytes as usize {
+            self.bytes.resize(bytes as usize, 0)?;
+            self.is_synced = false;
+        }
+        Ok(())
+    }
+
     fn cut(&mut self, bytes: u64) -> io::Result<()> {
         self.fault.pass()?;
         self.bytes.truncate(bytes as usize);
@@ -103,10 +115,12 @@ static MADE: &[(u64, &[u8], &[u8])] = &[
 fn a_file_that_is_too_short(rt: HostRuntime) {
     for (bytes, longer, newer) in MADE {
         for most in [1, 3, WHOLE] {
-            let mut file = file_of(&rt, most, 0, ErrorKind::Other);
-            same(&rt, lengthen(&mut file, *bytes).is_ok(), true);
-            let found = (*bytes, most, file.is_synced, file.bytes.as_slice());
-            same(&rt, found, (*bytes, most, true, *longer));
+            for reserve in [true, false] {
+                let mut file = file_of(&rt, most, 0, ErrorKind::Other);
+                same(&rt, lengthen(&mut file, *bytes, reserve).is_ok(), true);
+                let found = (*bytes, most, file.is_synced, file.bytes.as_slice());
+                same(&rt, found, (*bytes, most, true, *longer));
+            }
             let mut file = file_of(&rt, most, 0, ErrorKind::Other);
             same(&rt, renew(&mut file, *bytes).is_ok(), true);
             let found = (*bytes, most, file.is_synced, file.bytes.as_slice());
@@ -129,7 +143,7 @@ static LENGTHENED: &[(u64, bool, &[u8])] = &[
 fn no_byte_is_lost_where_a_file_cannot_be_lengthened(rt: HostRuntime) {
     for (call, is_done, bytes) in LENGTHENED {
         let mut file = file_of(&rt, 1, *call, ErrorKind::StorageFull);
-        let kind = lengthen(&mut file, 5).err().map(|error| error.kind());
+        let kind = lengthen(&mut file, 5, true).err().map(|error| error.kind());
         let fault = if *is_done {
             None
         } else {
@@ -137,6 +151,23 @@ fn no_byte_is_lost_where_a_file_cannot_be_lengthened(rt: HostRuntime) {
         };
         let found = (*call, kind, file.is_synced, file.bytes.as_slice());
         same(&rt, found, (*call, fault, *is_done, *bytes));
+    }
+}
+
+// The same of one whose length is set by one call, and that another one syncs.
+static STRETCHED: &[(u64, bool, &[u8])] = &[
+    (1, false, &[7, 8]),
+    (2, false, &[7, 8, 0, 0, 0]),
+    (3, true, &[7, 8, 0, 0, 0]),
+];
+
+#[test]
+fn a_file_whose_length_cannot_be_set(rt: HostRuntime) {
+    for (call, is_done, bytes) in STRETCHED {
+        let mut file = file_of(&rt, 1, *call, ErrorKind::StorageFull);
+        same(&rt, lengthen(&mut file, 5, false).is_ok(), *is_done);
+        let found = (*call, file.is_synced, file.bytes.as_slice());
+        same(&rt, found, (*call, *is_done, *bytes));
     }
 }
 
@@ -164,7 +195,7 @@ fn a_file_that_cannot_be_renewed(rt: HostRuntime) {
 fn a_call_that_is_interrupted(rt: HostRuntime) {
     for call in [1, 2, 3] {
         let mut file = file_of(&rt, 1, call, ErrorKind::Interrupted);
-        same(&rt, lengthen(&mut file, 5).is_ok(), true);
+        same(&rt, lengthen(&mut file, 5, true).is_ok(), true);
         let found = (call, file.is_synced, file.bytes.as_slice());
         same(&rt, found, (call, true, &[7, 8, 0, 0, 0]));
     }
@@ -173,10 +204,10 @@ fn a_call_that_is_interrupted(rt: HostRuntime) {
 #[test]
 fn a_file_that_takes_no_byte(rt: HostRuntime) {
     let mut file = file_of(&rt, 0, 0, ErrorKind::Other);
-    let kind = lengthen(&mut file, 3).err().map(|error| error.kind());
+    let kind = lengthen(&mut file, 3, true).err().map(|error| error.kind());
     same(&rt, kind, Some(ErrorKind::WriteZero));
     same(&rt, file.bytes.as_slice(), &[7, 8]);
-    same(&rt, lengthen(&mut file, 2).is_ok(), true);
+    same(&rt, lengthen(&mut file, 2, true).is_ok(), true);
 }
 
 // So many bytes are appended at once.
@@ -187,7 +218,7 @@ const PART: usize = 65_536;
 fn a_file_that_gets_many_bytes(rt: HostRuntime) {
     for (call, length) in [(3, 2 * PART + 2), (4, 2 * PART + 3), (5, 2 * PART + 3)] {
         let mut file = file_of(&rt, WHOLE, call, ErrorKind::StorageFull);
-        let is_done = lengthen(&mut file, 2 * PART as u64 + 3).is_ok();
+        let is_done = lengthen(&mut file, 2 * PART as u64 + 3, true).is_ok();
         same(&rt, (call, is_done), (call, call == 5));
         same(&rt, (call, file.bytes.len()), (call, length));
         let zeros = file.bytes.iter().filter(|byte| **byte == 0).count();
@@ -284,6 +315,11 @@ static LINES: &[(FolderFault, &str)] = &[
     (
         FolderFault::OtherSet(5),
         "another set with this id: dev5.img\n",
+    ),
+    (FolderFault::Absent(2), "no file: dev2.img\n"),
+    (
+        FolderFault::SetThere(*b"0123456789\xab\xcd\xef\x00\xff\x10"),
+        "there is a set: 30313233343536373839abcdef00ff10\n",
     ),
     (FolderFault::NotSynced, "cannot sync a/b\n"),
     (

@@ -7,7 +7,9 @@ use Rattle.std.proofs.lemmas.Grind.{div_ceil_times}
 use Rattle.std.specs.Int.{div_ceil}
 use Rattle.extents.specs.declared.extent_layout.ExtentLayout.{ExtentLayout}
 use Rattle.extents.specs.ExtentMaps.{sector_of_block}
-use Rattle.extents.specs.VolumeTables.{extents_for}
+use Rattle.extents.specs.VolumeTables.{extents_for, most_blocks}
+use Rattle.extents.specs.declared.record.TheConstants.{MOST_BLOCKS}
+use Rattle.layout_map.specs.declared.sizes.TheConstants.{MOST_EXTENTS}
 
 -- a block is one by its place and its number in its extent
 pub block_is_one : (each block other : ℕ) → block / each ≡ other / each → block % each ≡ other % each → block ≡ other
@@ -73,3 +75,16 @@ more_take_more each few many some more =
 -- none take none
 pub none_take_none : (each blocks : ℕ) → 1 ≤ each → blocks ≡ 0 → 0 ≡ extents_for each blocks
 none_take_none each blocks some none = sym (div-eq_of_lt (omega (arith, some, none)))
+
+-- as many blocks as 1,024 extents have are those that a volume of the set may have
+pub few_blocks : (each blocks : ℕ) → 1 ≤ each → blocks ≤ MOST_BLOCKS → extents_for each blocks ≤ MOST_EXTENTS → blocks ≤ most_blocks each
+unfolding most_blocks
+few_blocks each blocks some most few =
+    omega (arith, most, blocks_have_room each blocks some, mul-le (extents_for each blocks) each MOST_EXTENTS each few (omega arith))
+
+-- and no more
+pub no_more_blocks : (each blocks : ℕ) → 1 ≤ each → blocks ≤ most_blocks each → extents_for each blocks ≤ MOST_EXTENTS
+unfolding most_blocks
+no_more_blocks each blocks some most =
+    let room = div_below (blocks + (each - 1)) each (MOST_EXTENTS + 1) (omega (arith, some)) (omega (arith, some, most)) in
+    omega (arith, room)

@@ -1,22 +1,23 @@
 -- The laws of maps of extents.
-use Rattle.std.proofs.Common.{◌≡◌, ◌≢◌, inl, inr, ℕ, zero, suc, ◌+◌, ◌-◌, ◌*◌, ◌<◌, ◌≤◌, ◌==◌, nat_lt, min, Bool, true, false, cond, List, [], ◌∷◌, length}
-use Rattle.std.proofs.Common.{take, count_by, Option, Some, None, is_none, is_some, get_or, refl, sym, ◌∙◌, ap, subst, arith}
-use Rattle.std.proofs.lemmas.Bool.{cases_lt, cases_eq}
+use Rattle.std.proofs.Common.{◌≡◌, ◌≢◌, ◌⊎◌, inl, inr, ℕ, zero, suc, ◌+◌, ◌-◌, ◌*◌, ◌<◌, ◌≤◌, ◌==◌, nat_lt, not, min, Bool, true, false, cond, List}
+use Rattle.std.proofs.Common.{[], ◌∷◌, length, take, count_by, Option, Some, None, is_none, is_some, get_or, refl, sym, ◌∙◌, ap, subst, arith}
+use Rattle.std.proofs.lemmas.Bool.{cases_Bool, cases_lt, cases_eq}
 use Rattle.std.proofs.lemmas.Bool.Decides.{nat_tests}
 use Rattle.std.proofs.lemmas.List.{take_all, ext_get_or}
 use Rattle.std.proofs.lemmas.List.Sums.{count_by_more_yes, count_by_more_no}
 use Rattle.extents.specs.declared.extent_layout.ExtentLayout.{ExtentLayout}
 use Rattle.extents.specs.declared.owned.Owned.{Owned}
 use Rattle.extents.specs.Owners.{owner_of, IsAt, HasPlaces}
-use Rattle.extents.specs.ExtentMaps.{IsExtentMap, free_of, free_below, is_of, count_of, AreAppended, IsTaken, IsGivenBack, HasPlace, IsWhere}
-use Rattle.extents.specs.ExtentMaps.{place_of}
+use Rattle.extents.specs.ExtentMaps.{IsExtentMap, free_of, free_before, is_of, count_of, is_dirty, is_wanted, comes_before, IsTaken}
+use Rattle.extents.specs.ExtentMaps.{IsGivenBack, HasPlace, IsWhere, place_of}
 use Rattle.extents.specs.ExtentLaws.{counted_below, IsCounted, TakingKeeps, GivingBackKeeps}
 use Rattle.extents.proofs.OwnerLemmas.{HasOwner, free_or_owned, owned_is_within, owned_is_not_free, owner_is_one}
 use Rattle.extents.proofs.Blocks.{block_is_one, sector_is_of_one, sector_within}
 use Rattle.extents.proofs.CountLemmas.{count_cons, count_same, count_none, count_parts, count_of_places}
-use Rattle.extents.proofs.TakeLemmas.{free_below_free, free_below_owned}
-use Rattle.extents.proofs.MapLemmas.{free_below_later, free_below_rises, kept_or_fresh, taken_kept, taken_places, taken_is_map, given_kept, given_none_left}
-use Rattle.extents.proofs.MapLemmas.{given_is_map}
+use Rattle.extents.proofs.FreeExtents.{all_below, all_below_free, all_below_owned, free_below_none, free_below_free, free_below_apart, free_below_owned}
+use Rattle.extents.proofs.FreeExtents.{free_of_every}
+use Rattle.extents.proofs.TakeOrder.{clean_below, dirty_below, every_part, before_clean, before_dirty, before_rises, fewer_first}
+use Rattle.extents.proofs.MapLemmas.{IsFresh, kept_or_fresh, taken_kept, taken_places, taken_is_map, given_kept, given_none_left, given_is_map}
 use Rattle.extents.specs.declared.volume_table.TheConstants.{MOST_VOLUMES}
 
 -- an extent with this owner is that of a volume below this one
@@ -63,137 +64,159 @@ extents_are_counted owners map = record {
       | inr owned ↦ let below : owned.volume < MOST_VOLUMES = map.volumes k owned.volume owned.place owned.at in rw owned.at (grind (arith, nat_tests))
     ]
 
--- as many extents fewer are free below each extent as were taken there
-free_after : (old new : List (Option Owned)) (volume first n : ℕ) → AreAppended old new volume first n → (extent : ℕ) → extent ≤ length old
-    → free_below new extent + min n (free_below old extent) ≡ free_below old extent
-free_after old new volume first n appended zero within = omega arith
-free_after old new volume first n appended (suc extent) within =
-    let next : suc extent ≡ extent + 1 = omega arith in
-    let so_far = free_after old new volume first n appended extent (omega arith) in
-    elim (free_or_owned old extent) [
-      | inr owned ↦
-          let stays : HasOwner new extent = record {
-            volume = owned.volume;
-            place = owned.place;
-            at =
-                appended.kept extent owned.volume owned.place owned.at;
-          } in
-          omega (arith, so_far, free_below_owned old extent owned, free_below_owned new extent stays, ap (free_below old) next, ap (free_below new) next)
-      | inl free ↦ elim (cases_lt (free_below old extent) n) [
-        | inl few ↦
-            let given : HasOwner new extent = record {
-              volume = volume;
-              place = first + free_below old extent;
-              at =
-                  appended.taken extent (omega arith) free few;
+module _ (dirty : List Bool) (old new : List (Option Owned)) (volume n : ℕ) (taken : IsTaken dirty old new volume n) where
+  -- as many extents fewer are free below the next one, where it is free
+  next_left : (extent : ℕ) → extent < length old → owner_of old extent ≡ None
+      → ((free_before dirty old extent < n) × (all_below new (extent + 1) ≡ all_below new extent))
+      ⊎ ((n ≤ free_before dirty old extent) × (all_below new (extent + 1) ≡ all_below new extent + 1))
+  next_left extent within free = elim (cases_lt (free_before dirty old extent) n) [
+    | inl few ↦ inl (
+      few,
+      all_below_owned new extent record {
+        volume = volume;
+        place = count_of old volume + free_before dirty old extent;
+        at = taken.taken extent within free few;
+      },
+    )
+    | inr many ↦ inr (many, all_below_free new extent (omega (arith, taken.extents)) (taken.left extent free many))
+  ]
+
+  -- As many extents fewer are free below each one as were taken there: clean ones, and dirty ones where the clean ones are too few.
+  free_after : (extent : ℕ) → extent ≤ length old
+      → all_below new extent + min n (clean_below dirty old extent)
+      + (min n (clean_below dirty old (length old) + dirty_below dirty old extent) - min n (clean_below dirty old (length old))) ≡ all_below old extent
+  free_after zero within = omega (arith, free_below_none (is_wanted false dirty) old, free_below_none (is_dirty dirty) old)
+  free_after (suc extent) within =
+      let next : suc extent ≡ extent + 1 = omega arith in
+      let so_far = free_after extent (omega arith) in
+      let same_old = ap (all_below old) next in
+      let same_new = ap (all_below new) next in
+      let same_clean = ap (clean_below dirty old) next in
+      let same_dirty = ap (dirty_below dirty old) next in
+      elim (free_or_owned old extent) [
+        | inr owned ↦
+            let stays : HasOwner new extent = record {
+              volume = owned.volume;
+              place = owned.place;
+              at = taken.kept extent owned.volume owned.place owned.at;
             } in
             omega (
               arith,
               so_far,
-              free_below_free old extent (omega arith) free,
-              free_below_owned new extent given,
-              ap (free_below old) next,
-              ap (free_below new) next,
+              same_old,
+              same_new,
+              same_clean,
+              same_dirty,
+              all_below_owned old extent owned,
+              all_below_owned new extent stays,
+              free_below_owned (is_wanted false dirty) old extent owned,
+              free_below_owned (is_dirty dirty) old extent owned,
             )
-        | inr many ↦
-            omega (
-              arith,
-              so_far,
-              free_below_free old extent (omega arith) free,
-              free_below_free new extent (omega (arith, appended.extents))
-                  (appended.left extent free many),
-              ap (free_below old) next,
-              ap (free_below new) next,
-            )
+        | inl free ↦ elim (cases_Bool (is_dirty dirty extent)) [
+          | inl is ↦
+              omega (
+                arith,
+                so_far,
+                same_old,
+                same_new,
+                same_clean,
+                same_dirty,
+                all_below_free old extent (omega arith) free,
+                next_left extent (omega arith) free,
+                before_dirty dirty old extent (omega arith) is,
+                free_below_apart (is_wanted false dirty) old extent (ap not is),
+                free_below_free (is_dirty dirty) old extent free is,
+              )
+          | inr clean ↦
+              omega (
+                arith,
+                so_far,
+                same_old,
+                same_new,
+                same_clean,
+                same_dirty,
+                all_below_free old extent (omega arith) free,
+                next_left extent (omega arith) free,
+                before_clean dirty old extent (omega arith) clean,
+                free_below_free (is_wanted false dirty) old extent free (ap not clean),
+                free_below_apart (is_dirty dirty) old extent clean,
+              )
+        ]
       ]
+
+  -- n extents fewer are free
+  taken_free : n ≤ free_of old → free_of new + n ≡ free_of old
+  taken_free enough =
+      omega (
+        arith,
+        free_after (length old) (omega arith),
+        free_of_every old,
+        every_part dirty old (length old),
+        ap free_of (take_all (length old) old (omega arith)),
+        ap free_of (take_all (length old) new (omega (arith, taken.extents))),
+      )
+
+  -- an extent is left where it is free and n free ones come before it
+  left_is : (extent : ℕ) → extent < length new → owner_of new extent ≡ None → (owner_of old extent ≡ None) × (n ≤ free_before dirty old extent)
+  left_is extent within free = elim (free_or_owned old extent) [
+    | inr owned ↦ absurd (owned_is_not_free new extent owned.volume owned.place (taken.kept extent owned.volume owned.place owned.at) free)
+    | inl was_free ↦ elim (cases_lt (free_before dirty old extent) n) [
+      | inl few ↦ absurd (owned_is_not_free new extent volume (count_of old volume + free_before dirty old extent)
+          (taken.taken extent (omega (arith, taken.extents)) was_free few) free)
+      | inr many ↦ (was_free, many)
     ]
-
--- n extents fewer are free
-taken_free : (old new : List (Option Owned)) (volume first n : ℕ) → n ≤ free_of old → AreAppended old new volume first n → free_of new + n ≡ free_of old
-taken_free old new volume first n enough appended =
-    omega (
-      arith,
-      free_after old new volume first n appended (length old) (omega arith),
-      ap free_of (take_all (length old) old (omega arith)),
-      ap free_of (take_all (length old) new (omega (arith, appended.extents))),
-    )
-
--- an extent is left where it is free and n free ones lie below it
-left_is : (old new : List (Option Owned)) (volume first n extent : ℕ) → AreAppended old new volume first n → extent < length new → owner_of new extent ≡ None
-    → n ≤ free_below old extent
-left_is old new volume first n extent appended within free = elim (free_or_owned old extent) [
-  | inr owned ↦ absurd (owned_is_not_free new extent owned.volume owned.place (appended.kept extent owned.volume owned.place owned.at) free)
-  | inl was_free ↦ elim (cases_lt (free_below old extent) n) [
-    | inl few ↦ absurd (owned_is_not_free new extent volume (first + free_below old extent)
-        (appended.taken extent (omega (arith, appended.extents)) was_free few) free)
-    | inr many ↦ many
   ]
-]
 
-taken_lowest : (old new : List (Option Owned)) (volume first n extent place other : ℕ) → AreAppended old new volume first n
-    → owner_of old extent ≡ None → IsAt new extent volume place → other < length new → owner_of new other ≡ None → extent < other
-taken_lowest old new volume first n extent place other appended was_free at within free =
-    elim (kept_or_fresh old new volume first n extent volume place appended at) [
-      | inl kept ↦ absurd (owned_is_not_free old extent volume place kept was_free)
-      | inr fresh ↦ elim (cases_lt extent other) [
-        | inl before ↦ before
-        | inr after ↦
-            let back : other + (extent - other) ≡ extent = omega arith in
-            absurd (omega (
-              arith,
-              fresh.few,
-              left_is old new volume first n other appended within free,
-              free_below_later old other (extent - other),
-              ap (free_below old) back,
-            ))
+  -- a free extent that is the volume's now was taken
+  fresh_is : (extent place : ℕ) → owner_of old extent ≡ None → IsAt new extent volume place → IsFresh dirty old volume n extent volume place
+  fresh_is extent place was_free at = elim (kept_or_fresh dirty old new volume n taken extent volume place at) [
+    | inl kept ↦ absurd (owned_is_not_free old extent volume place kept was_free)
+    | inr fresh ↦ fresh
+  ]
+
+  taken_lowest : (extent place other : ℕ) → owner_of old extent ≡ None → IsAt new extent volume place → other < length new → owner_of new other ≡ None
+      → comes_before dirty extent other ≡ true
+  taken_lowest extent place other was_free at within free =
+      let fresh = fresh_is extent place was_free at in
+      let left = left_is other within free in
+      fewer_first dirty old extent other fresh.within (omega (arith, taken.extents)) left.0 (omega (arith, fresh.few, left.1))
+
+  taken_rising : (extent other place place' : ℕ) → comes_before dirty extent other ≡ true → owner_of old extent ≡ None → owner_of old other ≡ None
+      → IsAt new extent volume place → IsAt new other volume place' → place < place'
+  taken_rising extent other place place' before free other_free at other_at =
+      let one = fresh_is extent place free at in
+      let two = fresh_is other place' other_free other_at in
+      omega (arith, one.place_is, two.place_is, before_rises dirty old extent other one.within two.within free before)
+
+  taken_one : (other : List (Option Owned)) → IsTaken dirty old other volume n → other ≡ new
+  taken_one other also = ext_get_or None other new (also.extents ∙ sym taken.extents) (λ k within. same k (omega (arith, also.extents)))
+    where
+      same : (k : ℕ) → k < length old → get_or other k None ≡ get_or new k None
+      same k within = elim (free_or_owned old k) [
+        | inr owned ↦ also.kept k owned.volume owned.place owned.at ∙ sym (taken.kept k owned.volume owned.place owned.at)
+        | inl free ↦ elim (cases_lt (free_before dirty old k) n) [
+          | inl few ↦ also.taken k within free few ∙ sym (taken.taken k within free few)
+          | inr many ↦ also.left k free many ∙ sym (taken.left k free many)
+        ]
       ]
-    ]
-
--- the place of an extent that was taken
-fresh_place : (old new : List (Option Owned)) (volume first n extent place : ℕ) → AreAppended old new volume first n → owner_of old extent ≡ None
-    → IsAt new extent volume place
-    → (extent < length old) × (place ≡ first + free_below old extent)
-fresh_place old new volume first n extent place appended was_free at = elim (kept_or_fresh old new volume first n extent volume place appended at) [
-  | inl kept ↦ absurd (owned_is_not_free old extent volume place kept was_free)
-  | inr fresh ↦ (fresh.within, fresh.place_is)
-]
-
-taken_rising : (old new : List (Option Owned)) (volume first n lower upper place place' : ℕ) → AreAppended old new volume first n
-    → lower < upper → owner_of old lower ≡ None → owner_of old upper ≡ None → IsAt new lower volume place → IsAt new upper volume place' → place < place'
-taken_rising old new volume first n lower upper place place' appended before lower_free upper_free lower_at upper_at =
-    let low = fresh_place old new volume first n lower place appended lower_free lower_at in
-    let high = fresh_place old new volume first n upper place' appended upper_free upper_at in
-    omega (arith, low.1, high.1, free_below_rises old lower upper before low.0 lower_free)
-
-taken_one : (old one other : List (Option Owned)) (volume first n : ℕ) → AreAppended old one volume first n → AreAppended old other volume first n → other ≡ one
-taken_one old one other volume first n so or_so = ext_get_or None other one (or_so.extents ∙ sym so.extents) (λ k within. same k (omega (arith, or_so.extents)))
-  where
-    same : (k : ℕ) → k < length old → get_or other k None ≡ get_or one k None
-    same k within = elim (free_or_owned old k) [
-      | inr owned ↦ or_so.kept k owned.volume owned.place owned.at ∙ sym (so.kept k owned.volume owned.place owned.at)
-      | inl free ↦ elim (cases_lt (free_below old k) n) [
-        | inl few ↦ or_so.taken k within free few ∙ sym (so.taken k within free few)
-        | inr many ↦ or_so.left k free many ∙ sym (so.left k free many)
-      ]
-    ]
 
 -- what extents that are taken do to a map
-pub taking_keeps : (old new : List (Option Owned)) (volume n : ℕ) → IsExtentMap old → volume < MOST_VOLUMES → n ≤ free_of old → IsTaken old new volume n
-    → TakingKeeps old new volume n
-taking_keeps old new volume n map within enough taken = record {
-  map = taken_is_map old new volume n map within enough taken;
-  places = taken_places old new volume (count_of old volume) n ((extents_are_counted old map).places volume) enough taken;
-  others = λ extent other place apart. (taken_kept old new volume (count_of old volume) n extent other place taken apart, taken.kept extent other place);
-  free = taken_free old new volume (count_of old volume) n enough taken;
-  lowest = λ extent place other was_free at in_map free. taken_lowest old new volume (count_of old volume) n extent place other taken was_free at in_map free;
-  rising = λ lower upper place place' before lower_free upper_free lower_at upper_at.
-      taken_rising old new volume (count_of old volume) n lower upper place place' taken before lower_free upper_free lower_at upper_at;
-  only = λ other also. taken_one old new other volume (count_of old volume) n taken also;
+pub taking_keeps : (dirty : List Bool) (old new : List (Option Owned)) (volume n : ℕ) → IsExtentMap old → volume < MOST_VOLUMES → n ≤ free_of old
+    → IsTaken dirty old new volume n
+    → TakingKeeps dirty old new volume n
+taking_keeps dirty old new volume n map within enough taken = record {
+  map = taken_is_map dirty old new volume n taken map within enough;
+  places = taken_places dirty old new volume n taken ((extents_are_counted old map).places volume) enough;
+  others = λ extent other place apart. (taken_kept dirty old new volume n taken extent other place apart, taken.kept extent other place);
+  free = taken_free dirty old new volume n taken enough;
+  lowest = taken_lowest dirty old new volume n taken;
+  rising = taken_rising dirty old new volume n taken;
+  only = taken_one dirty old new volume n taken;
 }
 
 -- as many extents more are free below each extent as the volume had there
 given_after : (old new : List (Option Owned)) (volume : ℕ) → IsGivenBack old new volume → (extent : ℕ) → extent ≤ length old
-    → free_below new extent ≡ free_below old extent + count_of (take extent old) volume
+    → all_below new extent ≡ all_below old extent + count_of (take extent old) volume
 given_after old new volume given zero within = omega arith
 given_after old new volume given (suc extent) within =
     let next : suc extent ≡ extent + 1 = omega arith in
@@ -204,12 +227,12 @@ given_after old new volume given (suc extent) within =
           omega (
             arith,
             so_far,
-            free_below_free old extent (omega arith) free,
-            free_below_free new extent (omega (arith, given.extents)) (given.left extent free),
+            all_below_free old extent (omega arith) free,
+            all_below_free new extent (omega (arith, given.extents)) (given.left extent free),
             count_by_more_no (is_of volume) old extent None (omega arith) (ap (is_of volume) free),
             of_next,
-            ap (free_below old) next,
-            ap (free_below new) next,
+            ap (all_below old) next,
+            ap (all_below new) next,
           )
       | inr owned ↦ elim (cases_eq owned.volume volume) [
         | inl same ↦
@@ -217,12 +240,12 @@ given_after old new volume given (suc extent) within =
             omega (
               arith,
               so_far,
-              free_below_owned old extent owned,
-              free_below_free new extent (omega (arith, given.extents)) (given.freed extent owned.place its),
+              all_below_owned old extent owned,
+              all_below_free new extent (omega (arith, given.extents)) (given.freed extent owned.place its),
               count_by_more_yes (is_of volume) old extent None (omega arith) (ap (is_of volume) its ∙ own),
               of_next,
-              ap (free_below old) next,
-              ap (free_below new) next,
+              ap (all_below old) next,
+              ap (all_below new) next,
             )
         | inr other ↦
             let stays : HasOwner new extent = record {
@@ -234,12 +257,12 @@ given_after old new volume given (suc extent) within =
             omega (
               arith,
               so_far,
-              free_below_owned old extent owned,
-              free_below_owned new extent stays,
+              all_below_owned old extent owned,
+              all_below_owned new extent stays,
               count_by_more_no (is_of volume) old extent None (omega arith) (ap (is_of volume) owned.at ∙ apart owned.volume other),
               of_next,
-              ap (free_below old) next,
-              ap (free_below new) next,
+              ap (all_below old) next,
+              ap (all_below new) next,
             )
       ]
     ]

@@ -2,8 +2,10 @@ pub mod Blocks
 pub mod Bytes
 pub mod Cells
 pub mod CountLemmas
+pub mod Entries
 pub mod ExtentLawLemmas
 pub mod FirstSectors
+pub mod FreeExtents
 pub mod GiveLemmas
 pub mod IndexLemmas
 pub mod MapLemmas
@@ -11,9 +13,12 @@ pub mod OwnerLemmas
 pub mod PaddedOwners
 pub mod Readings
 pub mod Same
+pub mod Sizes
 pub mod Sectors
 pub mod Spelled
 pub mod TableLaws
 pub mod Tables
 pub mod TakeLemmas
+pub mod TakeOrder
+pub mod TakenTwice
 pub mod Versions

@@ -1,5 +1,5 @@
 -- Values with the same fields are one.
-use Rattle.std.proofs.Common.{◌≡◌, ℕ, ◌≤◌, List, Option, Some, None, true, false, sym, ◌∙◌, ap, subst}
+use Rattle.std.proofs.Common.{◌≡◌, ℕ, ◌≤◌, Bool, List, Option, Some, None, true, false, sym, ◌∙◌, ap, subst}
 use Rattle.std.specs.Prelude.{◌↔◌, IsSome, IfSome}
 use Rattle.std.proofs.Props.{props}
 use mathlib.Core.HLevel.{is_prop→PathP}
@@ -9,7 +9,7 @@ use Rattle.extents.specs.declared.record.Record.{Record}
 use Rattle.extents.specs.declared.volume_table.VolumeTable.{VolumeTable}
 use Rattle.extents.specs.Layouts.{IsExtentLayout}
 use Rattle.extents.specs.Names.{IsGoodName}
-use Rattle.extents.specs.VolumeTables.{IsVolumeTable}
+use Rattle.extents.specs.VolumeTables.{AreFlags, IsVolumeTable}
 use Rattle.extents.specs.declared.record.TheConstants.{MOST_BLOCKS}
 
 IsGoodName-prop : (bytes : List ℕ) → IsProp (IsGoodName bytes)
@@ -44,12 +44,17 @@ same_layout a b format first blocks count = λ i. record {
   limits = is_prop→PathP (λ j. IsExtentLayout (first j) (blocks j) (count j)) (λ j. IsExtentLayout-prop (first j) (blocks j) (count j)) a.limits b.limits i;
 }
 
-pub same_table : (a b : VolumeTable) → a.version ≡ b.version → a.records ≡ b.records → a.extents ≡ b.extents → a ≡ b
-same_table a b version records extents = λ i. record {
+AreFlags-prop : (version : ℕ) (dirty : List Bool) → IsProp (AreFlags version dirty)
+AreFlags-prop version dirty = hlevel props
+
+pub same_table : (a b : VolumeTable) → a.version ≡ b.version → a.records ≡ b.records → a.extents ≡ b.extents → a.dirty ≡ b.dirty → a ≡ b
+same_table a b version records extents dirty = λ i. record {
   version = version i;
   records = records i;
   extents = extents i;
+  dirty = dirty i;
   is_table = is_prop→PathP (λ j. ∥ IsVolumeTable (version j) (records j) (extents j) ∥₁) (λ j. truncated-prop) a.is_table b.is_table i;
+  flags = is_prop→PathP (λ j. AreFlags (version j) (dirty j)) (λ j. AreFlags-prop (version j) (dirty j)) a.flags b.flags i;
 }
 
 -- the name that was made of a good name's bytes is that name

@@ -1,5 +1,7 @@
 -- Records and owners, field by field.
-use Rattle.std.proofs.Common.{◌≡◌, ℕ, zero, suc, ◌+◌, ◌-◌, ◌^◌, ◌<◌, ◌≤◌, List, [], ◌∷◌, ◌++◌, Option, Some, None, length, take, drop, set, get_or, refl, sym}
+use Rattle.std.proofs.Common.{◌≡◌, ℕ, zero, suc, ◌+◌, ◌-◌, ◌*◌, ◌%◌, ◌^◌, nat_le, Bool, true, false, ◌<◌, ◌≤◌, List, [], ◌∷◌, ◌++◌, Option, Some, None, length, take, drop, set, get_or, refl, sym}
+use Rattle.std.proofs.lemmas.Bool.{le-leb, lt-leb}
+use Rattle.std.proofs.lemmas.Nat.{mod-mul-add}
 use Rattle.std.proofs.Common.{ap, ◌∙◌, append_assoc, arith}
 use Rattle.std.proofs.lemmas.List.{length-append, length-take, length-drop, take_at, take_all, drop_at, drop_all, append-nil}
 use borrow.Rule.Slice.PartMut.{put_mid}
@@ -7,8 +9,8 @@ use Rattle.byteorder.specs.Endian.{little_bytes, little_number}
 use Rattle.byteorder.specs.Numbers.{length-bytes_low_first, little_number-reads_back}
 use Rattle.extents.specs.declared.owned.Owned.{Owned}
 use Rattle.extents.specs.declared.record.Record.{Record}
-use Rattle.extents.specs.Cells.{OwnerHasRoom}
-use Rattle.extents.specs.TableSpelling.{zeros, used_bytes, record_bytes, owner_bytes}
+use Rattle.extents.specs.Cells.{OwnerHasRoom, is_marked}
+use Rattle.extents.specs.TableSpelling.{Entry, entry_bytes, mark, number_in, place_in, record_bytes, used_bytes, zeros}
 use Rattle.extents.proofs.Bytes.{length-zeros, started, started_none, started_more, started_zeros, started_all, set_first}
 use Rattle.extents.specs.Versions.{most_name_bytes, record_width, blocks_at}
 use Rattle.extents.specs.VolumeTables.{IsShort}
@@ -169,63 +171,96 @@ pub in_use : (version : ℕ) (from : List ℕ) (one : Option Record) → IsShort
 in_use version from None short is other = absurd (other (ap (λ (xs : List ℕ). get_or xs 0 0) is ∙ first_of_zeros (record_width version)))
 in_use version from (Some used) short is other = (used, refl, short used refl, is)
 
--- ---- who has an extent
+-- ---- what is said of an extent
 
-pub length-owner_bytes : (owner : Option Owned) → length (owner_bytes owner) ≡ 4
-unfolding owner_bytes
-length-owner_bytes None = length-zeros 4
-length-owner_bytes (Some owner) = omega (
-  arith,
-  length-append (little_bytes 2 (owner.volume + 1)) (little_bytes 2 owner.place),
-  length-little_bytes 2 (owner.volume + 1),
-  length-little_bytes 2 owner.place,
-)
+pub length-entry_bytes : (entry : Entry) → length (entry_bytes entry) ≡ 4
+unfolding entry_bytes
+length-entry_bytes entry =
+    let number = little_bytes 2 (number_in entry.0) in
+    let place = little_bytes 2 (place_in entry.0 + mark entry.1) in
+    omega (arith, length-append number place, length-little_bytes 2 (number_in entry.0), length-little_bytes 2 (place_in entry.0 + mark entry.1))
 
--- bytes that spell a free extent have the number 0
-pub number_of_zeros : little_number 2 (take 2 (owner_bytes None)) ≡ 0
-unfolding owner_bytes zeros
-number_of_zeros = refl
+-- the numbers of an owner with room
+pub number_most : (owner : Option Owned) → OwnerHasRoom owner → number_in owner ≤ 256
+number_most None room = omega arith
+number_most (Some one) room = omega (arith, (room one refl).volume)
 
-pub number_of_owner : (one : Owned) → one.volume < 256 → little_number 2 (take 2 (owner_bytes (Some one))) ≡ one.volume + 1
-unfolding owner_bytes
-number_of_owner one room =
-    ap (little_number 2) (take_at (little_bytes 2 (one.volume + 1)) (little_bytes 2 one.place) 2 (length-little_bytes 2 (one.volume + 1)))
-    ∙ read_back 2 (one.volume + 1) (omega arith)
+pub place_most : (owner : Option Owned) → OwnerHasRoom owner → place_in owner < 32768
+place_most None room = omega arith
+place_most (Some one) room = omega (arith, (room one refl).place)
 
-pub place_of_owner : (one : Owned) → one.place < 65536 → little_number 2 (take 2 (drop 2 (owner_bytes (Some one)))) ≡ one.place
-unfolding owner_bytes
-place_of_owner one room =
-    let place = little_bytes 2 one.place in
-    ap (λ (xs : List ℕ). little_number 2 (take 2 xs)) (drop_at (little_bytes 2 (one.volume + 1)) place 2 (length-little_bytes 2 (one.volume + 1)))
-    ∙ ap (little_number 2) (take_all 2 place (let long = length-little_bytes 2 one.place in omega arith))
-    ∙ read_back 2 one.place (omega arith)
+pub mark_most : (marked : Bool) → mark marked ≤ 32768
+mark_most true = omega arith
+mark_most false = omega arith
 
-pub free_read : (from : List ℕ) (owner : Option Owned) → OwnerHasRoom owner → from ≡ owner_bytes owner → little_number 2 (take 2 from) ≡ 0 → owner ≡ None
-free_read from None room is none = refl
-free_read from (Some one) room is none = absurd (let number = ap (λ (xs : List ℕ). little_number 2 (take 2 xs)) is
-    ∙ number_of_owner one (room one refl).volume in omega arith)
+-- what is read of a place with a mark
+mark_in : (place : ℕ) (marked : Bool) → place < 32768 → nat_le 32768 (place + mark marked) ≡ marked
+mark_in place true small = le-leb 32768 (place + 32768) (omega arith)
+mark_in place false small = lt-leb 32768 (place + 0) (omega (arith, small))
 
-pub owner_read : (from : List ℕ) (owner : Option Owned) → OwnerHasRoom owner → from ≡ owner_bytes owner → (little_number 2 (take 2 from) ≡ 0 → ⊥)
-    → (one : Owned) × (owner ≡ Some one) × (one.volume < 256) × (little_number 2 (take 2 from) ≡ one.volume + 1)
-    × (little_number 2 (take 2 (drop 2 from)) ≡ one.place)
-owner_read from None room is some = absurd (some (ap (λ (xs : List ℕ). little_number 2 (take 2 xs)) is ∙ number_of_zeros))
-owner_read from (Some one) room is some = (
-  one,
-  refl,
-  (room one refl).volume,
-  ap (λ (xs : List ℕ). little_number 2 (take 2 xs)) is ∙ number_of_owner one (room one refl).volume,
-  ap (λ (xs : List ℕ). little_number 2 (take 2 (drop 2 xs))) is ∙ place_of_owner one (room one refl).place,
-)
+place_of : (place : ℕ) (marked : Bool) → place < 32768 → (place + mark marked) % 32768 ≡ place
+place_of place true small = ap (λ (n : ℕ). n % 32768) (let same : place + 32768 ≡ 1 * 32768 + place = omega arith in same) ∙ mod-mul-add 1 32768 place small
+place_of place false small = ap (λ (n : ℕ). n % 32768) (let same : place + 0 ≡ 0 * 32768 + place = omega arith in same) ∙ mod-mul-add 0 32768 place small
+
+-- what is read of an extent's bytes
+pub entry_number : (owner : Option Owned) (marked : Bool) → OwnerHasRoom owner → little_number 2 (take 2 (entry_bytes (owner, marked))) ≡ number_in owner
+unfolding entry_bytes
+entry_number owner marked room =
+    ap (little_number 2) (take_at (little_bytes 2 (number_in owner)) (little_bytes 2 (place_in owner + mark marked)) 2
+    (length-little_bytes 2 (number_in owner)))
+    ∙ read_back 2 (number_in owner) (omega (arith, number_most owner room))
+
+pub entry_place : (owner : Option Owned) (marked : Bool) → OwnerHasRoom owner
+    → little_number 2 (take 2 (drop 2 (entry_bytes (owner, marked)))) ≡ place_in owner + mark marked
+unfolding entry_bytes
+entry_place owner marked room =
+    let place = little_bytes 2 (place_in owner + mark marked) in
+    ap (λ (xs : List ℕ). little_number 2 (take 2 xs)) (drop_at (little_bytes 2 (number_in owner)) place 2 (length-little_bytes 2 (number_in owner)))
+    ∙ ap (little_number 2) (take_all 2 place (let long = length-little_bytes 2 (place_in owner + mark marked) in omega arith))
+    ∙ read_back 2 (place_in owner + mark marked) (omega (arith, place_most owner room, mark_most marked))
+
+-- bytes are marked where the extent is
+pub marked_is : (bytes : List ℕ) (owner : Option Owned) (marked : Bool) → OwnerHasRoom owner → bytes ≡ entry_bytes (owner, marked) → is_marked bytes ≡ marked
+marked_is bytes owner marked room is =
+    ap (λ (xs : List ℕ). nat_le 32768 (little_number 2 (take 2 (drop 2 xs)))) is ∙ ap (nat_le 32768) (entry_place owner marked room)
+    ∙ mark_in (place_in owner) marked (place_most owner room)
+
+pub number_read : (bytes : List ℕ) (owner : Option Owned) (marked : Bool) → OwnerHasRoom owner → bytes ≡ entry_bytes (owner, marked)
+    → little_number 2 (take 2 bytes) ≡ number_in owner
+number_read bytes owner marked room is = ap (λ (xs : List ℕ). little_number 2 (take 2 xs)) is ∙ entry_number owner marked room
+
+pub place_read : (bytes : List ℕ) (owner : Option Owned) (marked : Bool) → OwnerHasRoom owner → bytes ≡ entry_bytes (owner, marked)
+    → little_number 2 (take 2 (drop 2 bytes)) % 32768 ≡ place_in owner
+place_read bytes owner marked room is =
+    ap (λ (xs : List ℕ). little_number 2 (take 2 (drop 2 xs)) % 32768) is ∙ ap (λ (n : ℕ). n % 32768) (entry_place owner marked room)
+    ∙ place_of (place_in owner) marked (place_most owner room)
+
+-- an owner with the number 0 is none
+pub free_of_number : (owner : Option Owned) → number_in owner ≡ 0 → owner ≡ None
+free_of_number None zero_is = refl
+free_of_number (Some one) zero_is = absurd (omega (arith, zero_is))
 
 pub same_owner : (a b : Owned) → a.volume ≡ b.volume → a.place ≡ b.place → a ≡ b
 same_owner a b volume place = λ i. record { volume = volume i; place = place i }
 
--- what is written for an owner, one number after the other
-pub owner_spelled : (one : Owned) (bytes first second : List ℕ) → length bytes ≡ 4 → first ≡ little_bytes 2 (one.volume + 1) → second ≡ little_bytes 2 one.place
-    → put_mid 2 2 (first ++ drop 2 bytes) second ≡ owner_bytes (Some one)
-unfolding owner_bytes
-owner_spelled one bytes first second long first_is second_is =
-    let first_long : length first ≡ 2 = ap length first_is ∙ length-little_bytes 2 (one.volume + 1) in
+-- one with another is that of its numbers
+pub owner_of_numbers : (owner : Option Owned) (volume place : ℕ) → number_in owner ≡ volume + 1 → place_in owner ≡ place
+    → owner ≡ Some (record { volume = volume; place = place })
+owner_of_numbers None volume place number_is place_is = absurd (omega (arith, number_is))
+owner_of_numbers (Some one) volume place number_is place_is =
+    ap Some (same_owner one (record { volume = volume; place = place }) (omega (arith, number_is)) place_is)
+
+-- owners with the same numbers are one
+pub one_owner_by : (first second : Option Owned) → number_in first ≡ number_in second → place_in first ≡ place_in second → first ≡ second
+one_owner_by None second number_is place_is = sym (free_of_number second (sym number_is))
+one_owner_by (Some one) second number_is place_is = sym (owner_of_numbers second one.volume one.place (sym number_is) (sym place_is))
+
+-- what is written for an extent, one number after the other
+pub entry_spelled : (entry : Entry) (bytes first second : List ℕ) → length bytes ≡ 4 → first ≡ little_bytes 2 (number_in entry.0)
+    → second ≡ little_bytes 2 (place_in entry.0 + mark entry.1) → put_mid 2 2 (first ++ drop 2 bytes) second ≡ entry_bytes entry
+unfolding entry_bytes
+entry_spelled entry bytes first second long first_is second_is =
+    let first_long : length first ≡ 2 = ap length first_is ∙ length-little_bytes 2 (number_in entry.0) in
     let all = first ++ drop 2 bytes in
     let front : take 2 all ≡ first = take_at first (drop 2 bytes) 2 first_long in
     let none : drop 2 (drop 2 all) ≡ [] = ap (drop 2) (drop_at first (drop 2 bytes) 2 first_long)
@@ -233,4 +268,4 @@ owner_spelled one bytes first second long first_is second_is =
     ap (λ (xs : List ℕ). xs ++ (second ++ drop 2 (drop 2 all))) front
     ∙ ap (λ (xs : List ℕ). first ++ (second ++ xs)) none
     ∙ ap (λ (xs : List ℕ). first ++ xs) (append-nil second ∙ second_is)
-    ∙ ap (λ (xs : List ℕ). xs ++ little_bytes 2 one.place) first_is
+    ∙ ap (λ (xs : List ℕ). xs ++ little_bytes 2 (place_in entry.0 + mark entry.1)) first_is

@@ -1,9 +1,9 @@
 -- What the checks find out is what makes a table.
-use Rattle.std.proofs.Common.{◌≡◌, ℕ, ◌<◌, ◌≤◌, Bool, true, false, not, List, Option, Some, None, length, get_or, refl, sym, ◌∙◌, ap, ◌⊎◌, inl, inr, ⊎_elim}
-use Rattle.std.proofs.Common.{eqb, arith}
+use Rattle.std.proofs.Common.{◌≡◌, ℕ, ◌<◌, ◌≤◌, Bool, true, false, cond, not, List, Option, Some, None, length, get_or, refl, sym, ◌∙◌, ap, ◌⊎◌, inl, inr, ⊎_elim}
+use Rattle.std.proofs.Common.{eqb, subst, arith}
 use Rattle.std.specs.Option.{MatchOption, option_eq, is_some}
 use Rattle.std.specs.Str.{bytes_eq}
-use Rattle.std.proofs.lemmas.Bool.{eqb-true, eq-eqb, cases_lt}
+use Rattle.std.proofs.lemmas.Bool.{cases_eq, cases_lt, eq-eqb, eqb-true, ne_eqb}
 use Rattle.std.proofs.Props.{props}
 use Rattle.std.proofs.Math.Logic.{∥∥₁_elim}
 use Rattle.extents.proofs.Versions.{most_of_last}
@@ -13,8 +13,10 @@ use Rattle.extents.specs.declared.owned.Owned.{Owned}
 use Rattle.extents.specs.declared.record.Record.{Record}
 use Rattle.extents.specs.ExtentMaps.{IsExtentMap}
 use Rattle.extents.specs.Owners.{HasPlaces, IsAt}
-use Rattle.extents.specs.VolumeTables.{record_of, extents_of, AreDistinct, AreOfVersion, HaveTheirPlaces, IsShort, IsVolumeTable}
-use Rattle.extents.specs.Versions.{IsVersion, most_volumes}
+use Rattle.extents.specs.VolumeTables.{record_of, extents_of, AreDistinct, AreOfVersion, AreFlags, HaveTheirPlaces, IsShort, IsVolumeTable}
+use Rattle.extents.specs.Versions.{IsVersion, is_version_of, most_volumes, tells_dirty, upgraded_version}
+use Rattle.layout_map.specs.declared.format.Format.{Format}
+use Rattle.layout_map.specs.declared.format.Format.TheVariants.{One, Two}
 use Rattle.extents.specs.Checks.{IsNamed, IsFirstNamed, IsFirstAt, OwnersFit, AllPlacesOccur}
 use Rattle.layout_map.specs.declared.sizes.TheConstants.{MOST_EXTENTS}
 use Rattle.extents.specs.declared.volume_table.TheConstants.{MOST_VOLUMES}
@@ -191,10 +193,9 @@ all_of_version version records long none short = record {
       (λ (beyond : MOST_VOLUMES ≤ volume) used is. absurd
       (let past : record_of records volume ≡ None = get_or_past records volume None (omega (arith, long)) in let no : ⊥ = cc in no))
       (cases_lt volume MOST_VOLUMES);
-  sized = λ volume used is. used.most;
 }
 
--- a table is one of the greatest version too
+-- a table of version 1 is one of version 2 too
 upgraded : (version : ℕ) (records : List (Option Record)) (extents : List (Option Owned)) → IsVolumeTable version records extents
     → IsVolumeTable 2 records extents
 upgraded version records extents table = record {
@@ -202,7 +203,6 @@ upgraded version records extents table = record {
   of_version = record {
     few = λ volume past. table.of_version.few volume (let most = (most_of_last version).0 in omega arith);
     short = λ volume used is. let most = (most_of_last version).1 in let short = table.of_version.short volume used is in omega arith;
-    sized = λ volume used is. used.most;
   };
   all_records = table.all_records;
   all_extents = table.all_extents;
@@ -210,6 +210,45 @@ upgraded version records extents table = record {
   map = table.map;
 }
 
+-- what an upgrade makes of a version
+pub version_upgraded : (version : ℕ) → ((version ≡ 1) × (upgraded_version version ≡ 2)) ⊎ (upgraded_version version ≡ version)
+version_upgraded version = elim (cases_eq version 1) [
+  | inl same ↦ inl (same, ap (λ (b : Bool). cond b 2 version) (eq-eqb version 1 same))
+  | inr other ↦ inr (ap (λ (b : Bool). cond b 2 version) (ne_eqb version 1 other))
+]
+
 pub table_upgraded : {version : ℕ} (records : List (Option Record)) (extents : List (Option Owned)) → ∥ IsVolumeTable version records extents ∥₁
-    → ∥ IsVolumeTable 2 records extents ∥₁
-table_upgraded {version} records extents table = ∥∥₁_elim table (hlevel props) (λ one. ∣ upgraded version records extents one ∣₁)
+    → ∥ IsVolumeTable (upgraded_version version) records extents ∥₁
+table_upgraded {version} records extents table = elim (version_upgraded version) [
+  | inl first ↦ subst (λ (v : ℕ). ∥ IsVolumeTable v records extents ∥₁) (sym first.1)
+      (∥∥₁_elim table (hlevel props) (λ one. ∣ upgraded version records extents one ∣₁))
+  | inr same ↦ subst (λ (v : ℕ). ∥ IsVolumeTable v records extents ∥₁) (sym same) table
+]
+
+-- an upgrade leaves whether dirty extents are told
+pub upgraded_tells : (version : ℕ) → tells_dirty (upgraded_version version) ≡ tells_dirty version
+upgraded_tells version = elim (version_upgraded version) [
+  | inl first ↦ ap tells_dirty first.1 ∙ sym (ap tells_dirty first.0)
+  | inr same ↦ ap tells_dirty same
+]
+
+-- a format that has version 1 has version 2
+second_too : (format : Format) → is_version_of format 1 ≡ true → is_version_of format 2 ≡ true
+second_too One is = refl
+second_too Two is = is
+
+-- and the format
+pub upgraded_of_format : (format : Format) (version : ℕ) → is_version_of format version ≡ true → is_version_of format (upgraded_version version) ≡ true
+upgraded_of_format format version is = elim (version_upgraded version) [
+  | inl first ↦ ap (is_version_of format) first.1 ∙ second_too format (subst (λ (v : ℕ). is_version_of format v ≡ true) first.0 is)
+  | inr same ↦ ap (is_version_of format) same ∙ is
+]
+
+pub flags_upgraded : (version : ℕ) (dirty : List Bool) → AreFlags version dirty → AreFlags (upgraded_version version) dirty
+flags_upgraded version dirty flags = elim (version_upgraded version) [
+  | inl first ↦ subst (λ (v : ℕ). AreFlags v dirty) (sym first.1) (record {
+    all_extents = flags.all_extents;
+    all_dirty = λ none. flags.all_dirty (ap tells_dirty first.0);
+  })
+  | inr same ↦ subst (λ (v : ℕ). AreFlags v dirty) (sym same) flags
+]

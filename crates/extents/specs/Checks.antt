@@ -1,9 +1,12 @@
 -- What the checks of a table find out.
-use Rattle.std.specs.Prelude.{◌≡◌, ℕ, ◌<◌, ◌≤◌, List, Option, Some, None}
+use Rattle.std.specs.Prelude.{◌≡◌, ℕ, ◌<◌, ◌≤◌, Bool, true, false, List, Option, Some, None}
 use Rattle.extents.specs.declared.owned.Owned.{Owned}
 use Rattle.extents.specs.declared.record.Record.{Record}
 use Rattle.extents.specs.Owners.{owner_of, IsAt}
 use Rattle.extents.specs.VolumeTables.{record_of, extents_of}
+use Rattle.extents.specs.ExtentMaps.{is_dirty}
+use Rattle.extents.specs.Versions.{tells_dirty}
+use Rattle.layout_map.specs.declared.sizes.TheConstants.{MOST_EXTENTS}
 use Rattle.extents.specs.declared.volume_table.TheConstants.{MOST_VOLUMES}
 
 -- the record of this number is used and has this name
@@ -40,3 +43,11 @@ AllPlacesOccur each records extents = (volume : ℕ) → volume < MOST_VOLUMES �
 -- each extent from this one on is free
 abbrev pub AreFreeFrom : List (Option Owned) → ℕ → Type 0
 AreFreeFrom extents first = (extent : ℕ) → first ≤ extent → owner_of extents extent ≡ None
+
+-- each extent from this one on is clean
+abbrev pub AreCleanFrom : List Bool → ℕ → Type 0
+AreCleanFrom dirty first = (extent : ℕ) → first ≤ extent → extent < MOST_EXTENTS → is_dirty dirty extent ≡ false
+
+-- where the version tells them
+abbrev pub AreCleanBeyond : (version : ℕ) → List Bool → ℕ → Type 0
+AreCleanBeyond version dirty first = tells_dirty version ≡ true → AreCleanFrom dirty first

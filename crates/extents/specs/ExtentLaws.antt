@@ -1,9 +1,9 @@
 -- What holds of every map of extents, and what the taking and the giving back of extents do to it.
-use Rattle.std.specs.Prelude.{◌≡◌, ◌≢◌, ◌↔◌, ℕ, zero, suc, ◌+◌, ◌*◌, ◌<◌, ◌≤◌, List, Option, None, length}
+use Rattle.std.specs.Prelude.{◌≡◌, ◌≢◌, ◌↔◌, ℕ, zero, suc, ◌+◌, ◌*◌, ◌<◌, ◌≤◌, Bool, true, List, Option, None, length}
 use Rattle.extents.specs.declared.extent_layout.ExtentLayout.{ExtentLayout}
 use Rattle.extents.specs.declared.owned.Owned.{Owned}
 use Rattle.extents.specs.Owners.{owner_of, IsAt, HasPlaces}
-use Rattle.extents.specs.ExtentMaps.{IsExtentMap, free_of, count_of, IsTaken, IsGivenBack, HasPlace, IsWhere, place_of}
+use Rattle.extents.specs.ExtentMaps.{IsExtentMap, free_of, count_of, comes_before, IsTaken, IsGivenBack, HasPlace, IsWhere, place_of}
 use Rattle.extents.specs.declared.volume_table.TheConstants.{MOST_VOLUMES}
 
 -- how many extents the volumes below this one have
@@ -20,7 +20,7 @@ abbrev pub EachExtentIsCounted : Type 0
 EachExtentIsCounted = (owners : List (Option Owned)) → IsExtentMap owners → IsCounted owners
 
 -- what extents that are taken do to a map
-pub record TakingKeeps (old new : List (Option Owned)) (volume n : ℕ) : Type 0 where
+pub record TakingKeeps (dirty : List Bool) (old new : List (Option Owned)) (volume n : ℕ) : Type 0 where
   -- it is a map again
   pub map : IsExtentMap new
   -- the volume has n more places
@@ -29,18 +29,19 @@ pub record TakingKeeps (old new : List (Option Owned)) (volume n : ℕ) : Type 0
   pub others : (extent other place : ℕ) → other ≢ volume → IsAt new extent other place ↔ IsAt old extent other place
   -- n extents fewer are free
   pub free : free_of new + n ≡ free_of old
-  -- a free extent that was taken lies below each one that is left
+  -- a free extent that was taken comes before each one that is left: it is clean and that one dirty, or they are of a kind and it lies below
   pub lowest : (extent place other : ℕ) → owner_of old extent ≡ None → IsAt new extent volume place → other < length new → owner_of new other ≡ None
-      → extent < other
-  -- of two that were taken the lower one has the lower place
-  pub rising : (lower upper place place' : ℕ) → lower < upper → owner_of old lower ≡ None → owner_of old upper ≡ None → IsAt new lower volume place
-      → IsAt new upper volume place' → place < place'
+      → comes_before dirty extent other ≡ true
+  -- of two that were taken the one that comes before the other has the lower place
+  pub rising : (extent other place place' : ℕ) → comes_before dirty extent other ≡ true → owner_of old extent ≡ None → owner_of old other ≡ None
+      → IsAt new extent volume place → IsAt new other volume place' → place < place'
   -- no other owners come of it
-  pub only : (other : List (Option Owned)) → IsTaken old other volume n → other ≡ new
+  pub only : (other : List (Option Owned)) → IsTaken dirty old other volume n → other ≡ new
 
 abbrev pub TakingKeepsMaps : Type 0
-TakingKeepsMaps = (old new : List (Option Owned)) (volume n : ℕ) → IsExtentMap old → volume < MOST_VOLUMES → n ≤ free_of old → IsTaken old new volume n
-    → TakingKeeps old new volume n
+TakingKeepsMaps = (dirty : List Bool) (old new : List (Option Owned)) (volume n : ℕ) → IsExtentMap old → volume < MOST_VOLUMES → n ≤ free_of old
+    → IsTaken dirty old new volume n
+    → TakingKeeps dirty old new volume n
 
 -- what extents that are given back do to a map
 pub record GivingBackKeeps (old new : List (Option Owned)) (volume : ℕ) : Type 0 where

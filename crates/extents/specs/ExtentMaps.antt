@@ -1,5 +1,6 @@
 -- Which volume has which extents, and how they are taken and given back.
-use Rattle.std.specs.Prelude.{◌≡◌, ◌≢◌, ◌==◌, ℕ, ◌+◌, ◌*◌, ◌/◌, ◌%◌, ◌<◌, ◌≤◌, Bool, false, List, Option, Some, None, is_none, length, take, count_by}
+use Rattle.std.specs.Prelude.{◌≡◌, ◌≢◌, ◌==◌, ◌&&◌, ◌||◌, not, nat_lt, if◌then◌else◌, ℕ, zero, suc, ◌+◌, ◌*◌, ◌/◌, ◌%◌, ◌<◌, ◌≤◌, Bool, true, false, List}
+use Rattle.std.specs.Prelude.{Option, Some, None, is_none, length, count_by, slice_index_or}
 use Rattle.extents.specs.declared.extent_layout.ExtentLayout.{ExtentLayout}
 use Rattle.extents.specs.declared.owned.Owned.{Owned}
 use Rattle.extents.specs.Owners.{owner_of, IsAt, HasPlaces}
@@ -16,9 +17,22 @@ pub record IsExtentMap (owners : List (Option Owned)) : Type 0 where
 abbrev pub free_of : List (Option Owned) → ℕ
 free_of owners = count_by is_none owners
 
--- how many of the extents below this one are free
-abbrev pub free_below : List (Option Owned) → ℕ → ℕ
-free_below owners extent = free_of (take extent owners)
+-- An extent is dirty where its flag says so, and where it has none: sectors of it that no volume uses may be other than zeros. Those of a clean one are zeros.
+abbrev pub is_dirty : List Bool → (extent : ℕ) → Bool
+is_dirty dirty extent = slice_index_or dirty extent true
+
+-- one extent is taken before another: a clean one before each dirty one, and of two of a kind the lower one first
+abbrev pub comes_before : List Bool → (extent other : ℕ) → Bool
+comes_before dirty extent other = if is_dirty dirty extent then is_dirty dirty other && nat_lt extent other else is_dirty dirty other || nat_lt extent other
+
+-- how many of the extents below this one are free and of those that count
+unfoldable pub free_below : (counts : ℕ → Bool) → List (Option Owned) → (extent : ℕ) → ℕ
+free_below counts owners zero = 0
+free_below counts owners (suc extent) = free_below counts owners extent + (if is_none (owner_of owners extent) && counts extent then 1 else 0)
+
+-- how many of the free extents are taken before this one
+abbrev pub free_before : List Bool → List (Option Owned) → (extent : ℕ) → ℕ
+free_before dirty owners extent = free_below (λ other. comes_before dirty other extent) owners (length owners)
 
 -- an extent with this owner is the volume's
 abbrev pub is_of : ℕ → Option Owned → Bool
@@ -29,21 +43,35 @@ is_of volume (Some owned) = owned.volume == volume
 abbrev pub count_of : List (Option Owned) → ℕ → ℕ
 count_of owners volume = count_by (is_of volume) owners
 
--- The n lowest free extents go to a volume, in rising order, at the places from `first` on.
-pub record AreAppended (old new : List (Option Owned)) (volume first n : ℕ) : Type 0 where
+-- The n free extents that are taken first go to a volume, in the order in which they are taken, at the places after its last.
+pub record IsTaken (dirty : List Bool) (old new : List (Option Owned)) (volume n : ℕ) : Type 0 where
   -- no extent is more or less
   pub extents : length new ≡ length old
   -- an extent that has an owner keeps it
   pub kept : (extent other place : ℕ) → IsAt old extent other place → IsAt new extent other place
-  -- a free extent goes to the volume where fewer than n free ones lie below it, and as many places are between `first` and its place
-  pub taken : (extent : ℕ) → extent < length old → owner_of old extent ≡ None → free_below old extent < n
-      → IsAt new extent volume (first + free_below old extent)
+  -- a free extent goes to the volume where fewer than n free ones are taken before it, and as many places are between the volume's last and its place
+  pub taken : (extent : ℕ) → extent < length old → owner_of old extent ≡ None → free_before dirty old extent < n
+      → IsAt new extent volume (count_of old volume + free_before dirty old extent)
   -- the other free extents stay free
-  pub left : (extent : ℕ) → owner_of old extent ≡ None → n ≤ free_below old extent → owner_of new extent ≡ None
+  pub left : (extent : ℕ) → owner_of old extent ≡ None → n ≤ free_before dirty old extent → owner_of new extent ≡ None
 
--- the n lowest free extents go to a volume, in rising order, at the places after its last
-abbrev pub IsTaken : (old new : List (Option Owned)) (volume n : ℕ) → Type 0
-IsTaken old new volume n = AreAppended old new volume (count_of old volume) n
+-- an extent is one of those that are wanted: all, or the clean ones
+abbrev pub is_wanted : (all : Bool) → List Bool → (extent : ℕ) → Bool
+is_wanted all dirty extent = all || not (is_dirty dirty extent)
+
+-- The n lowest of the free extents that are wanted go to a volume, in rising order, at the places from `first` on.
+pub record AreAppended (wanted : ℕ → Bool) (old new : List (Option Owned)) (volume first n : ℕ) : Type 0 where
+  -- no extent is more or less
+  pub extents : length new ≡ length old
+  -- an extent that has an owner keeps it
+  pub kept : (extent other place : ℕ) → IsAt old extent other place → IsAt new extent other place
+  -- one that is wanted goes to the volume where fewer than n such lie below it, and as many places are between `first` and its place
+  pub taken : (extent : ℕ) → extent < length old → owner_of old extent ≡ None → wanted extent ≡ true → free_below wanted old extent < n
+      → IsAt new extent volume (first + free_below wanted old extent)
+  -- one with n such below it stays free
+  pub left : (extent : ℕ) → owner_of old extent ≡ None → n ≤ free_below wanted old extent → owner_of new extent ≡ None
+  -- and so does one that is not wanted
+  pub passed : (extent : ℕ) → owner_of old extent ≡ None → wanted extent ≡ false → owner_of new extent ≡ None
 
 -- the extents of a volume are free again
 pub record IsGivenBack (old new : List (Option Owned)) (volume : ℕ) : Type 0 where

@@ -10,7 +10,7 @@ use Rattle.layout_map.specs.Placement.{extent_blocks, extents_of, first_extent, 
 use Rattle.layout_map.proofs.Places.{chunk_least, data_sectors_most, extent_least, extents_fit, extents_most, stripe_least}
 use Rattle.extents.specs.declared.extent_layout.ExtentLayout.{ExtentLayout}
 use Rattle.extents.specs.declared.volume_table.VolumeTable.{VolumeTable}
-use Rattle.extents.specs.Checks.{AreFreeFrom}
+use Rattle.extents.specs.Checks.{AreCleanBeyond, AreFreeFrom}
 use Rattle.extents.specs.Layouts.{IsExtentLayout}
 use Rattle.extents.specs.Versions.{is_version_of}
 use Rattle.extents.specs.VolumeTables.{HaveTheirPlaces}
@@ -62,8 +62,10 @@ of_64 count most = record {
   limits = record { above = omega arith; some = omega arith; most = most; fits = omega arith };
 }
 
--- A table of a set whose extents lie so: its version is one of the set's format, each record has exactly the extents that its blocks take, and no extent is used that the set doesn't have.
+-- A table of a set whose extents lie so: its version is one of the set's format, each record has exactly the extents that its blocks take, and no extent is used,
+-- or told to be dirty, that the set doesn't have.
 pub record IsOfSet (extents : ExtentLayout) (table : VolumeTable) : Type 0 where
   pub version : is_version_of extents.format table.version ≡ true
   pub free_beyond : AreFreeFrom table.extents extents.count
+  pub clean_beyond : AreCleanBeyond table.version table.dirty extents.count
   pub placed : ∥ HaveTheirPlaces extents.blocks table.records table.extents ∥₁

@@ -5,9 +5,10 @@ ghost use Rattle.extents.specs.VolumeTables.{record_of, extents_of, AreDistinct,
 ghost use Rattle.extents.specs.VolumeTables.{IsVolumeTable};
 ghost use Rattle.extents.specs.Versions.{IsVersion};
 ghost use Rattle.extents.specs.Checks.{IsNamed, IsFirstNamed, IsFirstAt, OwnersFit, PlacesOccur, AllPlacesOccur};
-ghost use Rattle.extents.specs.Checks.{AreFreeFrom};
+ghost use Rattle.extents.specs.Checks.{AreCleanBeyond, AreCleanFrom, AreFreeFrom};
 
 use crate::extent_map::MAX_EXTENTS;
+use crate::version::tells_dirty;
 use crate::volume_table::MOST_VOLUMES;
 use crate::{ExtentLayout, Name, Owned, Record};
 
@@ -139,6 +140,25 @@ pub fn are_free_from(extents: &[Option<Owned>], first: u32) -> bool
 {
     for (extent, owner) in extents.iter().enumerate() {
         if first as usize <= extent && owner.is_some() {
+            return false;
+        }
+    }
+    true
+}
+
+/// Whether each extent from this one on is clean, where a table of this version tells so.
+pub fn are_clean_beyond(version: u8, dirty: &[bool; MAX_EXTENTS], first: u32) -> bool
+    ensures { IsTrue result ↔ AreCleanBeyond version dirty.now first }
+{
+    !tells_dirty(version) || are_clean_from(dirty, first)
+}
+
+// Whether each extent from this one on is clean.
+fn are_clean_from(dirty: &[bool; MAX_EXTENTS], first: u32) -> bool
+    ensures { IsTrue result ↔ AreCleanFrom dirty.now first }
+{
+    for (extent, flag) in dirty.iter().enumerate() {
+        if first as usize <= extent && *flag {
             return false;
         }
     }

@@ -1,7 +1,8 @@
 //! Which volume has which extents, and where the blocks of a volume lie.
-ghost use Rattle.std.specs.Prelude.{◌≡◌, ℕ, ◌+◌, ◌<◌, ◌≤◌, length, slice_index};
+ghost use Rattle.std.specs.Prelude.{◌≡◌, ℕ, ◌+◌, ◌<◌, ◌≤◌, min, length, slice_index};
 ghost use Rattle.extents.specs.Owners.{owner_of, HasPlaces};
-ghost use Rattle.extents.specs.ExtentMaps.{IsExtentMap, free_of, is_of, count_of, AreAppended, IsTaken, IsGivenBack};
+ghost use Rattle.extents.specs.ExtentMaps.{IsExtentMap, free_of, is_of, count_of, IsTaken, IsGivenBack};
+ghost use Rattle.extents.specs.ExtentMaps.{is_wanted, free_below, AreAppended};
 ghost use Rattle.extents.specs.ExtentMaps.{HasPlace, IsWhere, place_of};
 ghost use Rattle.extents.specs.ExtentIndexes.{AreExtentsOf};
 ghost use Rattle.extents.specs.ExtentLaws.{EachExtentIsCounted, TakingKeepsMaps, GivingBackKeepsMaps, BlocksAreWithin};
@@ -103,15 +104,18 @@ impl ExtentMap {
         &index.packed[first..end]
     }
 
-    /// Appends the `n` lowest free extents to a volume, in rising order. The volume is below 64, and `n` extents at
-    /// least are free.
-    pub fn take(&mut self, volume: u8, n: u32)
+    /// Appends `n` free extents to a volume: the lowest clean ones first, and then the lowest dirty ones, each in
+    /// rising order. An extent is dirty where its flag says so, and where it has none. The volume is below 64, and `n`
+    /// extents at least are free.
+    pub fn take(&mut self, dirty: &[bool], volume: u8, n: u32)
         requires volume { volume < MOST_VOLUMES }
         requires free { n ≤ free_of self.old }
-        ensures { IsTaken self.old self.new volume n }
+        ensures { IsTaken dirty.now self.old self.new volume n }
     {
         let first = self.count(volume);
-        append_lowest(self.owners.as_mut_slice(), volume, first, n);
+        let owners = self.owners.as_mut_slice();
+        let clean = append_lowest(owners, dirty, false, volume, first, n);
+        append_lowest(owners, dirty, true, volume, first + clean, n - clean);
         self.index = ExtentIndex::of(&self.owners);
     }
 
@@ -142,14 +146,30 @@ fn is_of(owner: &Option<Owned>, volume: u8) -> bool
     matches!(owner, Some(owned) if owned.volume == volume)
 }
 
-// Gives the n lowest free extents to the volume, in rising order, at the places from `first` on.
-fn append_lowest(owners: &mut [Option<Owned>], volume: u8, first: u32, n: u32)
+// Whether an extent is wanted: each is where all are, and otherwise a clean one.
+fn is_wanted(all: bool, dirty: &[bool], extent: usize) -> bool
+    ensures { result ≡ is_wanted all dirty.now extent }
+{
+    all || !dirty.get(extent).copied().unwrap_or(true)
+}
+
+// Gives the n lowest of the wanted free extents to the volume, in rising order, at the places from `first` on, or all
+// of them where there are fewer. Answers how many they were.
+fn append_lowest(
+    owners: &mut [Option<Owned>],
+    dirty: &[bool],
+    all: bool,
+    volume: u8,
+    first: u32,
+    n: u32,
+) -> u32
     requires { first + n ≤ 65536 }
-    ensures { AreAppended owners.old owners.new volume first n }
+    ensures appended { AreAppended (is_wanted all dirty.now) owners.old owners.new volume first n }
+    ensures given { result ≡ min n (free_below (is_wanted all dirty.now) owners.old (length owners.old)) }
 {
     let mut taken = 0;
-    for owner in owners.iter_mut() {
-        if taken < n && owner.is_none() {
+    for (extent, owner) in owners.iter_mut().enumerate() {
+        if taken < n && owner.is_none() && is_wanted(all, dirty, extent) {
             *owner = Some(Owned {
                 volume,
                 place: (first + taken) as u16,
@@ -157,6 +177,7 @@ fn append_lowest(owners: &mut [Option<Owned>], volume: u8, first: u32, n: u32)
             taken += 1;
         }
     }
+    taken
 }
 
 // Makes the extents of the volume free.
@@ -173,8 +194,9 @@ fn free_all(owners: &mut [Option<Owned>], volume: u8)
 /// The laws of maps of extents. It computes nothing: its promises are what it is for.
 ///
 /// Each extent is free or counted for one volume. Taking and giving back make a map of a map, and leave the other
-/// volumes their extents; each has one outcome. The extents that are taken lie below those that are left. Wherever the
-/// extents of a set lie, no two blocks share a logical sector, and each lies in one of the extents.
+/// volumes their extents; each has one outcome. The extents that are taken come before those that are left: clean ones
+/// before dirty ones, and of a kind the lower ones first. Wherever the extents of a set lie, no two blocks share a
+/// logical sector, and each lies in one of the extents.
 pub fn extent_map_law()
     ensures counted { EachExtentIsCounted }
     ensures taking { TakingKeepsMaps }

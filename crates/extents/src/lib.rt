@@ -23,8 +23,8 @@ pub use name::{MOST_NAME_BYTES, Name};
 pub use owned::Owned;
 pub use record::{MOST_BLOCKS, Record};
 pub use version::{
-    FIRST_VERSION, LAST_VERSION, most_blocks, most_name_bytes, most_volumes, table_length,
-    version_of,
+    FIRST_VERSION, LARGE_VERSION, LAST_VERSION, most_name_bytes, most_volumes, table_length,
+    upgraded_version, version_of,
 };
 pub use volume_table::{Found, MOST_VOLUMES, TABLE_SECTORS, VolumeTable};
 

@@ -6,7 +6,7 @@ ghost use Rattle.extents.specs.TableSpelling.{zeros, used_bytes, record_bytes};
 ghost use Rattle.extents.specs.Versions.{most_name_bytes, record_width, records_a_sector};
 ghost use Rattle.extents.specs.VolumeTables.{IsShort};
 
-use crate::version::{blocks_at, most_blocks, most_name_bytes, record_width};
+use crate::version::{blocks_at, most_name_bytes, record_width};
 use crate::{Name, Record};
 use byteorder::{ByteOrder, LittleEndian};
 use sector_model::Sector;
@@ -53,8 +53,7 @@ fn read_used(version: u8, from: &[u8]) -> Option<Record>
     let name = Name::new(&from[1..1 + length])?;
     let at = blocks_at(version);
     let blocks = LittleEndian::read_u32(&from[at..at + 4]);
-    let most = most_blocks(version);
-    if blocks < 1 || blocks > most {
+    if blocks < 1 {
         return None;
     }
     Some(Record { name, blocks })

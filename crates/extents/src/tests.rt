@@ -6,6 +6,7 @@ use sector_model::{Refusal, Sector};
 use std::process::Abort;
 
 mod full;
+mod marked;
 mod refused;
 
 // In version 1, the name `a`, with 64 blocks and with 65.
@@ -148,15 +149,45 @@ fn numbers_of_versions(rt: HostRuntime) {
     same(&rt, (first, second), ((32, 24, 11), (64, 63, 25)));
 }
 
-#[test]
-fn blocks_of_versions(rt: HostRuntime) {
-    same(&rt, (most_blocks(1), most_blocks(2)), (65_536, 65_536));
-}
-
 // Checks where the extents of a set lie: with which sector they begin, the blocks of each, and how many there are.
 fn check_layout(rt: &impl Abort, set: Result<Geometry, Refusal>, layout: (u64, u64, u32)) {
     let extents = ExtentLayout::of(&set.expect(rt, "the set's numbers are within their limits"));
     same(rt, (extents.first, extents.blocks, extents.count), layout);
+}
+
+// Checks the most blocks of a volume in a set.
+fn check_most(rt: &impl Abort, set: Result<Geometry, Refusal>, most: u32) {
+    let extents = ExtentLayout::of(&set.expect(rt, "the set's numbers are within their limits"));
+    same(rt, extents.most_blocks(), most);
+}
+
+#[test]
+fn blocks_of_volumes(rt: HostRuntime) {
+    check_most(&rt, Geometry::new(3, 8, 32), 65_536);
+    check_most(&rt, Geometry::new(8, 128, 65_536), 65_536);
+    // Sets of format 2: members, sectors of a chunk, stripes, and the most blocks.
+    const SETS: &[(u8, u16, u32, u32)] = &[
+        (3, 8, 32, 16_384),
+        (3, 8, 5, 16_384),
+        (8, 8, 3, 57_344),
+        (3, 32, 2, 65_536),
+        (4, 8, 4, 24_576),
+        (4, 8, 200, 24_576),
+        (3, 8, 1_028, 16_384),
+        (3, 8, 1_029, 32_768),
+        (3, 8, 2_053, 32_768),
+        (3, 8, 2_054, 65_536),
+        (5, 128, 2_049, 1_048_576),
+        (4, 128, 15_261_915, 4_294_967_295),
+        (3, 128, 16_777_217, 4_294_967_295),
+        (3, 8, 536_870_910, 4_294_967_295),
+        (8, 8, 536_870_910, 4_294_967_295),
+        (8, 16, 268_435_455, 4_294_967_295),
+        (8, 1_024, 4_194_303, 4_294_967_295),
+    ];
+    for (members, chunk, stripes, most) in SETS {
+        check_most(&rt, Geometry::large(*members, *chunk, *stripes), *most);
+    }
 }
 
 #[test]

@@ -1,53 +1,55 @@
 //! What the version of a table of volumes decides: docs/FORMATS.md, "Volume table".
 ghost use Rattle.std.specs.Prelude.{◌≡◌, ◌↔◌, ◌≤◌, ℕ, IfSome, IsTrue, Some, drop};
-ghost use Rattle.extents.specs.Versions.{is_version_of, IsVersion, most_volumes, most_name_bytes, most_blocks};
+ghost use Rattle.extents.specs.Versions.{IsBegunBy, IsVersion, IsVersionIn, most_volumes, most_name_bytes, upgraded_version};
+ghost use Rattle.extents.specs.Versions.{tells_dirty, version_byte};
 ghost use Rattle.extents.specs.Versions.{record_width, records_a_sector, record_sectors, blocks_at, table_length};
 ghost use Rattle.extents.specs.TableSpelling.{zeros, first_sector};
 
 use layout_map::Format;
 use sector_model::Sector;
 
-/// The version of the table of a set that was just made.
+/// The version of the table of a set of format 1 that was just made.
 pub const FIRST_VERSION: u8 = 1;
 
-/// The greatest version.
+/// The greatest version of the table of a set of format 1.
 pub const LAST_VERSION: u8 = 2;
 
-/// Whether a table of a set of this format may have this version: in format 1 each, and in format 2 none, since that
-/// has tables of another version, which none of these is.
-pub(crate) fn is_version_of(format: Format, version: u8) -> bool
-    ensures { result ≡ is_version_of format version }
+/// The version of the table of each set of format 2.
+pub const LARGE_VERSION: u8 = 3;
+
+/// The version of a table after an upgrade: 2 for 1, and the same one for each other.
+pub fn upgraded_version(version: u8) -> u8
+    ensures { result ≡ upgraded_version version }
 {
-    let _ = version;
-    match format {
-        Format::One => true,
-        Format::Two => false,
+    if version == FIRST_VERSION {
+        LAST_VERSION
+    } else {
+        version
     }
 }
 
-/// The most volumes in a table of this version: 32 in version 1, and 64 in version 2.
+/// Whether a table of this version tells which extents are dirty, as version 3 does. In the others all are.
+pub(crate) fn tells_dirty(version: u8) -> bool
+    ensures { result ≡ tells_dirty version }
+{
+    version == LARGE_VERSION
+}
+
+/// The most volumes in a table of this version: 32 in version 1, and 64 in versions 2 and 3.
 pub fn most_volumes(version: u8) -> usize
     ensures { result ≡ most_volumes version }
 {
     if version == FIRST_VERSION { 32 } else { 64 }
 }
 
-/// The most bytes of a name in a table of this version: 24 in version 1, and 63 in version 2.
+/// The most bytes of a name in a table of this version: 24 in version 1, and 63 in versions 2 and 3.
 pub fn most_name_bytes(version: u8) -> usize
     ensures { result ≡ most_name_bytes version }
 {
     if version == FIRST_VERSION { 24 } else { 63 }
 }
 
-/// The most blocks of a volume in a table of this version, 65,536 in each.
-pub fn most_blocks(version: u8) -> u32
-    ensures { result ≡ most_blocks version }
-{
-    let _ = version;
-    crate::MOST_BLOCKS
-}
-
-/// The sectors that a table of this version fills: 11 in version 1, and 25 in version 2.
+/// The sectors that a table of this version fills: 11 in version 1, and 25 in versions 2 and 3.
 pub fn table_length(version: u8) -> usize
     ensures { result ≡ table_length version }
 {
@@ -61,16 +63,42 @@ fn is_zero_beyond(first: &Sector) -> bool
     &first[1..] == [0; 511].as_slice()
 }
 
-/// The version of the table that begins with this sector. `None` where a table of no version does.
-pub fn version_of(first: &Sector) -> Option<u8>
-    ensures some { IfSome result (λ version. IsVersion version × (first.now ≡ first_sector version)) }
-    ensures exact { (version : ℕ) → IsVersion version → first.now ≡ first_sector version → result ≡ Some version }
+// The version of a set of this format whose tables begin with this byte. None where there is none.
+fn version_from(format: Format, byte: u8) -> Option<u8>
+    ensures some { IfSome result (IsBegunBy format byte) }
+    ensures exact { (version : ℕ) → IsBegunBy format byte version → result ≡ Some version }
 {
-    let byte = first[0];
-    if byte >= LAST_VERSION || !is_zero_beyond(first) {
+    match format {
+        Format::One => {
+            if byte < LAST_VERSION {
+                Some(byte + 1)
+            } else {
+                None
+            }
+        }
+        Format::Two => { if byte == 0 { Some(LARGE_VERSION) } else { None } }
+    }
+}
+
+/// The version of the table that begins with this sector, in a set of this format. `None` where a table of no version
+/// of the format does.
+pub fn version_of(format: Format, first: &Sector) -> Option<u8>
+    ensures some { IfSome result (λ version. IsVersionIn format version × (first.now ≡ first_sector version)) }
+    ensures exact { (version : ℕ) → IsVersionIn format version → first.now ≡ first_sector version
+        → result ≡ Some version }
+{
+    if !is_zero_beyond(first) {
         return None;
     }
-    Some(byte + 1)
+    version_from(format, first[0])
+}
+
+/// The first byte of a table of this version.
+pub(crate) fn version_byte(version: u8) -> u8
+    requires { IsVersion version }
+    ensures { result ≡ version_byte version }
+{
+    if tells_dirty(version) { 0 } else { version - 1 }
 }
 
 /// The bytes of a record.

@@ -1,9 +1,10 @@
 //! The table of volumes.
 ghost use Rattle.std.specs.Prelude.{◌≡◌, ◌≤◌, ◌<◌, length, slice_set, MatchOption};
-ghost use Rattle.extents.specs.VolumeTables.{HasRecord, IsRecordFor, IsVolumeTable, owners_padded};
+ghost use Rattle.extents.specs.VolumeTables.{AreFlags, HasRecord, IsMarked, IsRecordFor, IsVolumeTable, owners_padded};
+ghost use Rattle.extents.specs.Versions.{upgraded_version};
 
 use crate::extent_map::MAX_EXTENTS;
-use crate::version::LAST_VERSION;
+use crate::version::upgraded_version;
 use crate::{ExtentMap, Owned, Record};
 use layout_map::MOST_EXTENTS;
 
@@ -18,13 +19,17 @@ pub const MOST_VOLUMES: usize = 64;
 /// gap or repeat. In a set's table a volume has as many of the set's extents as its blocks take.
 #[derive(Drop)]
 pub struct VolumeTable {
-    /// The version, 1 or 2.
+    /// The version, 1 or 2, or 3 in a set of format 2.
     pub version: u8,
     /// The volumes; None for a record that is not used, as each is from the most volumes of the version on.
     pub records: [Option<Record>; MOST_VOLUMES],
     /// Who has the extent of each number; None for a free one.
     pub extents: [Option<Owned>; MAX_EXTENTS],
+    /// Whether the extent of each number is dirty: whether it may hold something else than zeros where no volume has a
+    /// block. Each is in versions 1 and 2.
+    pub dirty: [bool; MAX_EXTENTS],
     ghost is_table: { ∥ IsVolumeTable version records extents ∥₁ },
+    ghost flags: { AreFlags version dirty },
 }
 
 /// A record in use.
@@ -55,18 +60,30 @@ impl VolumeTable {
         ensures version { self.new.version ≡ self.old.version }
         ensures records { self.new.records ≡ slice_set self.old.records volume entry }
         ensures extents { self.new.extents ≡ owners_padded map.now }
+        ensures dirty { self.new.dirty ≡ self.old.dirty }
     {
         self.records[volume as usize] = entry;
         copy_owners(map, &mut self.extents);
     }
 
-    /// Makes the table one of the greatest version. Records and extents keep their numbers.
-    pub fn upgrade(&mut self)
-        ensures version { self.new.version ≡ LAST_VERSION }
+    /// Makes the extents that a volume has dirty.
+    pub fn mark_dirty(&mut self, volume: u8)
+        ensures version { self.new.version ≡ self.old.version }
         ensures records { self.new.records ≡ self.old.records }
         ensures extents { self.new.extents ≡ self.old.extents }
+        ensures dirty { IsMarked self.old.extents volume self.old.dirty self.new.dirty }
     {
-        self.version = LAST_VERSION;
+        mark_extents(&self.extents, volume, &mut self.dirty);
+    }
+
+    /// Makes a table of version 1 one of version 2, and leaves any other. Records and extents keep their numbers.
+    pub fn upgrade(&mut self)
+        ensures version { self.new.version ≡ upgraded_version self.old.version }
+        ensures records { self.new.records ≡ self.old.records }
+        ensures extents { self.new.extents ≡ self.old.extents }
+        ensures dirty { self.new.dirty ≡ self.old.dirty }
+    {
+        self.version = upgraded_version(self.version);
     }
 }
 
@@ -94,5 +111,18 @@ fn copy_owners(map: &ExtentMap, to: &mut [Option<Owned>])
 {
     for (extent, owner) in to.iter_mut().enumerate() {
         *owner = map.entry(extent as u32);
+    }
+}
+
+// Makes the extents of the volume among these dirty.
+fn mark_extents(extents: &[Option<Owned>], volume: u8, dirty: &mut [bool])
+    ensures { IsMarked extents.now volume dirty.old dirty.new }
+{
+    for (extent, flag) in dirty.iter_mut().enumerate() {
+        if let Some(Some(owned)) = extents.get(extent) {
+            if owned.volume == volume {
+                *flag = true;
+            }
+        }
     }
 }

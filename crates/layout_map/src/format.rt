@@ -12,7 +12,7 @@ use crate::sizes::{
 pub enum Format {
     /// Format 1, of up to 8,388,608 rows.
     One,
-    /// Format 2, of up to 4,294,967,280 rows. No command makes a set of it yet, and none is served.
+    /// Format 2, of up to 4,294,967,280 rows: a large set.
     Two,
 }
 

@@ -24,10 +24,10 @@ use Rattle.device_files.specs.declared.FolderFault.TheVariants.{Refused}
 use Rattle.set_commands.specs.Run.{StoppedByStore, Streams}
 use Rattle.set_commands.specs.Serving.{IsEnd, IsNotOpened, LosesOn, ServesOn}
 use Rattle.command_line.specs.declared.Invocation.{Invocation}
-use Rattle.command_line.specs.declared.Invocation.TheVariants.{Examine, Fail, Make, Rebuild, Replace, Run, Scrub, Status, Upgrade}
-use Rattle.command_line.proofs.Asked.{SameInvocation}
+use Rattle.command_line.specs.declared.Invocation.TheVariants.{Change, Examine, Fail, Make, MakeSized, Rebuild, Replace, Run, Scrub, Status, Upgrade}
+use Rattle.command_line.specs.declared.Size.{Size}
 use Rattle.raidtool.specs.Begun.{BeginsOpened, BeginsOver, BeginsSafely, IsNoTableOver}
-use Rattle.raidtool.specs.Causes.{HasCause, IsCaused, IsCausedBy, IsCauseOfMake, IsCauseOver, IsPlainEnd}
+use Rattle.raidtool.specs.Causes.{HasCause, IsCausedBy, IsCauseOfMake, IsCauseOfSized, IsCauseOver, IsPlainEnd}
 use Rattle.raidtool.specs.Done.{HasSizes}
 use Rattle.raidtool.specs.OtherSets.{IsRefusedMake, IsUntoldIn}
 
@@ -66,25 +66,30 @@ pub untold_make : (honest : Type 0) (First Begins : History → Type 0) (id : Li
     → IsUntoldIn honest First id (geometry.members + 2) refusal → IsRefusedMake honest Begins id geometry refusal
 untold_make honest First Begins id geometry refusal so is = (is.0, so is.0.history is.1, is.2, inl (is.3, is.4))
 
--- a set of format 1 has a bank that has its slots
-never_bad : (geometry : Geometry) (panel : Panel) → geometry.format ≡ One → geometry.members + 2 ≤ panel.devices → IsNoMake geometry panel BadGeometry → ⊥
-never_bad geometry panel one enough (inl other) = other one
-never_bad geometry panel one enough (inr few) = omega (arith, enough, few)
+-- a bank has the set's slots
+never_bad : (geometry : Geometry) (panel : Panel) → geometry.members + 2 ≤ panel.devices → IsNoMake geometry panel BadGeometry → ⊥
+never_bad geometry panel enough few = omega (arith, enough, few)
 
 -- no bank of ten devices is too small for a set
-not_too_small : (honest : Type 0) (Begins : History → Type 0) (id : List ℕ) (members chunk stripes : ℕ) (geometry : Geometry)
-    → HasSizes members chunk stripes geometry → IsRefusedMake honest Begins id geometry BadGeometry → ⊥
-not_too_small honest Begins id members chunk stripes geometry sizes (bank, begins, ten, inl (after, refuses)) =
+pub never_too_small : (honest : Type 0) (Begins : History → Type 0) (id : List ℕ) (geometry : Geometry) → geometry.members ≤ 8
+    → IsRefusedMake honest Begins id geometry BadGeometry → ⊥
+never_too_small honest Begins id geometry most (bank, begins, ten, inl (after, refuses)) =
     let never : BadGeometry ≡ Worn = refuses.0 in cc
-not_too_small honest Begins id members chunk stripes geometry sizes (bank, begins, ten, inr (refusal, same, alone)) =
+never_too_small honest Begins id geometry most (bank, begins, ten, inr (refusal, same, alone)) =
     let its : refusal ≡ BadGeometry = cc in
     let cause = alone.refuses.makes.cause alone.refuses.back refusal refl in
     let first : alone.inspected.panel.devices ≡ bank.panel.devices = alone.alone.later.devices in
     let second : alone.refuses.back.panel.devices ≡ alone.inspected.panel.devices = alone.refuses.makes.later.devices in
+    never_bad geometry alone.refuses.back.panel (omega (arith, first, second, ten, most))
+    (subst (IsNoMake geometry alone.refuses.back.panel) its cause)
+
+-- and of these sizes none
+not_too_small : (honest : Type 0) (Begins : History → Type 0) (id : List ℕ) (members chunk stripes : ℕ) (geometry : Geometry)
+    → HasSizes members chunk stripes geometry → IsRefusedMake honest Begins id geometry BadGeometry → ⊥
+not_too_small honest Begins id members chunk stripes geometry sizes refused =
     let most : members ≤ 8 = sizes.within.members_most in
     let its_members : geometry.members ≡ members = sizes.members_is in
-    never_bad geometry alone.refuses.back.panel sizes.format_is (omega (arith, first, second, ten, most, its_members))
-    (subst (IsNoMake geometry alone.refuses.back.panel) its cause)
+    never_too_small honest Begins id geometry (omega (arith, most, its_members)) refused
 
 module _ {F : Type 0} (growing : Ghosts F) (left : F → List ℕ) where
   pub sizes_make : (id : List ℕ) (members chunk stripes : ℕ) (geometry : Geometry) → HasSizes members chunk stripes geometry → (refusal : Refusal)
@@ -104,16 +109,19 @@ module _ {F : Type 0} (growing : Ghosts F) (left : F → List ℕ) where
   pub served_cause : {L : Type 0} (reading : Ghosts L) (left_read : L → List ℕ) (Opens : (path : List ℕ) → Result (Option F) OpenFault → Type 0)
       (Inspects : (path : List ℕ) → Result (Option L) OpenFault → Type 0) (line : Invocation) (refusal : Refusal)
       → ((folder : Bor Text) (id : List ℕ) (members chunk stripes : ℕ) → line ≡ Make folder id members chunk stripes → ⊥)
+      → ((folder : Bor Text) (id : List ℕ) (members chunk : ℕ) (size : Size) (over reserve : Bool) → line ≡ MakeSized folder id members chunk size over reserve → ⊥)
       → ((folder : Bor Text) (id : List ℕ) (slot : ℕ) → line ≡ Replace folder id slot → ⊥)
       → ((folder : Bor Text) (id : Option (List ℕ)) (json check : Bool) → line ≡ Examine folder id json check → ⊥)
       → IsCauseOver growing left Opens line refusal → HasCause growing left reading left_read Opens Inspects line refusal
-  served_cause reading left_read Opens Inspects (Make folder id members chunk stripes) refusal no_make no_replace no_inspection cause =
+  served_cause reading left_read Opens Inspects (Make folder id members chunk stripes) refusal no_make no_sized no_replace no_inspection cause =
       absurd (no_make folder id members chunk stripes refl)
-  served_cause reading left_read Opens Inspects (Replace folder id slot) refusal no_make no_replace no_inspection cause = absurd (no_replace folder id slot
-      refl)
-  served_cause reading left_read Opens Inspects (Examine folder id json check) refusal no_make no_replace no_inspection cause =
+  served_cause reading left_read Opens Inspects (MakeSized folder id members chunk size over reserve) refusal no_make no_sized no_replace no_inspection
+      cause = absurd (no_sized folder id members chunk size over reserve refl)
+  served_cause reading left_read Opens Inspects (Replace folder id slot) refusal no_make no_sized no_replace no_inspection cause =
+      absurd (no_replace folder id slot refl)
+  served_cause reading left_read Opens Inspects (Examine folder id json check) refusal no_make no_sized no_replace no_inspection cause =
       absurd (no_inspection folder id json check refl)
-  served_cause reading left_read Opens Inspects line refusal no_make no_replace no_inspection cause = cause
+  served_cause reading left_read Opens Inspects line refusal no_make no_sized no_replace no_inspection cause = cause
 
   -- a table that could not be sought over these files could not be over some that are safe
   pub no_table_safely : (id : List ℕ) (files : List (Option F)) (refusal : Refusal) → AreAllSafe growing.is_safe files
@@ -161,21 +169,3 @@ told_for result Cause = IfErr-weaker result _ _ (λ refusal cause other. cause (
 pub done_for : (result : Result (Unit {0}) Refusal) (Cause : Refusal → Type 0) → IfErr result (λ refusal. refusal ≢ WriteFault → Cause refusal)
     → IfErr result (λ refusal. ¬ IsPlainEnd refusal → Cause refusal)
 done_for result Cause = IfErr-weaker result _ _ (λ refusal cause other. cause (not_cut refusal other))
-
--- of two lines that the same words ask for, the cause is the same
-module _ {F L : Type 0} (growing : Ghosts F) (left : F → List ℕ) (reading : Ghosts L) (left_read : L → List ℕ)
-    (Opens : (path : List ℕ) → Result (Option F) OpenFault → Type 0) (Inspects : (path : List ℕ) → Result (Option L) OpenFault → Type 0) where
-  pub caused_too : (a b : Invocation) (refusal : Refusal) → SameInvocation a b → IsCaused growing left reading left_read Opens Inspects b refusal
-      → IsCaused growing left reading left_read Opens Inspects a refusal
-  caused_too (Run f i) (Run g j) refusal same cause = rw (same.0, same.1) cause
-  caused_too (Make f i members chunk stripes) (Make g j m c s) refusal same cause =
-      let sizes = same.2 in
-      rw (same.1, sizes.members_same, sizes.chunk_same, sizes.stripes_same) cause
-  caused_too (Status f i json check) (Status g j as_json as_check) refusal same cause = rw (same.0, same.1) cause
-  caused_too (Fail f i slot) (Fail g j k) refusal same cause = rw (same.0, same.1, same.2) cause
-  caused_too (Replace f i slot) (Replace g j k) refusal same cause = rw (same.1, same.2) cause
-  caused_too (Rebuild f i steps) (Rebuild g j t) refusal same cause = rw (same.0, same.1, same.2) cause
-  caused_too (Scrub f i) (Scrub g j) refusal same cause = rw (same.0, same.1) cause
-  caused_too (Upgrade f i) (Upgrade g j) refusal same cause = rw (same.0, same.1) cause
-  caused_too (Examine f i json check) (Examine g j as_json as_check) refusal same cause = rw (same.0, same.1, same.2) cause
-  caused_too a b refusal same cause = absurd same

@@ -4,13 +4,12 @@ use Rattle.std.specs.Prelude.{Err, Ok, Result, is_ok, if◌then◌else◌}
 use Rattle.sector_model.specs.declared.refusal.Refusal.{Refusal}
 use Rattle.sector_model.specs.declared.refusal.Refusal.TheVariants.{BadTable, NoSet, TwoLost, Worn}
 use Rattle.command_line.specs.declared.Invocation.{Invocation}
-use Rattle.command_line.specs.declared.Invocation.TheVariants.{Examine, Fail, Make, Rebuild, Replace, Run, Scrub, Status, Upgrade}
+use Rattle.command_line.specs.declared.Invocation.TheVariants.{Examine, Make, Status}
 use Rattle.device_files.specs.declared.FolderFault.{FolderFault}
 use Rattle.device_files.specs.declared.FolderFault.TheVariants.{Refused}
 use Rattle.set_commands.specs.declared.serving.health.Health.{Health}
 use Rattle.set_commands.specs.declared.serving.health.Health.TheVariants.{Complete, Incomplete, Unassembled}
 use Rattle.raidtool.specs.Tool.{IsChecked, IsMisshapen, IsNone, checked_status, status_by}
-use Rattle.command_line.proofs.Asked.{SameInvocation}
 
 -- how a line ends: as the status without the question says, or with a set that is complete, not complete, not assembled, or refused
 data Ends (line : Invocation) (done : Result (Unit {0}) FolderFault) (status : ℕ) (health : Health) (result : ℕ) : Type 0 where
@@ -126,21 +125,6 @@ pub misshapen_status : (line : Invocation) (done : Result (Unit {0}) FolderFault
     → checked_status line done status health ≡ status
 misshapen_status (Make folder id members chunk stripes) done status health bad = refl
 misshapen_status line done status health bad = absurd bad
-
--- of two lines that the same words ask for
-pub checked_too : (a b : Invocation) → SameInvocation a b → IsChecked b → IsChecked a
-checked_too (Status f i json check) (Status g j as_json true) same asks = rw same.3 tt
-checked_too (Status f i json check) (Status g j as_json false) same asks = absurd asks
-checked_too (Examine f i json check) (Examine g j as_json true) same asks = rw same.3 tt
-checked_too (Examine f i json check) (Examine g j as_json false) same asks = absurd asks
-checked_too (Run f i) (Run g j) same asks = absurd asks
-checked_too (Make f i members chunk stripes) (Make g j m c s) same asks = absurd asks
-checked_too (Fail f i slot) (Fail g j other) same asks = absurd asks
-checked_too (Replace f i slot) (Replace g j other) same asks = absurd asks
-checked_too (Rebuild f i steps) (Rebuild g j others) same asks = absurd asks
-checked_too (Scrub f i) (Scrub g j) same asks = absurd asks
-checked_too (Upgrade f i) (Upgrade g j) same asks = absurd asks
-checked_too a b same asks = absurd same
 
 -- ---- where none could be assembled
 

@@ -1,5 +1,6 @@
 pub mod Causes
 pub mod Checked
+pub mod Chosen
 pub mod DoneLines
 pub mod InspectionsTold
 pub mod MadeAlone
@@ -9,6 +10,7 @@ pub mod Needs
 pub mod OtherSets
 pub mod Renewed
 pub mod Repaired
+pub mod SizedMakes
 pub mod SentReplies
 pub mod SomeReplies
 pub mod Statuses

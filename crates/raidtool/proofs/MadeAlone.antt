@@ -30,7 +30,6 @@ made_by honest honest_mid on id geometry bank made = record {
     first = made.makes.first;
     number = made.makes.number;
     its_slots = made.makes.its_slots;
-    of_format_one = made.makes.of_format_one;
     rests = λ fair. made.makes.rests (on fair);
     cause = made.makes.cause;
   };
@@ -99,7 +98,6 @@ refused_by honest honest_mid on id geometry bank refusal refused = record {
     first = refused.makes.first;
     number = refused.makes.number;
     its_slots = refused.makes.its_slots;
-    of_format_one = refused.makes.of_format_one;
     rests = λ fair. refused.makes.rests (on fair);
     cause = refused.makes.cause;
   };

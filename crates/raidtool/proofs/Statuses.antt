@@ -9,18 +9,17 @@ use Rattle.sector_model.specs.declared.refusal.Refusal.{Refusal}
 use Rattle.sector_model.specs.declared.refusal.Refusal.TheVariants.{NotUsable, TwoLost, Worn, WriteFault}
 use Rattle.recovery.specs.Making.{BankView}
 use Rattle.volume_table.specs.declared.status.Status.{Status as SetStatus}
-use Rattle.command_line.specs.declared.Invocation.{Invocation}
-use Rattle.command_line.specs.declared.Invocation.TheVariants.{Examine, Fail, Make, Rebuild, Replace, Run, Scrub, Status, Upgrade}
+use Rattle.command_line.specs.declared.Asked.{Asked}
+use Rattle.device_files.specs.declared.FolderFault.TheVariants as FolderFault
 use Rattle.command_line.specs.declared.InvocationFault.{InvocationFault}
-use Rattle.command_line.specs.declared.InvocationFault.TheVariants.{BadId, Usage}
+use Rattle.command_line.specs.declared.InvocationFault.TheVariants.{BadId, BadShape, BadSize, Usage}
 use Rattle.command_line.specs.Invocations.{AsksFor, Enters, IsFaultOf}
 use Rattle.set_commands.specs.Fresh.{IsFreshEnd}
 use Rattle.set_commands.specs.Serving.{IsEarly, IsEnd, StatusOn, TellsOn, TellsPartOn}
 use Rattle.report.specs.Replies.{refusal_line}
-use Rattle.raidtool.specs.Tool.{ComesFirst, IsAsked, IsCutOff, IsEndOf, IsMemoryFault, IsMisshapen, IsPartWritten, IsRun, IsStatusCut, IsStatusTold, IsWritten}
-use Rattle.raidtool.specs.Tool.{WasRefused}
+use Rattle.raidtool.specs.Tool.{ComesFirst, IsAsked, IsMemoryFault, IsStatusCut, IsStatusTold, WasRefused}
 use Rattle.set_commands.proofs.FreshLemmas.{end_of_fresh}
-use Rattle.command_line.proofs.Asked.{SameInvocation, no_words, not_refused}
+use Rattle.command_line.proofs.OneAsked.{no_words, not_refused}
 
 -- ---- words
 
@@ -30,7 +29,7 @@ some_words [] is_empty is none = let never : true ≡ false = sym is ∙ none in
 some_words (word ∷ words) is_empty is none = λ empty. cc
 
 -- no words ask for no line
-pub no_line : (words : List Text) (line : Invocation) → words ≡ [] → ¬ AsksFor words line
+pub no_line : (words : List Text) (line : Asked) → words ≡ [] → ¬ AsksFor words line
 no_line words line none asked = no_words asked.0 asked.1 (subst (λ (ws : List Text). Enters ws asked.0 asked.1) none asked.2)
 
 -- no words were given
@@ -41,17 +40,12 @@ none_given (word ∷ words) is_empty is some = search rules
 -- words that were refused, not for memory, ask for nothing
 pub refused_words : (words : List Text) (fault : InvocationFault) → words ≢ [] → IsFaultOf words fault → ¬ IsMemoryFault fault → ¬ IsAsked words
 refused_words words fault some is other (inl none) = some none
-refused_words words BadId some is other (inr (line, asked)) = not_refused words line asked is
+refused_words words BadId some is other (inr (line, asked)) = not_refused words line BadId tt asked is
+refused_words words BadShape some is other (inr (line, asked)) = not_refused words line BadShape tt asked is
+refused_words words BadSize some is other (inr (line, asked)) = not_refused words line BadSize tt asked is
 refused_words words (Usage error) some is other (inr (line, asked)) =
     let kind : HasKind [] error = rw asked.2.taken at is in
     elim kind [ inl memory ↦ other memory | inr none ↦ absurd none ]
-
--- where the id is bad, and memory did not run out, that is the fault
-pub bad_alone : (words : List Text) (fault : InvocationFault) → IsFaultOf words BadId → IsFaultOf words fault → ¬ IsMemoryFault fault → fault ≡ BadId
-bad_alone words BadId bad is other = refl
-bad_alone words (Usage error) bad is other =
-    let kind : HasKind [] error = rw bad.2.taken at is in
-    elim kind [ inl memory ↦ absurd (other memory) | inr none ↦ absurd none ]
 
 -- what was found to be no fault of memory is none
 pub no_memory_fault : (fault same : InvocationFault) (is_memory : Bool) → (IsTrue is_memory ↔ IsMemoryFault fault) → is_memory ≡ false → fault ≡ same
@@ -59,49 +53,6 @@ pub no_memory_fault : (fault same : InvocationFault) (is_memory : Bool) → (IsT
 no_memory_fault fault same is_memory both none is memory =
     let never : true ≡ false = sym (both.1 (subst IsMemoryFault (sym is) memory)) ∙ none in
     absurd cc
-
--- ---- two lines that the same words ask for are the same
-
-pub run_too : (a b : Invocation) → SameInvocation a b → IsRun a → IsRun b
-run_too (Run f i) (Run g j) same is = tt
-run_too (Run f i) b same is = absurd same
-run_too a b same is = absurd is
-
-pub written_too : (a b : Invocation) (old new : Option (List ℕ)) → SameInvocation a b → IsWritten b old new → IsWritten a old new
-written_too (Run f i) b old new same is = tt
-written_too (Make f i members chunk stripes) (Make g j m c s) old new same is =
-    let sizes = same.2 in
-    rw (sizes.members_same, sizes.chunk_same, sizes.stripes_same) is
-written_too (Status f i json check) (Status g j as_json as_check) old new same is = rw (same.1, same.2) is
-written_too (Fail f i slot) (Fail g j other) old new same is = is
-written_too (Replace f i slot) (Replace g j other) old new same is = is
-written_too (Rebuild f i steps) (Rebuild g j others) old new same is = rw same.2 is
-written_too (Scrub f i) (Scrub g j) old new same is = is
-written_too (Upgrade f i) (Upgrade g j) old new same is = is
-written_too (Examine f i json check) (Examine g j as_json as_check) old new same is = rw (same.1, same.2) is
-written_too a b old new same is = absurd same
-
-part_too : (a b : Invocation) (old new : Option (List ℕ)) → SameInvocation a b → IsPartWritten b old new → IsPartWritten a old new
-part_too (Make f i members chunk stripes) (Make g j m c s) old new same is = is
-part_too (Status f i json check) (Status g j as_json as_check) old new same is = rw (same.1, same.2) is
-part_too (Fail f i slot) (Fail g j other) old new same is = is
-part_too (Replace f i slot) (Replace g j other) old new same is = is
-part_too (Rebuild f i steps) (Rebuild g j others) old new same is = rw same.2 is
-part_too (Scrub f i) (Scrub g j) old new same is = is
-part_too (Upgrade f i) (Upgrade g j) old new same is = is
-part_too (Examine f i json check) (Examine g j as_json as_check) old new same is = rw (same.1, same.2) is
-part_too (Run f i) (Run g j) old new same is = is
-part_too a b old new same is = absurd same
-
-pub cut_too : (a b : Invocation) (out new_out : Option (List ℕ)) (Told : List ℕ → Type 0) → SameInvocation a b → IsCutOff b out new_out Told
-    → IsCutOff a out new_out Told
-cut_too a b out new_out Told same cut = record { part = part_too a b out new_out same cut.part; told = cut.told }
-
-pub misshapen_too : (a b : Invocation) → SameInvocation a b → IsMisshapen a → IsMisshapen b
-misshapen_too (Make f i members chunk stripes) (Make g j m c s) same is = let sizes =
-    same.2 in λ geometry. is (rw (sizes.members_same, sizes.chunk_same, sizes.stripes_same) geometry)
-misshapen_too (Make f i members chunk stripes) b same is = absurd same
-misshapen_too a b same is = absurd is
 
 -- ---- what a status says of what was done
 
@@ -136,6 +87,10 @@ is_cut : (refusal : Refusal) → (refusal ≡ WriteFault) ⊎ (refusal ≢ Write
 is_cut WriteFault = inl refl
 is_cut refusal = inr (λ cut. cc)
 
+-- of a writer's fault that stopped a command over files
+pub cut_refused : (P : Type 0) (why : Refusal) → (why ≡ WriteFault → P) → FolderFault.Refused why ≡ FolderFault.Refused WriteFault → P
+cut_refused P why p same = p (cc)
+
 -- ---- a script
 
 -- what comes first is found before the script is read
@@ -157,14 +112,12 @@ pub fresh_first : (refusal : Refusal) → IsFreshEnd refusal → ComesFirst refu
 fresh_first refusal ends first = elim (end_of_fresh refusal ends) [ inl served ↦ inl (first_early refusal served first) | inr unusable ↦ inr unusable ]
 
 -- the same of a script over a set that is made for it
-pub fresh_refused : (Caused : Invocation → Refusal → Type 0) (words : List Text) → words ≡ [] → (Same : Type 0) (Told : List ℕ → Type 0)
-    (done : Result (Unit {0}) Refusal) (status : ℕ)
-    → status ≡ (if is_ok done then 0 else 1) → status ≡ 1
+pub fresh_refused : (Same : Type 0) (Told : List ℕ → Type 0) (done : Result (Unit {0}) Refusal) (status : ℕ) → status ≡ (if is_ok done then 0 else 1)
     → IfErr done IsFreshEnd → IfErr done (λ refusal. Told (refusal_line refusal)) → IfErr done (λ refusal. IsEarly refusal ⊎ (refusal ≡ NotUsable) → Same)
-    → WasRefused (IsEndOf Caused words) Told Same
-fresh_refused Caused words none Same Told (Ok value) status is one ends told alone = absurd (omega (arith, is, one))
-fresh_refused Caused words none Same Told (Err refusal) status is one ends told alone =
-    record { refusal = refusal; ends = inr (inl (none, ends)); told = told; alone = λ first. alone (fresh_first refusal ends first) }
+    → (status ≡ 0) ⊎ ((status ≡ 1) × WasRefused IsFreshEnd Told Same)
+fresh_refused Same Told (Ok value) status is ends told alone = inl is
+fresh_refused Same Told (Err refusal) status is ends told alone =
+    inr (is, record { refusal = refusal; ends = ends; told = told; alone = λ first. alone (fresh_first refusal ends first) })
 
 -- ---- a status that was told
 

@@ -9,15 +9,18 @@ use Rattle.recovery.specs.Making.{BankView}
 use Rattle.volume_table.specs.VolumeStep.{OnSet, OnVolumes}
 use Rattle.volume_table.specs.VolumeStep.{Fail as FailSlot, Replace as ReplaceDevice, Scrub as ScrubSet, Upgrade as UpgradeTable}
 use Rattle.command_line.specs.declared.Invocation.{Invocation}
-use Rattle.command_line.specs.declared.Invocation.TheVariants.{Examine, Fail, Make, Rebuild, Replace, Run, Scrub, Status, Upgrade}
+use Rattle.command_line.specs.declared.Invocation.TheVariants.{Change, Examine, Fail, Make, MakeSized, Rebuild, Replace, Run, Scrub, Status, Upgrade}
+use Rattle.command_line.specs.declared.Size.{Size}
 use Rattle.device_files.specs.declared.growing.Growing.{Ghosts}
 use Rattle.device_files.specs.declared.FolderFault.{FolderFault}
 use Rattle.device_files.specs.declared.FolderFault.TheVariants.{Refused}
 use Rattle.device_files.specs.declared.slot_files.OpenFault.{OpenFault}
 use Rattle.device_files.specs.DeviceFiles.{IsNoTableIn, slot_path}
 use Rattle.raidtool.specs.Begun.{BeginsInspected, BeginsOpened, BeginsSafely, IsNoTableOver}
-use Rattle.raidtool.specs.Done.{HasSizes}
-use Rattle.raidtool.specs.OtherSets.{IsRefusedMake, StopsMaking}
+use Rattle.raidtool.specs.Done.{HasSizes, command_for}
+use Rattle.raidtool.specs.FolderFiles.{HoldsOfTaken}
+use Rattle.raidtool.specs.Sized.{IsShapeless, IsSizedFor, IsTooShort}
+use Rattle.raidtool.specs.OtherSets.{IsRefusedMake}
 use Rattle.set_commands.specs.Examining.{RefusesInspecting}
 use Rattle.set_commands.specs.Run.{StoppedByStore, Streams}
 use Rattle.set_commands.specs.Serving.{IsNotOpened, RefusesOn, ServesOn, StopsRebuildingOn}
@@ -33,6 +36,8 @@ folder_text (Rebuild folder id steps) = folder.now
 folder_text (Scrub folder id) = folder.now
 folder_text (Upgrade folder id) = folder.now
 folder_text (Examine folder id json check) = folder.now
+folder_text (MakeSized folder id members chunk size over reserve) = folder.now
+folder_text (Change folder id change) = folder.now
 
 -- the id of the set of a line; of one that may look at each set, none
 abbrev pub id_text : Invocation → List ℕ
@@ -45,6 +50,8 @@ id_text (Rebuild folder id steps) = id
 id_text (Scrub folder id) = id
 id_text (Upgrade folder id) = id
 id_text (Examine folder id json check) = []
+id_text (MakeSized folder id members chunk size over reserve) = id
+id_text (Change folder id change) = id
 
 -- memory ran out, or a reader or a writer failed: that is cause enough
 abbrev pub IsPlainEnd : Refusal → Type 0
@@ -65,8 +72,8 @@ RefusesReplace honest id slot bank refusal = IsNotOpened honest id bank refusal 
 abbrev pub IsCauseOn : Invocation → (honest : Type 0) (bank : BankView) → Refusal → Type 0
 IsCauseOn (Run folder id) honest bank refusal = IsNotOpened honest id bank refusal
     ⊎ ((was : Streams) × (is : Streams) × ServesOn honest id bank (λ first last. StoppedByStore honest refusal first last was is))
-IsCauseOn (Make folder id members chunk stripes) honest bank refusal =
-    (geometry : Geometry) × HasSizes members chunk stripes geometry × StopsMaking honest id geometry bank (Refused refusal)
+IsCauseOn (Make folder id members chunk stripes) honest bank refusal = ⊥
+IsCauseOn (MakeSized folder id members chunk size over reserve) honest bank refusal = ⊥
 IsCauseOn (Status folder id json check) honest bank refusal = IsNotOpened honest id bank refusal
 IsCauseOn (Fail folder id slot) honest bank refusal = IsNotOpened honest id bank refusal ⊎ RefusesOn honest id (OnSet (FailSlot slot)) bank refusal
 IsCauseOn (Replace folder id slot) honest bank refusal = RefusesReplace honest id slot bank refusal
@@ -74,11 +81,23 @@ IsCauseOn (Rebuild folder id steps) honest bank refusal = IsNotOpened honest id 
 IsCauseOn (Scrub folder id) honest bank refusal = IsNotOpened honest id bank refusal ⊎ RefusesOn honest id (OnSet ScrubSet) bank refusal
 IsCauseOn (Upgrade folder id) honest bank refusal = IsNotOpened honest id bank refusal ⊎ RefusesOn honest id (OnVolumes UpgradeTable) bank refusal
 IsCauseOn (Examine folder id json check) honest bank refusal = RefusesInspecting honest id json bank refusal
+IsCauseOn (Change folder id change) honest bank refusal =
+    IsNotOpened honest id bank refusal ⊎ RefusesOn honest id (OnVolumes (command_for change)) bank refusal
 
 -- why no set of these sizes was made over the files of a folder: no set has them; or one that has could not be made on some bank of ten such files
 abbrev pub IsCauseOfMake : {F : Type 0} → (growing : Ghosts F) (left : F → List ℕ) (id : List ℕ) (members chunk stripes : ℕ) → Refusal → Type 0
 IsCauseOfMake growing left id members chunk stripes BadGeometry = ¬ IsGeometry One members chunk stripes
 IsCauseOfMake growing left id members chunk stripes refusal = (geometry : Geometry) × HasSizes members chunk stripes geometry
+    × IsRefusedMake (IsTrue growing.tells) (BeginsSafely growing left) id geometry refusal
+
+-- why no set of this room was made over the files of a folder, as they were opened: no set of these members and chunks has it, or lies on the shortest of
+-- their files; or the one that has could not be made on some bank of ten such files
+abbrev pub IsCauseOfSized : {F : Type 0} → (growing : Ghosts F) (left : F → List ℕ) (Opens : (slot : ℕ) → Result (Option F) OpenFault → Type 0)
+    (id : List ℕ) (members chunk : ℕ) (size : Size) → Refusal → Type 0
+IsCauseOfSized growing left Opens id members chunk size BadGeometry =
+    IsShapeless members chunk size ⊎ HoldsOfTaken growing Opens (IsTooShort growing.tells growing.told members chunk size)
+IsCauseOfSized growing left Opens id members chunk size refusal = (geometry : Geometry)
+    × HoldsOfTaken growing Opens (λ files. IsSizedFor growing.tells growing.told members chunk size files geometry)
     × IsRefusedMake (IsTrue growing.tells) (BeginsSafely growing left) id geometry refusal
 
 -- a slot was not given a device on some bank of such files
@@ -113,6 +132,8 @@ abbrev pub HasCause : {F L : Type 0} → (growing : Ghosts F) (left : F → List
     → Invocation → Refusal → Type 0
 HasCause growing left reading left_read Opens Inspects (Make folder id members chunk stripes) refusal =
     IsCauseOfMake growing left id members chunk stripes refusal
+HasCause growing left reading left_read Opens Inspects (MakeSized folder id members chunk size over reserve) refusal =
+    IsCauseOfSized growing left (λ slot. Opens (slot_path folder.now slot)) id members chunk size refusal
 HasCause growing left reading left_read Opens Inspects (Replace folder id slot) refusal = IsCauseOfReplace growing left id slot refusal
 HasCause growing left reading left_read Opens Inspects (Examine folder id json check) refusal =
     IsCauseOfExamine reading left_read Inspects folder.now id json refusal

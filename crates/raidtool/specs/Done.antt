@@ -9,16 +9,18 @@ use Rattle.layout_map.specs.declared.geometry.Geometry.{Geometry}
 use Rattle.layout_map.specs.Placement.{IsGeometry}
 use Rattle.array_io.specs.Believed.Views.{ArrayView}
 use Rattle.recovery.specs.Making.{BankView, Makes, Opened, Returned}
-use Rattle.volume_table.specs.VolumeStep.{Done}
-use Rattle.report.specs.Replies.{made_line, reply_text}
+use Rattle.volume_table.specs.VolumeStep.{Command, Create, Done, Extend, Names, OnVolumes, Remove, Rename}
+use Rattle.report.specs.Replies.{reply_text}
 use Rattle.command_line.specs.declared.Invocation.{Invocation}
-use Rattle.command_line.specs.declared.Invocation.TheVariants.{Examine, Fail, Make, Rebuild, Replace, Run, Scrub, Status, Upgrade}
+use Rattle.command_line.specs.declared.Invocation.TheVariants.{Change, Examine, Fail, Make, MakeSized, Rebuild, Replace, Run, Scrub, Status, Upgrade}
+use Rattle.command_line.specs.declared.Change.{Change as VolumeChange}
+use Rattle.command_line.specs.declared.Change.TheVariants as change
 use Rattle.device_files.specs.declared.FolderFault.{FolderFault}
 use Rattle.device_files.specs.declared.FolderFault.TheVariants.{Refused}
 use Rattle.raidtool.specs.Needs.{FindsNeed}
 use Rattle.set_commands.specs.Examining.{ExaminesOn, ExaminesPartOn}
 use Rattle.set_commands.specs.Run.{Streams}
-use Rattle.set_commands.specs.Serving.{FailsOn, RebuildsOn, ReplacesOn, RunsOn, ScrubsOn, TellsOn, UpgradesOn}
+use Rattle.set_commands.specs.Serving.{AppliesOn, FailsOn, RebuildsOn, ReplacesOn, RunsOn, ScrubsOn, TellsOn, UpgradesOn}
 
 -- a set of this id and geometry was made on a bank
 pub record MakesOn (honest : Type 0) (id : List ℕ) (geometry : Geometry) (bank : BankView) : Type 0 where
@@ -38,11 +40,19 @@ pub record HasSizes (members chunk stripes : ℕ) (geometry : Geometry) : Type 0
   pub stripes_is : geometry.stripes ≡ stripes
   pub within : IsGeometry One members chunk stripes
 
+-- the command on volumes that a change of them is
+abbrev pub command_for : VolumeChange → Command
+command_for (change.Create name blocks) = Create name.now blocks
+command_for (change.Extend name blocks) = Extend name.now blocks
+command_for (change.Remove name) = Remove name.now
+command_for (change.Rename name to) = Rename name.now to.now
+command_for change.List = Names
+
 -- what a line asks for was done on a bank, and what it writes was written
 abbrev pub DoesOn : Invocation → (honest : Type 0) (bank : BankView) (was is : Streams) → Type 0
 DoesOn (Run folder id) honest bank was is = RunsOn honest id bank was is
-DoesOn (Make folder id members chunk stripes) honest bank was is =
-    ((geometry : Geometry) × HasSizes members chunk stripes geometry × MakesOn honest id geometry bank) × Appends was.contents is.contents made_line
+DoesOn (Make folder id members chunk stripes) honest bank was is = ⊥
+DoesOn (MakeSized folder id members chunk size over reserve) honest bank was is = ⊥
 DoesOn (Status folder id json check) honest bank was is = TellsOn honest id bank json was.contents is.contents
 DoesOn (Fail folder id slot) honest bank was is = FailsOn honest id slot bank (Ok tt) × Appends was.contents is.contents (reply_text Done)
 DoesOn (Replace folder id slot) honest bank was is = ReplacesOn honest id slot bank (Ok tt) × Appends was.contents is.contents (reply_text Done)
@@ -50,6 +60,8 @@ DoesOn (Rebuild folder id steps) honest bank was is = RebuildsOn honest id steps
 DoesOn (Scrub folder id) honest bank was is = ScrubsOn honest id bank (Appends was.contents is.contents)
 DoesOn (Upgrade folder id) honest bank was is = UpgradesOn honest id bank (Ok tt) × Appends was.contents is.contents (reply_text Done)
 DoesOn (Examine folder id json check) honest bank was is = ExaminesOn honest id json bank was.contents is.contents
+DoesOn (Change folder id change) honest bank was is =
+    AppliesOn honest id (OnVolumes (command_for change)) bank (Appends was.contents is.contents)
 
 -- a beginning of what is told of the set of an id, or of each set, was written, which was inspected on a bank that is honest where this holds, and whose run
 -- began so

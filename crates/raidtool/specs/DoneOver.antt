@@ -1,19 +1,20 @@
 -- What was done over the device files of a folder, where a line ended well: on a bank that is honest where they tell what they hold, and whose run begins with
 -- that.
-use Rattle.std.specs.Prelude.{◌≡◌, ◌≢◌, ◌⊎◌, ◌<◌, ◌+◌, ℕ, Bool, IsTrue, List, Option, Some, None, Result, Ok}
+use Rattle.std.specs.Prelude.{◌≡◌, ◌≢◌, ◌⊎◌, ◌<◌, ◌+◌, ℕ, Bool, true, false, IsTrue, List, Option, Some, None, Result, Ok}
 use Rattle.std.specs.Io.KnownBytes.{Appends}
 use Rattle.layout_map.specs.declared.geometry.Geometry.{Geometry}
 use Rattle.recovery.specs.Making.{BankView}
 use Rattle.volume_table.specs.VolumeStep.{Done}
-use Rattle.report.specs.Replies.{made_line, reply_text}
+use Rattle.report.specs.Replies.{reply_text}
 use Rattle.command_line.specs.declared.Invocation.{Invocation}
-use Rattle.command_line.specs.declared.Invocation.TheVariants.{Examine, Make, Replace, Status}
+use Rattle.command_line.specs.declared.Invocation.TheVariants.{Examine, Make, MakeSized, Replace, Status}
 use Rattle.device_files.specs.declared.growing.Growing.{Ghosts}
 use Rattle.device_files.specs.declared.locked.Before.{Before}
 use Rattle.device_files.specs.declared.slot_files.CreateFault.{CreateFault}
 use Rattle.device_files.specs.declared.slot_files.OpenFault.{OpenFault}
 use Rattle.device_files.specs.DeviceFiles.{file_in, slot_path}
-use Rattle.device_files.specs.SlotCalls.{RenewsSlot}
+use Rattle.device_files.specs.SlotCalls.{ClearsPlaces, RenewsSlot}
+use Rattle.device_files.specs.Superblocks.{FindsSet}
 use Rattle.set_commands.specs.Examining.{ExaminesOn}
 use Rattle.set_commands.specs.Healths.{HealthOn, InspectsHealth}
 use Rattle.set_commands.specs.Run.{Streams}
@@ -24,6 +25,9 @@ use Rattle.raidtool.specs.Causes.{folder_text, id_text}
 use Rattle.raidtool.specs.Done.{DoesOn, HasSizes, IsNeedIn}
 use Rattle.raidtool.specs.FolderFiles.{MakesFiles, WereTaken}
 use Rattle.raidtool.specs.OtherSets.{IsMadeAlone}
+use Rattle.raidtool.specs.Sized.{IsSizedFor, sized_text}
+use Rattle.raidtool.specs.Texts.{made_text}
+use Rattle.command_line.specs.declared.Size.{Size}
 
 -- so well is the set of a line on a bank; of other lines it is what was
 abbrev pub HealthOf : Invocation → (honest : Type 0) (bank : BankView) (was is : Health) → Type 0
@@ -84,6 +88,18 @@ pub record IsMadeIn {F : Type 0} (growing : Ghosts F) (left : F → List ℕ) (C
   pub taken : WereTaken growing (λ slot. Opens (slot_path folder slot)) (λ slot. slot < geometry.members + 2) (λ _ _. ⊥)
   pub over : IsMadeOver growing left Creates folder id geometry taken.files
 
+-- The files of the folder were opened, each that was used is safe, and none was given up for its sync; a set of the room that was asked for, by their lengths
+-- where it was all that there is, was made over them, where none of them had a superblock of any set, or where those after the set's were cleared before.
+pub record IsMadeSizedIn {F : Type 0} (growing : Ghosts F) (left : F → List ℕ) (Creates : (path : List ℕ) → Result (F × Before) CreateFault → Type 0)
+    (folder : List ℕ) (Opens : (path : List ℕ) → Result (Option F) OpenFault → Type 0) (id : List ℕ) (members chunk : ℕ) (size : Size) (over : Bool)
+    (geometry : Geometry) : Type 0 where
+  pub taken : WereTaken growing (λ slot. Opens (slot_path folder slot)) (λ slot. slot < 10) (λ _ _. ⊥)
+  pub sized : IsSizedFor growing.tells growing.told members chunk size taken.files geometry
+  pub files : List (Option F)
+  pub alone : over ≡ false → (files ≡ taken.files) × FindsSet growing.tells growing.told growing.has_failed taken.files None
+  pub cleared : over ≡ true → ClearsPlaces growing.tells growing.told growing.is_safe growing.has_failed (members + 2) taken.files files (Ok tt)
+  pub made : IsMadeOver growing left Creates folder id geometry files
+
 -- The files of the folder were opened, each that was used is safe, that of the slot was not given up for its sync, and the slot was given a device over
 -- them. One of another slot that is there and could not be opened was passed over only where the set, by the table on these files, calls its slot missing.
 pub record IsReplacedIn {F : Type 0} (growing : Ghosts F) (left : F → List ℕ) (Creates : (path : List ℕ) → Result (F × Before) CreateFault → Type 0)
@@ -108,12 +124,15 @@ pub record IsExaminedIn {F : Type 0} (growing : Ghosts F) (left : F → List ℕ
 abbrev pub IsDone : {F L : Type 0} → (growing : Ghosts F) (left : F → List ℕ) (reading : Ghosts L) (left_read : L → List ℕ)
     (Opens : (path : List ℕ) → Result (Option F) OpenFault → Type 0)
     (Creates : (path : List ℕ) → Result (F × Before) CreateFault → Type 0) (Inspects : (path : List ℕ) → Result (Option L) OpenFault → Type 0)
-    (IsSynced : (folder : List ℕ) → Type 0) → Invocation → (was is : Streams) (before after : Health) → Type 0
-IsDone growing left reading left_read Opens Creates Inspects IsSynced (Make folder id members chunk stripes) was is before after =
+    (IsSynced : (folder : List ℕ) → Type 0) → (drawn : Bool) → Invocation → (was is : Streams) (before after : Health) → Type 0
+IsDone growing left reading left_read Opens Creates Inspects IsSynced drawn (Make folder id members chunk stripes) was is before after =
     ((geometry : Geometry) × HasSizes members chunk stripes geometry × IsMadeIn growing left Creates folder.now Opens id geometry)
-    × IsSynced folder.now × Appends was.contents is.contents made_line × (after ≡ before)
-IsDone growing left reading left_read Opens Creates Inspects IsSynced (Replace folder id slot) was is before after =
+    × IsSynced folder.now × Appends was.contents is.contents (made_text drawn id) × (after ≡ before)
+IsDone growing left reading left_read Opens Creates Inspects IsSynced drawn (MakeSized folder id members chunk size over reserve) was is before after =
+    ((geometry : Geometry) × IsMadeSizedIn growing left Creates folder.now Opens id members chunk size over geometry
+    × Appends was.contents is.contents (sized_text drawn id size geometry)) × IsSynced folder.now × (after ≡ before)
+IsDone growing left reading left_read Opens Creates Inspects IsSynced drawn (Replace folder id slot) was is before after =
     IsReplacedIn growing left Creates folder.now Opens id slot × IsSynced folder.now × Appends was.contents is.contents (reply_text Done) × (after ≡ before)
-IsDone growing left reading left_read Opens Creates Inspects IsSynced (Examine folder id json check) was is before after =
+IsDone growing left reading left_read Opens Creates Inspects IsSynced drawn (Examine folder id json check) was is before after =
     IsExaminedIn reading left_read Inspects folder.now id json was.contents is.contents before after
-IsDone growing left reading left_read Opens Creates Inspects IsSynced line was is before after = IsServedOver growing left Opens line was is before after
+IsDone growing left reading left_read Opens Creates Inspects IsSynced drawn line was is before after = IsServedOver growing left Opens line was is before after

@@ -29,6 +29,11 @@ pub record WereTaken {F : Type 0} (growing : Ghosts F) (Opens : (slot : ℕ) →
   pub passed : (slot : ℕ) → slot < 10 → IsSome (barred_in barred slot) → MayLack files slot
   pub kept : (slot : ℕ) → slot < 10 → IsNeeded slot → flag_in unsynced slot ≡ false
 
+-- the files of ten slots were taken, none of them was given up or passed over, and this holds of them
+abbrev pub HoldsOfTaken : {F : Type 0} → (growing : Ghosts F) (Opens : (slot : ℕ) → Result (Option F) OpenFault → Type 0)
+    (Holds : List (Option F) → Type 0) → Type 0
+HoldsOfTaken growing Opens Holds = (taken : WereTaken growing Opens (λ slot. slot < 10) (λ _ _. ⊥)) × Holds taken.files
+
 -- that is noted of the file of a slot, or neither it nor what is noted of it was touched
 abbrev pub IsNotedIn : {F Fault : Type 0} → (told : F → List ℕ) (Creates : Result (F × Before) Fault → Type 0) → ℕ
     → (was : Before) (old new : Option F) (is : Before) → Type 0

@@ -1,11 +1,15 @@
 pub mod Begun
 pub mod Causes
+pub mod Choosing
 pub mod Done
 pub mod DoneOver
+pub mod Ends
 pub mod FolderFiles
 pub mod Needs
 pub mod OtherSets
 pub mod Replacing
 pub mod Sending
+pub mod Sized
 pub mod Stops
+pub mod Texts
 pub mod Tool

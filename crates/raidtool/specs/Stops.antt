@@ -92,6 +92,7 @@ IsStoppedMaking End members (NotSafe slot shortage) = slot < 10
 IsStoppedMaking End members (OtherSet slot) = (members + 2 ≤ slot) × (slot < 10)
 IsStoppedMaking End members NotSynced = Unit {0}
 IsStoppedMaking End members (Refused refusal) = End refusal
+IsStoppedMaking End members fault = ⊥
 
 -- a set was not made
 abbrev pub IsUnmade : ℕ → FolderFault → Type 0
@@ -115,6 +116,7 @@ IsSlotFault End slot (NotSafe other shortage) = other < 10
 IsSlotFault End slot (OtherSet other) = ⊥
 IsSlotFault End slot NotSynced = Unit {0}
 IsSlotFault End slot (Refused refusal) = End refusal
+IsSlotFault End slot fault = ⊥
 
 -- it is a refusal, and no fault of a device file or of a folder
 abbrev pub IsRefusal : FolderFault → Type 0

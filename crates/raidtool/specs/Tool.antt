@@ -1,5 +1,5 @@
 -- What the program's exit status says, and what standard output and standard error get.
-use Rattle.std.specs.Prelude.{◌≡◌, ◌≢◌, ◌⊎◌, ◌≤◌, ◌++◌, ◌∷◌, ℕ, Bool, true, List, [], Option, None, Result, Ok, Err, IfSome, codes}
+use Rattle.std.specs.Prelude.{◌≡◌, ◌≢◌, ◌⊎◌, ◌≤◌, ◌++◌, ◌∷◌, ℕ, Bool, true, false, List, [], Option, None, Result, Ok, Err, IfSome, codes}
 use Rattle.std.specs.Io.KnownBytes.{Appends}
 use Rattle.clap.specs.Words.{Text}
 use Rattle.clap.specs.Values.{kind_of}
@@ -8,6 +8,7 @@ use Rattle.std.specs.declared.io.ErrorKind.{ErrorKind}
 use Rattle.std.specs.declared.io.ErrorKind.TheVariants as io
 use Rattle.sector_model.specs.declared.refusal.Refusal.{Refusal}
 use Rattle.sector_model.specs.declared.refusal.Refusal.TheVariants.{BadTable, Memory, NoSet, ReadFault, TwoLost, Worn, WriteFault}
+use Rattle.layout_map.specs.declared.format.Format.{Format}
 use Rattle.layout_map.specs.declared.format.Format.TheVariants.{One}
 use Rattle.layout_map.specs.Placement.{IsGeometry}
 use Rattle.recovery.specs.declared.examination.Examined.{Examined}
@@ -15,45 +16,54 @@ use Rattle.rebuild.specs.Rebuilding as rebuilding
 use Rattle.rebuild.specs.Rebuilding.{Progress}
 use Rattle.scrub.specs.Scrubbing.{Report}
 use Rattle.volume_table.specs.declared.status.Status.{Status as SetStatus}
-use Rattle.volume_table.specs.VolumeStep.{Done}
+use Rattle.volume_table.specs.VolumeStep.{Done, OnVolumes, Volumes}
 use Rattle.command_line.specs.Invocations.{AsksFor}
 use Rattle.set_commands.specs.declared.serving.health.Health.{Health}
 use Rattle.set_commands.specs.declared.serving.health.Health.TheVariants.{Complete, Incomplete, Unassembled}
 use Rattle.set_commands.specs.Examining.{IsExamineEnd, IsInspectionText}
 use Rattle.set_commands.specs.Fresh.{IsFreshEnd}
-use Rattle.report.specs.Replies.{made_line, progress_line, refusal_line, reply_text, scrub_line}
+use Rattle.report.specs.Replies.{progress_line, refusal_line, reply_text, scrub_line}
 use Rattle.device_files.specs.Faults.{fault_line, IsToldLine}
 use Rattle.raidtool.specs.Causes.{folder_text}
+use Rattle.raidtool.specs.Done.{command_for}
+use Rattle.raidtool.specs.Sized.{IsFoundIn, IsSizeTold, IsSizedStop}
+use Rattle.raidtool.specs.Texts.{made_text}
 use Rattle.raidtool.specs.Stops.{IsBlamed, IsInspectionBlamed, IsMakeEnd, IsMakeFault, IsServeFault, IsSlotFault, IsTold}
-use Rattle.set_commands.specs.Serving.{IsEnd, IsFailEnd, IsRebuildEnd, IsReplaceEnd, IsScrubEnd, IsTellEnd, told_text}
+use Rattle.set_commands.specs.Serving.{IsEnd, IsEventEnd, IsFailEnd, IsRebuildEnd, IsReplaceEnd, IsScrubEnd, IsTellEnd, told_text}
 use Rattle.report.specs.Written.{AppendsPart}
 use Rattle.command_line.specs.declared.Invocation.{Invocation}
-use Rattle.command_line.specs.declared.Invocation.TheVariants.{Examine, Fail, Make, Rebuild, Replace, Run, Scrub, Status, Upgrade}
+use Rattle.command_line.specs.declared.Invocation.TheVariants.{Change, Examine, Fail, Make, MakeSized, Rebuild, Replace, Run, Scrub, Status, Upgrade}
+use Rattle.command_line.specs.declared.SetChoice.{SetChoice}
+use Rattle.command_line.specs.declared.SetChoice.TheVariants.{Given, New, Only}
+use Rattle.command_line.specs.declared.Asked.{Asked}
+use Rattle.command_line.specs.declared.Size.{Size}
+use Rattle.command_line.specs.declared.Change.{Change as VolumeChange}
+use Rattle.command_line.specs.declared.Change.TheVariants as change
 use Rattle.command_line.specs.declared.InvocationFault.{InvocationFault}
-use Rattle.command_line.specs.declared.InvocationFault.TheVariants.{BadId, Usage}
+use Rattle.command_line.specs.declared.InvocationFault.TheVariants.{BadId, BadShape, BadSize, Usage}
 use Rattle.device_files.specs.declared.FolderFault.{FolderFault}
 use Rattle.device_files.specs.declared.slot_files.CreateFault.{CreateFault}
+use Rattle.device_files.specs.declared.growing.Growing.{Ghosts}
 use Rattle.device_files.specs.declared.slot_files.OpenFault.{OpenFault}
+use Rattle.device_files.specs.DeviceFiles.{slot_path}
 use Rattle.device_files.specs.declared.FolderFault.TheVariants.{Refused}
 
 -- ---- what the words ask for
 
 -- something is asked for: there are no words, or they ask for a line
 abbrev pub IsAsked : List Text → Type 0
-IsAsked words = (words ≡ []) ⊎ ((line : Invocation) × AsksFor words line)
+IsAsked words = (words ≡ []) ⊎ ((asked : Asked) × AsksFor words asked)
 
 -- the line is a `run`
 abbrev pub IsRun : Invocation → Type 0
 IsRun (Run folder id) = Unit {0}
 IsRun line = ⊥
 
--- a script is to be served: there are no words, or they ask for a `run`
-abbrev pub IsServing : List Text → Type 0
-IsServing words = (words ≡ []) ⊎ ((line : Invocation) × AsksFor words line × IsRun line)
-
 -- memory ran out while the words were read
 abbrev pub IsMemoryFault : InvocationFault → Type 0
 IsMemoryFault BadId = ⊥
+IsMemoryFault BadSize = ⊥
+IsMemoryFault BadShape = ⊥
 IsMemoryFault (Usage error) = kind_of error ≡ OutOfMemory
 
 -- ---- what a line is refused with
@@ -69,6 +79,8 @@ IsEndOfLine (Rebuild folder id steps) refusal = IsRebuildEnd refusal
 IsEndOfLine (Scrub folder id) refusal = IsScrubEnd refusal
 IsEndOfLine (Upgrade folder id) refusal = IsTellEnd refusal
 IsEndOfLine (Examine folder id json check) refusal = IsExamineEnd refusal
+IsEndOfLine (MakeSized folder id members chunk size over reserve) refusal = IsMakeEnd refusal
+IsEndOfLine (Change folder id change) refusal = IsEventEnd (OnVolumes (command_for change)) refusal
 
 -- a line asks how well a set is
 abbrev pub IsChecked : Invocation → Type 0
@@ -87,14 +99,17 @@ IsNone refusal = ⊥
 -- the line needs no file to be made
 abbrev pub IsServed : Invocation → Type 0
 IsServed (Make folder id members chunk stripes) = ⊥
+IsServed (MakeSized folder id members chunk size over reserve) = ⊥
 IsServed (Replace folder id slot) = ⊥
 IsServed (Examine folder id json check) = ⊥
 IsServed line = Unit {0}
 
--- what these words can be refused with by the exit status 1; a line that asks how well a set is ends otherwise where there is none that could be assembled
-abbrev pub IsEndOf : (Caused : Invocation → Refusal → Type 0) → List Text → Refusal → Type 0
-IsEndOf Caused words refusal = (refusal ≡ Memory) ⊎ (((words ≡ []) × IsFreshEnd refusal)
-    ⊎ ((line : Invocation) × AsksFor words line × IsEndOfLine line refusal × (IsChecked line → ¬ IsNone refusal) × Caused line refusal))
+-- what a line can be refused with by the exit status 1, for this cause; one that asks how well a set is ends otherwise where there is none that could be
+-- assembled
+pub record IsRefusalOf (line : Invocation) (Caused : Refusal → Type 0) (refusal : Refusal) : Type 0 where
+  pub end : IsEndOfLine line refusal
+  pub apart : IsChecked line → ¬ IsNone refusal
+  pub caused : Caused refusal
 
 -- found before anything is read or written: any other than a fault of the reader or the writer, or the end of a store
 abbrev pub ComesFirst : Refusal → Type 0
@@ -120,10 +135,11 @@ pub record IsStatusCut (id : List ℕ) (json : Bool) (old new : Option (List ℕ
 
 -- how far a rebuild came is a line of which this holds; where no number of steps was given, it came to its end
 pub record IsProgressTold (steps : Option ℕ) (IsWritten : List ℕ → Type 0) : Type 0 where
+  pub format : Format
   pub rows : ℕ
   pub progress : Progress
   pub whole : steps ≡ None → progress ≡ rebuilding.Complete
-  pub written : IsWritten (progress_line rows progress)
+  pub written : IsWritten (progress_line format rows progress)
 
 -- what a scrub found is a line of which this holds
 pub record IsScrubTold (IsWritten : List ℕ → Type 0) : Type 0 where
@@ -144,35 +160,46 @@ pub record IsInspectionTold (id : Option (List ℕ)) (json : Bool) (IsWritten : 
   pub some : text ≢ []
   pub written : IsWritten text
 
+-- what a change of volumes is answered is a text of which this holds: `ok`, or a line for each volume that there is
+abbrev pub IsChangeTold : VolumeChange → (IsWritten : List ℕ → Type 0) → Type 0
+IsChangeTold change.List IsWritten = (volumes : List (List ℕ × ℕ)) × IsWritten (reply_text (Volumes volumes))
+IsChangeTold change IsWritten = IsWritten (reply_text Done)
+
+-- whether the id of a set is drawn
+abbrev pub is_new : SetChoice → Bool
+is_new Given = false
+is_new New = true
+is_new Only = false
+
 -- what standard output gets where a line is done; what a script gets is not said here
-abbrev pub IsWritten : Invocation → (old new : Option (List ℕ)) → Type 0
-IsWritten (Run folder id) old new = Unit {0}
-IsWritten (Make folder id members chunk stripes) old new = IsGeometry One members chunk stripes × Appends old new made_line
-IsWritten (Status folder id json check) old new = IsStatusTold id json old new
-IsWritten (Fail folder id slot) old new = Appends old new (reply_text Done)
-IsWritten (Replace folder id slot) old new = Appends old new (reply_text Done)
-IsWritten (Rebuild folder id steps) old new = IsProgressTold steps (Appends old new)
-IsWritten (Scrub folder id) old new = IsScrubTold (Appends old new)
-IsWritten (Upgrade folder id) old new = Appends old new (reply_text Done)
-IsWritten (Examine folder id json check) old new = IsInspectionTold id json (Appends old new)
+abbrev pub IsWritten : (drawn : Bool) → Invocation → (old new : Option (List ℕ)) → Type 0
+IsWritten drawn (Run folder id) old new = Unit {0}
+IsWritten drawn (Make folder id members chunk stripes) old new = IsGeometry One members chunk stripes × Appends old new (made_text drawn id)
+IsWritten drawn (MakeSized folder id members chunk size over reserve) old new = IsSizeTold drawn id members chunk size (Appends old new)
+IsWritten drawn (Status folder id json check) old new = IsStatusTold id json old new
+IsWritten drawn (Fail folder id slot) old new = Appends old new (reply_text Done)
+IsWritten drawn (Replace folder id slot) old new = Appends old new (reply_text Done)
+IsWritten drawn (Rebuild folder id steps) old new = IsProgressTold steps (Appends old new)
+IsWritten drawn (Scrub folder id) old new = IsScrubTold (Appends old new)
+IsWritten drawn (Upgrade folder id) old new = Appends old new (reply_text Done)
+IsWritten drawn (Examine folder id json check) old new = IsInspectionTold id json (Appends old new)
+IsWritten drawn (Change folder id change) old new = IsChangeTold change (Appends old new)
 
 -- a beginning of that
-abbrev pub IsPartWritten : Invocation → (old new : Option (List ℕ)) → Type 0
-IsPartWritten (Run folder id) old new = ⊥
-IsPartWritten (Make folder id members chunk stripes) old new = AppendsPart old new made_line
-IsPartWritten (Status folder id json check) old new = IsStatusCut id json old new
-IsPartWritten (Fail folder id slot) old new = AppendsPart old new (reply_text Done)
-IsPartWritten (Replace folder id slot) old new = AppendsPart old new (reply_text Done)
-IsPartWritten (Rebuild folder id steps) old new = IsProgressTold steps (AppendsPart old new)
-IsPartWritten (Scrub folder id) old new = IsScrubTold (AppendsPart old new)
-IsPartWritten (Upgrade folder id) old new = AppendsPart old new (reply_text Done)
-IsPartWritten (Examine folder id json check) old new = IsInspectionTold id json (AppendsPart old new)
+abbrev pub IsPartWritten : (drawn : Bool) → Invocation → (old new : Option (List ℕ)) → Type 0
+IsPartWritten drawn (Run folder id) old new = ⊥
+IsPartWritten drawn (Make folder id members chunk stripes) old new = AppendsPart old new (made_text drawn id)
+IsPartWritten drawn (MakeSized folder id members chunk size over reserve) old new = IsSizeTold drawn id members chunk size (AppendsPart old new)
+IsPartWritten drawn (Status folder id json check) old new = IsStatusCut id json old new
+IsPartWritten drawn (Fail folder id slot) old new = AppendsPart old new (reply_text Done)
+IsPartWritten drawn (Replace folder id slot) old new = AppendsPart old new (reply_text Done)
+IsPartWritten drawn (Rebuild folder id steps) old new = IsProgressTold steps (AppendsPart old new)
+IsPartWritten drawn (Scrub folder id) old new = IsScrubTold (AppendsPart old new)
+IsPartWritten drawn (Upgrade folder id) old new = AppendsPart old new (reply_text Done)
+IsPartWritten drawn (Examine folder id json check) old new = IsInspectionTold id json (AppendsPart old new)
+IsPartWritten drawn (Change folder id change) old new = IsChangeTold change (AppendsPart old new)
 
 -- ---- what standard error gets
-
--- what standard error gets where the id is none
-abbrev pub bad_id_line : List ℕ
-bad_id_line = codes "bad id" ++ 10 ∷ []
 
 -- one of these refusals was told; where it comes first, this is the same as before
 pub record WasRefused (End : Refusal → Type 0) (Told : List ℕ → Type 0) (Same : Type 0) : Type 0 where
@@ -189,6 +216,7 @@ IsStoppedMake members chunk stripes fault = IsGeometry One members chunk stripes
 -- what stops a line over a folder
 abbrev pub IsStopOf : Invocation → FolderFault → Type 0
 IsStopOf (Make folder id members chunk stripes) fault = IsStoppedMake members chunk stripes fault
+IsStopOf (MakeSized folder id members chunk size over reserve) fault = IsSizedStop members size over fault
 IsStopOf (Replace folder id slot) fault = IsSlotFault IsReplaceEnd slot fault
 IsStopOf line fault = IsServeFault (IsEndOfLine line) fault
 
@@ -202,27 +230,28 @@ abbrev pub IsOfFiles : FolderFault → Type 0
 IsOfFiles (Refused refusal) = ⊥
 IsOfFiles fault = Unit {0}
 
--- a device file is named only where that is what opening its path came to, or creating it, or a call of a file, or opening it for reading alone
-abbrev pub IsBlamedIn : {F Made L : Type 0} → (Opens : (path : List ℕ) → Result (Option F) OpenFault → Type 0)
+-- a device file is named only where that is what opening its path came to, or creating it, or a call of a file, or opening it for reading alone; and a set
+-- only where a superblock of it was found
+abbrev pub IsBlamedIn : {F Made L : Type 0} → (growing : Ghosts F) (Opens : (path : List ℕ) → Result (Option F) OpenFault → Type 0)
     (Creates : (path : List ℕ) → Result Made CreateFault → Type 0)
-    (HasFailed : F → Type 0) (Inspects : (path : List ℕ) → Result (Option L) OpenFault → Type 0) → Invocation → FolderFault → Type 0
-IsBlamedIn Opens Creates HasFailed Inspects (Examine folder id json check) fault = IsInspectionBlamed Inspects folder.now fault
-IsBlamedIn Opens Creates HasFailed Inspects line fault = IsBlamed Opens Creates HasFailed (folder_text line) fault
+    (Inspects : (path : List ℕ) → Result (Option L) OpenFault → Type 0) → Invocation → FolderFault → Type 0
+IsBlamedIn growing Opens Creates Inspects (Examine folder id json check) fault = IsInspectionBlamed Inspects folder.now fault
+IsBlamedIn growing Opens Creates Inspects (MakeSized folder id members chunk size over reserve) fault =
+    IsBlamed Opens Creates growing.has_failed folder.now fault × IsFoundIn growing (λ slot. Opens (slot_path folder.now slot)) fault
+IsBlamedIn growing Opens Creates Inspects line fault = IsBlamed Opens Creates growing.has_failed (folder_text line) fault
 
--- the words asked for a line that a device file or a folder stopped, rightly blamed, and that was told; this is the same as before
-pub record WasStopped (words : List Text) (Blamed : Invocation → FolderFault → Type 0) (Told : List ℕ → Type 0) (Same : Type 0) : Type 0 where
-  pub line : Invocation
+-- a device file or a folder stopped a line, rightly blamed, and that was told; this is the same as before
+pub record WasStopped (line : Invocation) (Blamed : FolderFault → Type 0) (Told : List ℕ → Type 0) (Same : Type 0) : Type 0 where
   pub fault : FolderFault
-  pub asked : AsksFor words line
   pub of_files : IsOfFiles fault
   pub stops : IsStopOf line fault
-  pub blamed : Blamed line fault
+  pub blamed : Blamed fault
   pub told : Told (fault_line (folder_text line) fault)
   pub same : Same
 
 -- what a line writes was cut off, and that was told
-pub record IsCutOff (line : Invocation) (out new_out : Option (List ℕ)) (Told : List ℕ → Type 0) : Type 0 where
-  pub part : IsPartWritten line out new_out
+pub record IsCutOff (drawn : Bool) (line : Invocation) (out new_out : Option (List ℕ)) (Told : List ℕ → Type 0) : Type 0 where
+  pub part : IsPartWritten drawn line out new_out
   pub told : Told (refusal_line WriteFault)
 
 -- the line is to make a set of sizes that none has
@@ -233,6 +262,7 @@ IsMisshapen line = ⊥
 -- a line that passes over no file, of which there is nothing to be told
 abbrev pub PassesNone : Invocation → Type 0
 PassesNone (Make folder id members chunk stripes) = Unit {0}
+PassesNone (MakeSized folder id members chunk size over reserve) = Unit {0}
 PassesNone (Examine folder id json check) = Unit {0}
 PassesNone line = ⊥
 

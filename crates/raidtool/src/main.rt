@@ -9,9 +9,11 @@ ghost use Rattle.std.specs.IoError.{error_kind};
 ghost use Rattle.raidtool.specs.Stops.{IsTold};
 ghost use Rattle.raidtool.specs.Tool.{IsNotStarted, IsStatusFor};
 
+mod choosing;
 mod console;
 mod make;
 mod replacing;
+mod telling;
 mod tool;
 mod undoing;
 

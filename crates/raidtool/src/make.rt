@@ -3,7 +3,6 @@ ghost use Rattle.std.specs.Prelude.{◌≡◌, ◌≢◌, ◌<◌, ◌+◌, ◌�
 ghost use Rattle.std.specs.Prelude.{string_bytes, ℕ};
 ghost use Rattle.std.specs.Io.KnownBytes.{Appends};
 ghost use Rattle.sector_model.specs.declared.refusal.Refusal.{Refusal};
-ghost use Rattle.report.specs.Replies.{made_line};
 ghost use Rattle.report.specs.Written.{AppendsPart};
 ghost use Rattle.device_files.specs.declared.FolderFault.{FolderFault};
 ghost use Rattle.device_files.specs.DeviceFiles.{IsLinkSynced, slot_path};
@@ -14,10 +13,13 @@ ghost use Rattle.raidtool.specs.DoneOver.{IsMadeIn, IsMadeOver};
 ghost use Rattle.raidtool.specs.OtherSets.{IsAloneIn, IsMadeAlone, IsRefusedMake, IsUntoldIn};
 ghost use Rattle.raidtool.specs.Stops.{IsBlamed, IsFileFault, IsMakeFault, IsOtherFault, IsStoppedOver, IsUnmade};
 ghost use Rattle.raidtool.specs.FolderFiles.{LeavesFiles, MakesFiles, MakesOrUndoes};
+ghost use Rattle.raidtool.specs.Texts.{made_text};
 
 mod on_bank;
 mod other_set;
+mod sized;
 
+use crate::telling::write_made_set;
 use crate::undoing::{Ended, settle};
 use device_files::{
     BankFile, DeviceFiles, FolderFault, FolderSync, Growing, SLOTS, SlotFiles, SlotPaths, bank_on,
@@ -27,13 +29,14 @@ use device_files::{
 use layout_map::Geometry;
 use on_bank::make_alone;
 use other_set::refuse_other;
-use report::replies::write_made;
 use set_commands::Meter;
+pub(crate) use sized::{Wanted, make_sized};
 use std::alloc::Global;
 use std::io::Write;
 use stripe_journal::Entry;
 
-/// Makes a set of this id and geometry on the device files of a folder, whatever they held, and writes `made`.
+/// Makes a set of this id and geometry on the device files of a folder, whatever they held, and writes `made`, with the
+/// id where that was drawn.
 ///
 /// First all files of the folder are opened, locked and synced, as `open_folder` says. `NoFile` names the first of the
 /// set's whose sync failed, `NotOpened` the first that is there and could not be opened, be it the set's or not, and
@@ -51,6 +54,7 @@ pub(crate) fn make_set<S, D, W: Write>(
     folder: &str,
     id: [u8; 16],
     geometry: Geometry,
+    drawn: bool,
     out: &mut W,
 ) -> Result<(), FolderFault>
 where
@@ -60,7 +64,7 @@ where
     ensures synced { OnOk result (D.is_safe disk.now folder.now ⊎ D.is_never disk.now folder.now) }
     ensures made { OnOk result
         (IsMadeIn ⟦<D::File as Growing>⟧ D.File.left (D.creates disk.now) folder.now (D.opens disk.now) id geometry) }
-    ensures written { OnOk result (Appends (W.contents out.old) (W.contents out.new) made_line) }
+    ensures written { OnOk result (Appends (W.contents out.old) (W.contents out.new) (made_text drawn id)) }
     ensures fault { IfErr result (IsMakeFault geometry.members) }
     ensures cause { IfErr result (IsCausedBy
         (IsRefusedMake (IsTrue D.File.tells) (BeginsSafely ⟦<D::File as Growing>⟧ D.File.left) id geometry)) }
@@ -69,10 +73,10 @@ where
     ensures unmade { IfErr result (λ fault. fault ≢ FolderFault.Refused Refusal.WriteFault → out.new ≡ out.old) }
     ensures part { IfErr result (λ fault. fault ≡ FolderFault.Refused Refusal.WriteFault
         → IsMadeIn ⟦<D::File as Growing>⟧ D.File.left (D.creates disk.now) folder.now (D.opens disk.now) id geometry
-        × AppendsPart (W.contents out.old) (W.contents out.new) made_line) }
+        × AppendsPart (W.contents out.old) (W.contents out.new) (made_text drawn id)) }
 {
     make_in(rt, disk, folder, id, geometry)?;
-    write_made(out)?;
+    write_made_set(out, drawn, &id)?;
     Ok(())
 }
 
@@ -100,7 +104,7 @@ where
     let files = open_folder(rt.alloc(), disk, folder)?;
     refuse_barred(&files, 0, SLOTS as u8)?;
     refuse_unsynced(&files, 0, geometry.members + 2)?;
-    make_or_undo(rt, disk, folder, &paths, id, geometry, files).done
+    make_or_undo(rt, disk, folder, &paths, id, geometry, true, files).done
 }
 
 // Makes the set over the files of a folder, which have these paths, or takes back what was made of them.
@@ -111,6 +115,7 @@ fn make_or_undo<S, D>(
     paths: &SlotPaths,
     id: [u8; 16],
     geometry: Geometry,
+    reserve: bool,
     files: DeviceFiles<D::File>,
 ) -> Ended<D::File>
 where
@@ -131,7 +136,15 @@ where
     ensures named { IfErr result.done (IsBlamed (D.opens disk.now) (D.creates disk.now) D.File.has_failed folder.now) }
 {
     let mut files = files;
-    let ready = ready_files(rt.alloc(), disk, folder, &id, &geometry, &mut files);
+    let ready = ready_files(
+        rt.alloc(),
+        disk,
+        folder,
+        &id,
+        &geometry,
+        reserve,
+        &mut files,
+    );
     let (mut open, log) = files.into_parts();
     match ready {
         Ok(entry) => {
@@ -150,6 +163,7 @@ fn ready_files<D>(
     folder: &str,
     id: &[u8; 16],
     geometry: &Geometry,
+    reserve: bool,
     files: &mut DeviceFiles<D::File>,
 ) -> Result<Entry, FolderFault>
 where
@@ -167,7 +181,7 @@ where
 {
     let entry = Entry::new(alloc)?;
     refuse_other_set(alloc, files, id, geometry.members + 2)?;
-    make_files(alloc, disk, folder, geometry, files)?;
+    make_files(alloc, disk, folder, geometry, reserve, files)?;
     Ok(entry)
 }
 
@@ -219,6 +233,7 @@ fn make_files<D: SlotFiles + FolderSync>(
     disk: &D,
     folder: &str,
     geometry: &Geometry,
+    reserve: bool,
     files: &mut DeviceFiles<D::File>,
 ) -> Result<(), FolderFault>
     ensures made { MakesFiles D.File.tells D.File.told D.File.is_safe D.File.has_failed (D.creates disk.now)
@@ -230,7 +245,7 @@ fn make_files<D: SlotFiles + FolderSync>(
     ensures fault { IfErr result (IsFileFault geometry.now.members) }
     ensures named { IfErr result (IsBlamed (D.opens disk.now) (D.creates disk.now) D.File.has_failed folder.now) }
 {
-    make_each(alloc, disk, folder, geometry, files)?;
+    make_each(alloc, disk, folder, geometry, reserve, files)?;
     sync_folders(alloc, disk, folder, 0, geometry.members + 2)
 }
 
@@ -240,6 +255,7 @@ fn make_each<D: SlotFiles>(
     disk: &D,
     folder: &str,
     geometry: &Geometry,
+    reserve: bool,
     files: &mut DeviceFiles<D::File>,
 ) -> Result<(), FolderFault>
     ensures made { MakesFiles D.File.tells D.File.told D.File.is_safe D.File.has_failed (D.creates disk.now)
@@ -249,7 +265,7 @@ fn make_each<D: SlotFiles>(
 {
     for slot in 0..geometry.members + 2 {
         let bytes = bytes_of(geometry, slot);
-        lengthen_slot(alloc, disk, folder, slot, bytes, files)?;
+        lengthen_slot(alloc, disk, folder, slot, bytes, files, reserve)?;
     }
     Ok(())
 }

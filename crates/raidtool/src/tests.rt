@@ -2,6 +2,7 @@
 
 mod examines;
 mod held;
+mod large;
 mod locked;
 mod program;
 mod renames;

@@ -1,35 +1,40 @@
 //! One line of the program.
-ghost use Rattle.std.specs.Prelude.{◌≡◌, ◌≢◌, ◌⊎◌, ◌≤◌, ◌↔◌, ℕ, List, [], Some, None, Err, IfErr, OnOk, is_ok};
+ghost use Rattle.std.specs.Prelude.{◌≡◌, ◌≢◌, ◌⊎◌, ◌≤◌, ◌↔◌, ℕ, Bool, List, [], Some, None, Err, IfErr, OnOk, is_ok};
 ghost use Rattle.std.specs.Prelude.{if◌then◌else◌, IsTrue};
 ghost use Rattle.clap.specs.Walk.{texts};
 ghost use Rattle.sector_model.specs.declared.refusal.Refusal.{Refusal};
 ghost use Rattle.recovery.specs.SeenBank.{bank_seen};
+ghost use Rattle.volume_table.specs.Events.{event_of};
+ghost use Rattle.volume_table.specs.VolumeStep.{OnVolumes};
+ghost use Rattle.command_line.specs.declared.Asked.{Asked};
 ghost use Rattle.command_line.specs.declared.Invocation.{Invocation};
-ghost use Rattle.command_line.specs.declared.InvocationFault.{InvocationFault};
 ghost use Rattle.device_files.specs.declared.FolderFault.{FolderFault};
-ghost use Rattle.command_line.specs.Invocations.{AsksFor, IsFaultOf};
 ghost use Rattle.device_files.specs.DeviceFiles.{slot_path};
+ghost use Rattle.device_files.specs.Faults.{IsToldLine};
 ghost use Rattle.raidtool.specs.Begun.{BeginsInspected};
 ghost use Rattle.raidtool.specs.Causes.{HasCause, IsCauseOfExamine, IsCauseOn, IsCauseOver, IsCaused, IsCausedBy};
 ghost use Rattle.raidtool.specs.Causes.{IsPlainEnd, folder_text, id_text};
-ghost use Rattle.raidtool.specs.Done.{DoesOn, IsPartExamined};
+ghost use Rattle.raidtool.specs.Choosing.{IsChosen, IsUnchosen};
+ghost use Rattle.raidtool.specs.Done.{DoesOn, IsPartExamined, command_for};
 ghost use Rattle.raidtool.specs.DoneOver.{HealthOf, IsDone, IsExaminedIn, IsServedOver};
-ghost use Rattle.set_commands.specs.Examining.{IsExamineEnd};
-ghost use Rattle.device_files.specs.Faults.{IsToldLine};
+ghost use Rattle.raidtool.specs.Ends.{EndsAsked, EndsLine, EndsWords, unchosen_line, unchosen_status};
 ghost use Rattle.raidtool.specs.Stops.{HasPassed, IsBlamed, IsInspectionBlamed, IsServeFault, IsTold, IsToldAfter};
+ghost use Rattle.raidtool.specs.Texts.{IsFaultLine};
+ghost use Rattle.raidtool.specs.Tool.{ComesFirst, IsAsked, IsBlamedIn, IsEndOfLine, IsFirst, IsMemoryFault, IsMisshapen};
+ghost use Rattle.raidtool.specs.Tool.{IsPartWritten, IsRun, IsServed, IsStopOf, PassesNone, WasRefused, checked_status};
+ghost use Rattle.raidtool.specs.Tool.{is_new};
 ghost use Rattle.set_commands.specs.DoneLaw.{CommandsMakeInvocations};
-ghost use Rattle.set_commands.specs.Fresh.{RunsFresh};
+ghost use Rattle.set_commands.specs.Examining.{IsExamineEnd};
+ghost use Rattle.set_commands.specs.Fresh.{IsFreshEnd, RunsFresh};
 ghost use Rattle.set_commands.specs.Invocations.{HeadlineOfTheProgram};
 ghost use Rattle.set_commands.specs.Run.{streams};
-ghost use Rattle.raidtool.specs.Tool.{ComesFirst, IsAsked, IsBlamedIn, IsCutOff, IsEndOf, IsEndOfLine};
-ghost use Rattle.raidtool.specs.Tool.{IsFirst, IsMemoryFault, IsMisshapen, IsPartWritten, IsRun, PassesNone, IsServed};
-ghost use Rattle.raidtool.specs.Tool.{IsServing, IsStopOf, IsWritten, WasRefused, WasStopped, bad_id_line};
-ghost use Rattle.raidtool.specs.Tool.{IsChecked, WasUnassembled, checked_status};
 
-use crate::make::make_set;
+use crate::choosing::{DrawIds, Unchosen, choose};
+use crate::make::{Wanted, make_set, make_sized};
 use crate::replacing::replace_in_folder;
+use crate::telling::{tell_fault, tell_several};
 use clap::error::ErrorKind;
-use command_line::{Invocation, InvocationFault, parse_invocation};
+use command_line::{Asked, Change, Invocation, InvocationFault, SetChoice, parse_invocation};
 use device_files::{
     BankFile, FolderFault, FolderSync, Growing, InspectFiles, SlotFiles, bank_on, bank_to_inspect,
     folder_status, inspect_folder, open_folder, pass_over,
@@ -50,19 +55,24 @@ use volume_table::Event;
 /// lines of a script were refused; 1 for a refusal, which is written to `err` as `refused 17 NoSet`, also for `Memory`
 /// while the words are read, and for a fault of a device file, which is written as `cannot make dev3.img`, `in use
 /// dev3.img`, `cannot open dev3.img: ` and why, `not a regular file: dev3.img`, `cannot sync dev3.img: ` and why,
-/// `another set with this id: dev5.img` or `cannot sync FOLDER`; 2 for a line that is none of the program's or asks for
-/// help or the version, which is answered on `err`. Without any words the script is served over a set in memory that is
-/// made for it. On `out` a set that was made is answered with `made`, a status is written as text or as JSON, a slot
-/// that was given up or got a device and a table of volumes that has version 2 are answered with `ok`, and a rebuild
-/// and a scrub with how far the one came and what the other found. Where a device file can't be opened that the set
-/// doesn't need, it is done without, which is written to `err` as `without dev1.img: read-only file system`.
+/// `another set with this id: dev5.img`, `there is a set: ` and its id, `no file: dev2.img` or `cannot sync FOLDER`; 2
+/// for a line that is none of the program's or asks for help or the version, which is answered on `err`. Without any
+/// words the script is served over a set in memory that is made for it. On `out` a set that was made is answered with
+/// `made`, and its id where that was drawn, a status is written as text or as JSON, a slot that was given up or got a
+/// device, a volume that was made, extended, removed or renamed and a table of volumes that has its last version are
+/// answered with `ok`, and a rebuild and a scrub with how far the one came and what the other found. Where a device file
+/// can't be opened that the set doesn't need, it is done without, which is written to `err` as `without dev1.img:
+/// read-only file system`.
+///
+/// A line may leave its id open (`--id new`, `--id auto`): it is drawn, or that of the only set of its folder. Where
+/// there are several, their ids are written to `err`, and the status is 1.
 ///
 /// A status or an inspection that asks how well a set is (`--check`) ends with 3 where it is not complete, and with 4
 /// where it would not be assembled, or was refused with `NoSet`, `BadTable`, `TwoLost` or `Worn`.
 ///
 /// Over a folder, each device file is opened once, and locked until the line is done; when all are locked, each is
-/// synced before any is read. For an inspection of its sets it is opened for reading alone, and neither locked nor
-/// synced.
+/// synced before any is read. For an inspection of its sets, and to find its only one, it is opened for reading alone,
+/// and neither locked nor synced.
 pub(crate) fn tool<S, D, R: BufRead, W: Write, E: Write>(
     rt: &S,
     disk: &D,
@@ -73,97 +83,61 @@ pub(crate) fn tool<S, D, R: BufRead, W: Write, E: Write>(
 ) -> u8
 where
     S: Meter + AllocGlobal,
-    D: SlotFiles + InspectFiles + FolderSync,
+    D: SlotFiles + InspectFiles + FolderSync + DrawIds,
     D::File: BankFile,
     ensures status { result ≤ 4 }
 
     // Of invocations, one after another, each ended by a crash at any moment or after it.
     ensures headline { HeadlineOfTheProgram }
 
-    // 0: it was asked for and done, a script was read to its end, and what the line writes was written.
+    // 0 only where something was asked for, and 2 only where nothing was: then nothing is done.
     ensures done { result ≡ 0 → IsAsked (texts words.now) }
-    ensures does { (line : Invocation) → AsksFor (texts words.now) line → result ≡ 0 → (health : Health)
-        × IsDone ⟦<D::File as Growing>⟧ D.File.left ⟦<D::InspectedFile as Growing>⟧ D.InspectedFile.left
-        (D.opens disk.now) (D.creates disk.now) (D.inspects disk.now)
-        (λ folder. D.is_safe disk.now folder ⊎ D.is_never disk.now folder)
-        line (streams (R.remaining reader.old) (W.contents out.old))
-        (streams (R.remaining reader.new) (W.contents out.new)) Health.Complete health }
-    ensures read { result ≡ 0 → IsServing (texts words.now) → R.remaining reader.old ≢ None
-        → R.remaining reader.new ≡ Some [] }
-    ensures quiet { (result ≡ 0) ⊎ (result ≡ 3) → HasPassed E.contents err.old err.new }
-    ensures hushed { (line : Invocation) → AsksFor (texts words.now) line → PassesNone line → (result ≡ 0)
-        ⊎ (result ≡ 3)
-        → err.new ≡ err.old }
-    ensures silent { result ≡ 0 → words.now ≡ [] → err.new ≡ err.old }
-    ensures written { (line : Invocation) → AsksFor (texts words.now) line → result ≡ 0
-        → IsWritten line (W.contents out.old) (W.contents out.new) }
-
-    // 1: it was asked for, or memory ran out, and a refusal that has its cause was told, or the fault of a device file.
-    ensures refused { result ≡ 1 → WasRefused (IsEndOf (IsCaused ⟦<D::File as Growing>⟧ D.File.left
-        ⟦<D::InspectedFile as Growing>⟧ D.InspectedFile.left (D.opens disk.now) (D.inspects disk.now))
-        (texts words.now))
-        (λ text. IsToldAfter E.contents text err.old err.new) ((reader.new ≡ reader.old) × (out.new ≡ out.old))
-        ⊎ WasStopped (texts words.now) (IsBlamedIn (D.opens disk.now) (D.creates disk.now)
-        D.File.has_failed (D.inspects disk.now))
-        (λ text. IsToldAfter E.contents text err.old err.new) ((reader.new ≡ reader.old) × (out.new ≡ out.old)) }
-    ensures unwritten { (line : Invocation) → AsksFor (texts words.now) line → ¬ IsRun line → result ≡ 1
-        → (out.new ≡ out.old)
-        ⊎ IsCutOff line (W.contents out.old) (W.contents out.new)
-        (λ text. IsToldAfter E.contents text err.old err.new) }
-
-    // 2: it was not asked for, nothing was done, and a bad id was told.
     ensures wrong { result ≡ 2 → ¬ IsAsked (texts words.now) }
     ensures unread { result ≡ 2 → (reader.new ≡ reader.old) × (out.new ≡ out.old) }
-    ensures bad_id { result ≡ 2 → IsFaultOf (texts words.now) InvocationFault.BadId
-        → IsToldLine bad_id_line (E.contents err.old) (E.contents err.new) }
 
-    // Without any words, where the script was run to its end.
-    ensures memory { (script : List ℕ) → words.now ≡ [] → R.remaining reader.old ≡ Some script → result ≡ 0
-        → ∥ RunsFresh script (W.contents out.old) (W.contents out.new) ∥₁ }
-
-    // 3, 4: it was asked how well a set is, and done, or there was none that could be assembled; where it was asked, 0
-    // says that each is complete.
-    ensures checked { (line : Invocation) → AsksFor (texts words.now) line → 3 ≤ result → IsChecked line }
-    ensures incomplete { (line : Invocation) → AsksFor (texts words.now) line → result ≡ 3
-        → IsDone ⟦<D::File as Growing>⟧ D.File.left ⟦<D::InspectedFile as Growing>⟧ D.InspectedFile.left
-        (D.opens disk.now) (D.creates disk.now) (D.inspects disk.now)
-        (λ folder. D.is_safe disk.now folder ⊎ D.is_never disk.now folder)
-        line (streams (R.remaining reader.old) (W.contents out.old))
-        (streams (R.remaining reader.new) (W.contents out.new)) Health.Complete Health.Incomplete }
-    ensures unassembled { (line : Invocation) → AsksFor (texts words.now) line → result ≡ 4
-        → WasUnassembled
+    // Words: the line that they ask for has its set, and ends as it should; or what they lack is told.
+    ensures ends { texts words.now ≢ [] → EndsWords (texts words.now)
+        (λ asked. EndsAsked asked result
+        (IsChosen ⟦<D::InspectedFile as Growing>⟧ D.InspectedFile.left (D.inspects disk.now)
+        (D.draws disk.now) asked)
+        (IsUnchosen ⟦<D::InspectedFile as Growing>⟧ D.InspectedFile.left (D.inspects disk.now)
+        (D.draws disk.now) asked)
+        (λ line. EndsLine line (is_new asked.choice) result
         (IsDone ⟦<D::File as Growing>⟧ D.File.left ⟦<D::InspectedFile as Growing>⟧ D.InspectedFile.left
         (D.opens disk.now) (D.creates disk.now) (D.inspects disk.now)
         (λ folder. D.is_safe disk.now folder ⊎ D.is_never disk.now folder)
-        line (streams (R.remaining reader.old) (W.contents out.old))
-        (streams (R.remaining reader.new) (W.contents out.new)) Health.Complete Health.Unassembled)
+        (is_new asked.choice) line (streams (R.remaining reader.old) (W.contents out.old))
+        (streams (R.remaining reader.new) (W.contents out.new)) Health.Complete)
         (IsCaused ⟦<D::File as Growing>⟧ D.File.left ⟦<D::InspectedFile as Growing>⟧ D.InspectedFile.left
         (D.opens disk.now) (D.inspects disk.now) line)
-        (HasPassed E.contents err.old err.new) (λ text. IsToldAfter E.contents text err.old err.new) }
-    ensures complete { (line : Invocation) → AsksFor (texts words.now) line → IsChecked line → result ≡ 0
-        → IsDone ⟦<D::File as Growing>⟧ D.File.left ⟦<D::InspectedFile as Growing>⟧ D.InspectedFile.left
-        (D.opens disk.now) (D.creates disk.now) (D.inspects disk.now)
-        (λ folder. D.is_safe disk.now folder ⊎ D.is_never disk.now folder)
-        line (streams (R.remaining reader.old) (W.contents out.old))
-        (streams (R.remaining reader.new) (W.contents out.new)) Health.Complete Health.Complete }
+        (IsBlamedIn ⟦<D::File as Growing>⟧ (D.opens disk.now) (D.creates disk.now) (D.inspects disk.now) line)
+        (λ text. IsToldAfter E.contents text err.old err.new)
+        (λ text. IsToldLine text (E.contents err.old) (E.contents err.new))
+        (HasPassed E.contents err.old err.new) (err.new ≡ err.old) (reader.new ≡ reader.old) (out.new ≡ out.old)
+        (R.remaining reader.old ≢ None → R.remaining reader.new ≡ Some [])
+        (W.contents out.old) (W.contents out.new))
+        (λ text. IsToldLine text (E.contents err.old) (E.contents err.new))
+        ((reader.new ≡ reader.old) × (out.new ≡ out.old)))
+        ((result ≡ 1) × IsTold Refusal.Memory (E.contents err.old) (E.contents err.new)
+        × (reader.new ≡ reader.old) × (out.new ≡ out.old))
+        (λ fault. (result ≡ 2)
+        × ((line : List ℕ) → IsFaultLine fault line → IsToldLine line (E.contents err.old) (E.contents err.new))) }
 
-    // But for a script, nothing is read.
-    ensures beside { (line : Invocation) → AsksFor (texts words.now) line → ¬ IsRun line → reader.new ≡ reader.old }
-    ensures misshapen { (line : Invocation) → AsksFor (texts words.now) line → IsMisshapen line → (result ≡ 1)
-        × (IsTold Refusal.BadGeometry (E.contents err.old) (E.contents err.new)
-        ⊎ IsTold Refusal.Memory (E.contents err.old) (E.contents err.new)) }
+    // Without any words: a script was run to its end, or refused, over a set in memory.
+    ensures memory { (script : List ℕ) → words.now ≡ [] → R.remaining reader.old ≡ Some script → result ≡ 0
+        → ∥ RunsFresh script (W.contents out.old) (W.contents out.new) ∥₁ }
+    ensures read { words.now ≡ [] → result ≡ 0 → R.remaining reader.old ≢ None → R.remaining reader.new ≡ Some [] }
+    ensures silent { words.now ≡ [] → result ≡ 0 → err.new ≡ err.old }
+    ensures refused { words.now ≡ [] → (result ≡ 0) ⊎ ((result ≡ 1) × WasRefused IsFreshEnd
+        (λ text. IsToldLine text (E.contents err.old) (E.contents err.new))
+        ((reader.new ≡ reader.old) × (out.new ≡ out.old))) }
 {
     headline_of_the_program();
     if words.is_empty() {
         return status_of(serve_fresh(rt.alloc(), reader, out), err);
     }
     match parse_invocation(rt.alloc(), words) {
-        Ok(line) => {
-            let mut health = Health::Complete;
-            let done = do_line(rt, disk, line, reader, out, err, &mut health);
-            let status = folder_status(done, folder_of(&line), err);
-            checked(&line, &done, status, health)
-        }
+        Ok(asked) => end_asked(rt, disk, &asked, reader, out, err),
         Err(fault) if is_memory(&fault) => status_of(Err(Refusal::Memory), err),
         Err(fault) => {
             tell_fault(rt.alloc(), &fault, words, err);
@@ -172,12 +146,123 @@ where
     }
 }
 
+// Does what was asked for, once its set is known, and gives the exit status.
+fn end_asked<S, D, R: BufRead, W: Write, E: Write>(
+    rt: &S,
+    disk: &D,
+    asked: &Asked<'_>,
+    reader: &mut R,
+    out: &mut W,
+    err: &mut E,
+) -> u8
+where
+    S: Meter + AllocGlobal,
+    D: SlotFiles + InspectFiles + FolderSync + DrawIds,
+    D::File: BankFile,
+    ensures ends { EndsAsked asked.now result
+        (IsChosen ⟦<D::InspectedFile as Growing>⟧ D.InspectedFile.left (D.inspects disk.now)
+        (D.draws disk.now) asked.now)
+        (IsUnchosen ⟦<D::InspectedFile as Growing>⟧ D.InspectedFile.left (D.inspects disk.now)
+        (D.draws disk.now) asked.now)
+        (λ line. EndsLine line (is_new asked.now.choice) result
+        (IsDone ⟦<D::File as Growing>⟧ D.File.left ⟦<D::InspectedFile as Growing>⟧ D.InspectedFile.left
+        (D.opens disk.now) (D.creates disk.now) (D.inspects disk.now)
+        (λ folder. D.is_safe disk.now folder ⊎ D.is_never disk.now folder)
+        (is_new asked.now.choice) line (streams (R.remaining reader.old) (W.contents out.old))
+        (streams (R.remaining reader.new) (W.contents out.new)) Health.Complete)
+        (IsCaused ⟦<D::File as Growing>⟧ D.File.left ⟦<D::InspectedFile as Growing>⟧ D.InspectedFile.left
+        (D.opens disk.now) (D.inspects disk.now) line)
+        (IsBlamedIn ⟦<D::File as Growing>⟧ (D.opens disk.now) (D.creates disk.now) (D.inspects disk.now) line)
+        (λ text. IsToldAfter E.contents text err.old err.new)
+        (λ text. IsToldLine text (E.contents err.old) (E.contents err.new))
+        (HasPassed E.contents err.old err.new) (err.new ≡ err.old) (reader.new ≡ reader.old) (out.new ≡ out.old)
+        (R.remaining reader.old ≢ None → R.remaining reader.new ≡ Some [])
+        (W.contents out.old) (W.contents out.new))
+        (λ text. IsToldLine text (E.contents err.old) (E.contents err.new))
+        ((reader.new ≡ reader.old) × (out.new ≡ out.old)) }
+    ensures most { result ≤ 4 }
+    ensures never_two { result ≢ 2 }
+{
+    match choose(rt.alloc(), disk, asked) {
+        Ok(line) => end_line(rt, disk, line, is_new(asked.choice), reader, out, err),
+        Err(unchosen) => end_unchosen(&asked.line, unchosen, err),
+    }
+}
+
+// Whether the id of a set is to be drawn.
+fn is_new(choice: SetChoice) -> bool
+    ensures { result ≡ is_new choice }
+{
+    match choice {
+        SetChoice::New => true,
+        SetChoice::Given | SetChoice::Only => false,
+    }
+}
+
+// Tells why a line is of no set, and gives its exit status.
+fn end_unchosen<E: Write>(line: &Invocation<'_>, unchosen: Unchosen, err: &mut E) -> u8
+    ensures status { result ≡ unchosen_status line.now unchosen }
+    ensures told { IsToldLine (unchosen_line (folder_text line.now) unchosen) (E.contents err.old) (E.contents err.new) }
+{
+    match unchosen {
+        Unchosen::Fault(fault) => {
+            let done = Err(fault);
+            let status = folder_status(done, folder_of(line), err);
+            checked(line, &done, status, Health::Complete)
+        }
+        Unchosen::Several(ids) => {
+            tell_several(err, &ids);
+            1
+        }
+        Unchosen::Undrawn => {
+            let _ = write_text(err, b"cannot draw an id\n");
+            1
+        }
+    }
+}
+
+// Does what a line asks for, and gives the exit status.
+fn end_line<S, D, R: BufRead, W: Write, E: Write>(
+    rt: &S,
+    disk: &D,
+    line: Invocation<'_>,
+    drawn: bool,
+    reader: &mut R,
+    out: &mut W,
+    err: &mut E,
+) -> u8
+where
+    S: Meter + AllocGlobal,
+    D: SlotFiles + InspectFiles + FolderSync,
+    D::File: BankFile,
+    ensures { EndsLine line.entry drawn result
+        (IsDone ⟦<D::File as Growing>⟧ D.File.left ⟦<D::InspectedFile as Growing>⟧ D.InspectedFile.left
+        (D.opens disk.now) (D.creates disk.now) (D.inspects disk.now)
+        (λ folder. D.is_safe disk.now folder ⊎ D.is_never disk.now folder)
+        drawn line.entry (streams (R.remaining reader.old) (W.contents out.old))
+        (streams (R.remaining reader.new) (W.contents out.new)) Health.Complete)
+        (IsCaused ⟦<D::File as Growing>⟧ D.File.left ⟦<D::InspectedFile as Growing>⟧ D.InspectedFile.left
+        (D.opens disk.now) (D.inspects disk.now) line.entry)
+        (IsBlamedIn ⟦<D::File as Growing>⟧ (D.opens disk.now) (D.creates disk.now) (D.inspects disk.now) line.entry)
+        (λ text. IsToldAfter E.contents text err.old err.new)
+        (λ text. IsToldLine text (E.contents err.old) (E.contents err.new))
+        (HasPassed E.contents err.old err.new) (err.new ≡ err.old) (reader.new ≡ reader.old) (out.new ≡ out.old)
+        (R.remaining reader.old ≢ None → R.remaining reader.new ≡ Some [])
+        (W.contents out.old) (W.contents out.new) }
+{
+    let mut health = Health::Complete;
+    let done = do_line(rt, disk, line, drawn, reader, out, err, &mut health);
+    let status = folder_status(done, folder_of(&line), err);
+    checked(&line, &done, status, health)
+}
+
 // Does what a line asks for.
 #[tactic(auto, using(crate::proofs::Taken::nothing_passed))]
 fn do_line<S, D, R: BufRead, W: Write, E: Write>(
     rt: &S,
     disk: &D,
     line: Invocation<'_>,
+    drawn: bool,
     reader: &mut R,
     out: &mut W,
     err: &mut E,
@@ -191,19 +276,19 @@ where
         ⟦<D::InspectedFile as Growing>⟧ D.InspectedFile.left
         (D.opens disk.now) (D.creates disk.now) (D.inspects disk.now)
         (λ folder. D.is_safe disk.now folder ⊎ D.is_never disk.now folder)
-        line.entry (streams (R.remaining reader.old) (W.contents out.old))
+        drawn line.entry (streams (R.remaining reader.old) (W.contents out.old))
         (streams (R.remaining reader.new) (W.contents out.new)) health.old health.new) }
     ensures read { IsRun line.entry → R.remaining reader.old ≢ None → OnOk result (R.remaining reader.new ≡ Some []) }
     ensures stopped { IfErr result (IsStopOf line.entry) }
     ensures cause { IfErr result (IsCausedBy (HasCause ⟦<D::File as Growing>⟧ D.File.left
         ⟦<D::InspectedFile as Growing>⟧ D.InspectedFile.left (D.opens disk.now) (D.inspects disk.now) line.entry)) }
-    ensures named { IfErr result (IsBlamedIn (D.opens disk.now) (D.creates disk.now)
-        D.File.has_failed (D.inspects disk.now) line.entry) }
+    ensures named { IfErr result (IsBlamedIn ⟦<D::File as Growing>⟧ (D.opens disk.now) (D.creates disk.now)
+        (D.inspects disk.now) line.entry) }
     ensures alone { IfErr result (λ fault. IsFirst fault → (reader.new ≡ reader.old) × (out.new ≡ out.old)) }
     ensures unwritten { ¬ IsRun line.entry
         → IfErr result (λ fault. fault ≢ FolderFault.Refused Refusal.WriteFault → out.new ≡ out.old) }
     ensures cut { ¬ IsRun line.entry → IfErr result (λ fault. fault ≡ FolderFault.Refused Refusal.WriteFault
-        → IsPartWritten line.entry (W.contents out.old) (W.contents out.new)) }
+        → IsPartWritten drawn line.entry (W.contents out.old) (W.contents out.new)) }
     ensures beside { ¬ IsRun line.entry → reader.new ≡ reader.old }
     ensures misshapen { IsMisshapen line.entry → (result ≡ Err (FolderFault.Refused Refusal.BadGeometry))
         × (err.new ≡ err.old) }
@@ -219,7 +304,25 @@ where
             stripes,
         } => {
             let geometry = Geometry::new(members, chunk, stripes)?;
-            make_set(rt, disk, folder, id, geometry, out)
+            make_set(rt, disk, folder, id, geometry, drawn, out)
+        }
+        Invocation::MakeSized {
+            folder,
+            id,
+            members,
+            chunk,
+            size,
+            over,
+            reserve,
+        } => {
+            let wanted = Wanted {
+                members,
+                chunk,
+                size,
+                over,
+                reserve,
+            };
+            make_sized(rt, disk, folder, id, &wanted, drawn, out)
         }
         Invocation::Replace { folder, id, slot } => {
             replace_in_folder(rt, disk, folder, id, slot, out, err)
@@ -234,13 +337,15 @@ where
     }
 }
 
-// The folder of a line.
-fn folder_of<'a>(line: &Invocation<'a>) -> &'a str
+/// The folder of a line.
+pub(crate) fn folder_of<'a>(line: &Invocation<'a>) -> &'a str
     ensures { result.now ≡ folder_text line.now }
 {
     match line {
         Invocation::Run { folder, .. }
         | Invocation::Make { folder, .. }
+        | Invocation::MakeSized { folder, .. }
+        | Invocation::Change { folder, .. }
         | Invocation::Status { folder, .. }
         | Invocation::Fail { folder, .. }
         | Invocation::Replace { folder, .. }
@@ -262,9 +367,12 @@ fn id_of(line: &Invocation<'_>) -> [u8; 16]
         | Invocation::Fail { id, .. }
         | Invocation::Rebuild { id, .. }
         | Invocation::Scrub { id, .. }
-        | Invocation::Upgrade { id, .. } => *id,
-        Invocation::Make { .. } | Invocation::Replace { .. } | Invocation::Examine { .. } =>
-            unreachable!(),
+        | Invocation::Upgrade { id, .. }
+        | Invocation::Change { id, .. } => *id,
+        Invocation::Make { .. }
+        | Invocation::MakeSized { .. }
+        | Invocation::Replace { .. }
+        | Invocation::Examine { .. } => unreachable!(),
     }
 }
 
@@ -329,7 +437,7 @@ where
     ensures unwritten { ¬ IsRun line.entry
         → IfErr result (λ fault. fault ≢ FolderFault.Refused Refusal.WriteFault → out.new ≡ out.old) }
     ensures cut { ¬ IsRun line.entry → IfErr result (λ fault. fault ≡ FolderFault.Refused Refusal.WriteFault
-        → IsPartWritten line.entry (W.contents out.old) (W.contents out.new)) }
+        → (drawn : Bool) → IsPartWritten drawn line.entry (W.contents out.old) (W.contents out.new)) }
     ensures beside { ¬ IsRun line.entry → reader.new ≡ reader.old }
 {
     let entry = Entry::new(rt.alloc())?;
@@ -367,7 +475,7 @@ where
     ensures unwritten { ¬ IsRun line.entry
         → IfErr result (λ refusal. refusal ≢ Refusal.WriteFault → out.new ≡ out.old) }
     ensures cut { ¬ IsRun line.entry → IfErr result (λ refusal. refusal ≡ Refusal.WriteFault
-        → IsPartWritten line.entry (W.contents out.old) (W.contents out.new)) }
+        → (drawn : Bool) → IsPartWritten drawn line.entry (W.contents out.old) (W.contents out.new)) }
     ensures beside { ¬ IsRun line.entry → reader.new ≡ reader.old }
 {
     law_of_invocations(&bank);
@@ -392,8 +500,37 @@ where
         Invocation::Upgrade { id, .. } => {
             apply_on(rt.alloc(), bank, entry, id, &Event::Upgrade, out)
         }
-        Invocation::Make { .. } | Invocation::Replace { .. } | Invocation::Examine { .. } =>
-            unreachable!(),
+        Invocation::Change { id, change, .. } => {
+            apply_on(rt.alloc(), bank, entry, id, &event_for(change), out)
+        }
+        Invocation::Make { .. }
+        | Invocation::MakeSized { .. }
+        | Invocation::Replace { .. }
+        | Invocation::Examine { .. } => unreachable!(),
+    }
+}
+
+// The event of a change of volumes.
+fn event_for(change: Change<'_>) -> Event<'_>
+    ensures { event_of result ≡ OnVolumes (command_for change.entry) }
+{
+    match change {
+        Change::Create { name, blocks } => Event::Create {
+            name: name.as_bytes(),
+            blocks,
+        },
+        Change::Extend { name, blocks } => Event::Extend {
+            name: name.as_bytes(),
+            by: blocks,
+        },
+        Change::Remove { name } => Event::Remove {
+            name: name.as_bytes(),
+        },
+        Change::Rename { name, to } => Event::Rename {
+            old: name.as_bytes(),
+            new: to.as_bytes(),
+        },
+        Change::List => Event::List,
     }
 }
 
@@ -427,7 +564,7 @@ fn is_memory(fault: &InvocationFault) -> bool
 {
     match fault {
         InvocationFault::Usage(error) => error.kind() == ErrorKind::OutOfMemory,
-        InvocationFault::BadId => false,
+        InvocationFault::BadId | InvocationFault::BadSize | InvocationFault::BadShape => false,
     }
 }
 
@@ -442,57 +579,6 @@ pub fn status_of<E: Write>(done: Result<(), Refusal>, err: &mut E) -> u8
         Err(refusal) => {
             let _ = write_reply(err, &Answer::Refused(refusal));
             1
-        }
-    }
-}
-
-// Tells why these words are no line of the program; where the first is `help`, what `--help` tells. A fault of standard
-// error has no place to be told.
-fn tell_fault<E: Write>(alloc: Global, fault: &InvocationFault, words: &[&str], err: &mut E)
-    ensures { fault.now ≡ InvocationFault.BadId → IsToldLine bad_id_line (E.contents err.old) (E.contents err.new) }
-{
-    match fault {
-        InvocationFault::Usage(error) => {
-            if words.first() == Some(&"help") {
-                tell_help(alloc, words, err);
-            } else {
-                tell_usage(alloc, error, err);
-            }
-        }
-        InvocationFault::BadId => {
-            let _ = write_text(err, b"bad id\n");
-        }
-    }
-}
-
-// Tells what `--help` does, or that of a command that is named.
-fn tell_help<E: Write>(alloc: Global, words: &[&str], err: &mut E) {
-    match words.get(1) {
-        Some(command) => tell_fault_of(alloc, &[*command, "--help"], err),
-        None => tell_fault_of(alloc, &["--help"], err),
-    }
-}
-
-// Tells what is said to words that are no line of the program.
-fn tell_fault_of<E: Write>(alloc: Global, words: &[&str], err: &mut E) {
-    if let Err(InvocationFault::Usage(error)) = parse_invocation(alloc, words) {
-        tell_usage(alloc, &error, err);
-    }
-}
-
-// Tells a fault in the words, or the help, but no other command or option that may have been meant: one that is like
-// the word that was given may do something else altogether.
-fn tell_usage<E: Write>(alloc: Global, error: &clap::Error, err: &mut E) {
-    let Ok(text) = format!(in alloc; "{error}") else {
-        let _ = write!(err, "{error}");
-        return;
-    };
-    let mut before: &[u8] = b"";
-    for part in text.split("\n\n") {
-        if !part.starts_with("  tip:") {
-            let _ = write_text(err, before);
-            let _ = write_text(err, part.as_bytes());
-            before = b"\n\n";
         }
     }
 }

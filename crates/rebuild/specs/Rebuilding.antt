@@ -3,7 +3,7 @@ use Rattle.std.specs.Prelude.{◌≡◌, ◌≢◌, ◌⊎◌, ℕ, ◌+◌, ◌
 use Rattle.sector_model.specs.declared.refusal.Refusal.{Refusal}
 use Rattle.sector_model.specs.declared.refusal.Refusal.TheVariants.{NotMissing, NothingToRebuild, NotUsable, TwoLost, Worn}
 use Rattle.sector_model.specs.declared.calls.TheConstants.{GREATEST_COUNT}
-use Rattle.layout_map.specs.declared.sizes.TheConstants.{REBUILD_ROWS}
+use Rattle.layout_map.specs.declared.format.Format.{Format}
 use Rattle.layout_map.specs.Formats.{rebuild_rows}
 use Rattle.superblock.specs.declared.state.State.TheVariants.{Missing, Rebuilding}
 use Rattle.superblock.specs.declared.table.Table.{Table}
@@ -31,9 +31,9 @@ end_of_step table rows = stepped (rebuild_rows table.geometry.format) (row_count
 abbrev pub steps_left_of : (each position rows : ℕ) → ℕ
 steps_left_of each position rows = (rows - position + (each - 1)) / each
 
--- how many are left in a set of format 1
-abbrev pub steps_left : (position rows : ℕ) → ℕ
-steps_left position rows = steps_left_of REBUILD_ROWS position rows
+-- the same by the set's format
+abbrev pub steps_left : Format → (position rows : ℕ) → ℕ
+steps_left format position rows = steps_left_of (rebuild_rows format) position rows
 
 -- the slots but one keep their states, unless their devices are down
 abbrev pub OthersKeepTheirs : ArrayView → ArrayView → ℕ → Type 0

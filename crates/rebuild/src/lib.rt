@@ -10,7 +10,4 @@ mod stepping;
 
 pub use progress::Progress;
 pub use replacing::replace;
-pub use stepping::{rebuild_step, steps_left, steps_left_of};
-
-#[cfg(test)]
-mod tests;
+pub use stepping::{rebuild_step, steps_left};

@@ -4,19 +4,18 @@ ghost use Rattle.sector_model.specs.declared.calls.TheConstants.{GREATEST_COUNT}
 ghost use Rattle.layout_map.specs.Placement.{rows_of};
 ghost use Rattle.array_io.specs.Believed.Holds.{row_count};
 ghost use Rattle.array_io.specs.Believed.OpenArray.{IsHonest, array_view};
-ghost use Rattle.rebuild.specs.Rebuilding.{IsRebuilding, StepsRebuild, end_of_step};
-ghost use Rattle.rebuild.specs.Rebuilding.{steps_left as left_of, steps_left_of as left_by};
+ghost use Rattle.rebuild.specs.Rebuilding.{IsRebuilding, StepsRebuild, end_of_step, steps_left as left_of};
 ghost use Rattle.rebuild.specs.Stepping.{IsNextAt, IsProgressAt, answer_by};
 
 use crate::Progress;
 use crate::joining::{moved, publish_last, rebuilt};
 use crate::rows::write_rows;
 use array_io::Array;
-use layout_map::{Geometry, REBUILD_ROWS};
+use layout_map::{Format, Geometry};
 use sector_model::{Bank, GREATEST_COUNT, Refusal};
 use superblock::{State, Table};
 
-/// Rebuilds the next rows of the member that is rebuilding: so many, at most the 64, or in format 2 4,096, of a step,
+/// Rebuilds the next rows of the member that is rebuilding: so many, at most those of a step (64, or 4,096 in format 2),
 /// and none past the last. They are written from the other members' sectors and flushed, and only then the new position
 /// is published, or, after the last row, that the member is in sync (`Complete`). A step of 0 rows changes nothing.
 ///
@@ -40,20 +39,13 @@ pub fn rebuild_step<B: Bank>(array: &mut Array<B>, rows: u64) -> Result<Progress
     step_to(array, member, end)
 }
 
-/// How many steps of 64 rows a rebuild of a set of format 1 takes from this position on, of so many rows: the last
-/// counts where it is not full, and at the end, or past it, none is left.
-pub fn steps_left(position: u64, rows: u64) -> u64
-    ensures { result ≡ left_of position rows }
+/// How many steps a rebuild of a set of this format takes from this position on, of so many rows: the last counts where
+/// it is not full, and at the end, or past it, none is left.
+pub fn steps_left(format: Format, position: u64, rows: u64) -> u64
+    ensures { result ≡ left_of format position rows }
 {
-    steps_left_of(REBUILD_ROWS, position, rows)
-}
-
-/// The same by steps of so many rows each, 1 at least (condition): what `rebuild_rows` says of a set's format.
-pub fn steps_left_of(each: u64, position: u64, rows: u64) -> u64
-    requires { 1 ≤ each }
-    ensures { result ≡ left_by each position rows }
-{
-    rows.saturating_sub(position).div_ceil(each)
+    let left = rows.saturating_sub(position);
+    left.div_ceil(format.rebuild_rows())
 }
 
 // Rebuilds the member's rows up to this one, which is past the position.

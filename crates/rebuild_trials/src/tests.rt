@@ -23,6 +23,7 @@ mod failures;
 mod held;
 mod held_failures;
 mod large;
+mod last_entries;
 mod rebuilt;
 mod refusals;
 mod replaced;

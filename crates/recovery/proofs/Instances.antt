@@ -98,16 +98,15 @@ first_of_fresh devices image table fresh = record {
 }
 
 -- A bank that has a set that was just made is what making it answers, with the set's table and no entry.
-pub makes_fresh : (honest : Type 0) (panel : Panel) (image : Slots) (table : Table) → table.geometry.format ≡ One → IsFresh panel.devices table image
+pub makes_fresh : (honest : Type 0) (panel : Panel) (image : Slots) (table : Table) → IsFresh panel.devices table image
     → IsTrueTo panel (Began image)
     → Makes honest table.id table.geometry (fresh_bank panel image) (Opened (fresh_array panel image table))
-makes_fresh honest panel image table one fresh true_to = record {
+makes_fresh honest panel image table fresh true_to = record {
   later = later_same panel;
   first = λ array is. opened_is (λ a. IsFirstTable table.id table.geometry a.table) (fresh_array panel image table) array is
       (first_of_fresh panel.devices image table fresh);
   number = λ array is. opened_is (λ a. a.number ≡ 0) (fresh_array panel image table) array is refl;
   its_slots = λ array is. opened_is (λ a. HasItsSlots a.table a.panel) (fresh_array panel image table) array is (fresh_slots panel image table fresh true_to);
-  of_format_one = λ array is. opened_is (λ a. a.table.geometry.format ≡ One) (fresh_array panel image table) array is one;
   rests = λ fair quiet array is. opened_is (λ a. RestsOn a None (zeros_of table.geometry)) (fresh_array panel image table) array is
       (fresh_rests panel image table fresh);
   cause = λ bank refusal is. not_returned (IsNoMake table.geometry bank.panel refusal) (fresh_array panel image table) bank refusal is;
@@ -121,7 +120,6 @@ makes_none honest id geometry bank refusal because = record {
   first = λ array is. not_opened (IsFirstTable id geometry array.table) bank refusal array is;
   number = λ array is. not_opened (array.number ≡ 0) bank refusal array is;
   its_slots = λ array is. not_opened (HasItsSlots array.table array.panel) bank refusal array is;
-  of_format_one = λ array is. not_opened (array.table.geometry.format ≡ One) bank refusal array is;
   rests = λ fair quiet array is. not_opened (RestsOn array None (zeros_of geometry)) bank refusal array is;
   cause = λ other said is. returned_is (λ b r. IsNoMake geometry b.panel r) bank other refusal said is because;
 }
@@ -129,7 +127,7 @@ makes_none honest id geometry bank refusal because = record {
 -- so where the bank has too few slots
 pub makes_none_of_few : (honest : Type 0) (id : List ℕ) (geometry : Geometry) (bank : BankView) → bank.panel.devices < geometry.members + 2
     → Makes honest id geometry bank (Returned bank BadGeometry)
-makes_none_of_few honest id geometry bank few = makes_none honest id geometry bank BadGeometry (inr few)
+makes_none_of_few honest id geometry bank few = makes_none honest id geometry bank BadGeometry few
 
 -- where a slot of the set is down
 pub makes_none_of_down : (honest : Type 0) (id : List ℕ) (geometry : Geometry) (bank : BankView) (slot : ℕ) → slot < geometry.members + 2

@@ -1,13 +1,9 @@
 -- What making a set answers, put together.
-use denote.Enum.Bare.{sameb}
 use Rattle.std.proofs.Common.{◌≡◌, ℕ, ◌+◌, List, false, not, refl, sym, ◌∙◌, ap, subst}
 use Rattle.std.specs.Prelude.{None}
 use Rattle.sector_model.specs.declared.refusal.Refusal.{Refusal}
 use Rattle.sector_model.specs.Bank.{IsLater, Panel}
 use Rattle.sector_model.specs.History.{History}
-use Rattle.layout_map.specs.contracts.format.Format.{the_type}
-use Rattle.layout_map.specs.declared.format.Format.{Format}
-use Rattle.layout_map.specs.declared.format.Format.TheVariants.{One, Two}
 use Rattle.layout_map.specs.declared.geometry.Geometry.{Geometry}
 use Rattle.superblock.specs.declared.table.Table.{Table}
 use Rattle.superblock.specs.NextTables.{slots_of}
@@ -15,11 +11,6 @@ use Rattle.array_io.specs.Believed.Fresh.{zeros_of}
 use Rattle.array_io.specs.Believed.Settled.{IsSettled}
 use Rattle.array_io.specs.Believed.Views.{ArrayView, HasItsSlots, RestsOn, view_of}
 use Rattle.recovery.specs.Making.{BankView, IsFirstTable, IsQuietBeyond, Makes, Opened, Outcome, Returned, opened}
-
--- the format is format 1, as the code asks for it
-pub is_format_one : (format : Format) → not (sameb the_type format One) ≡ false → format ≡ One
-is_format_one One is = refl
-is_format_one Two is = absurd cc
 
 -- what is said of the array of an outcome, and of none
 abbrev OnOpened : (ArrayView → Type 0) → Outcome → Type 0
@@ -34,17 +25,16 @@ not_both array bank refusal is = subst (OnOpened (λ a. Unit {0})) is tt
 
 -- the set of this first table is there
 pub made_opened : (honest : Type 0) (id : List ℕ) (geometry : Geometry) (old : BankView) (panel : Panel) (history : History) (table : Table)
-    → IsFirstTable id geometry table → geometry.format ≡ One → IsLater old.panel panel → HasItsSlots table panel
+    → IsFirstTable id geometry table → IsLater old.panel panel → HasItsSlots table panel
     → (honest → IsQuietBeyond table.id (slots_of table) old → IsSettled panel.devices table 0 history None (zeros_of table.geometry))
     → Makes honest id geometry old (opened panel history table 0)
-made_opened honest id geometry old panel history table first one later its_slots rests =
+made_opened honest id geometry old panel history table first later its_slots rests =
     let made : ArrayView = view_of panel history table 0 in
     record {
       later = later;
       first = λ array is. of_opened (λ a. IsFirstTable id geometry a.table) made array is first;
       number = λ array is. of_opened (λ a. a.number ≡ 0) made array is refl;
       its_slots = λ array is. of_opened (λ a. HasItsSlots a.table a.panel) made array is its_slots;
-      of_format_one = λ array is. of_opened (λ a. a.table.geometry.format ≡ One) made array is (ap (λ (g : Geometry). g.format) first.of_geometry ∙ one);
       rests = λ true_bank quiet array is. of_opened (λ a. RestsOn a None (zeros_of geometry)) made array is
           (subst (λ (g : Geometry). IsSettled panel.devices table 0 history None (zeros_of g)) first.of_geometry
           (rests true_bank (subst (λ (g : Geometry). IsQuietBeyond table.id (g.members + 2) old) (sym first.of_geometry)

@@ -1,5 +1,5 @@
 -- What making a set and finding its table promise.
-use Rattle.std.specs.Prelude.{◌≡◌, ◌≢◌, ◌⊎◌, ℕ, ◌+◌, ◌<◌, ◌≤◌, true, false, List, Option, Some, None, Result, Ok, Err}
+use Rattle.std.specs.Prelude.{◌≡◌, ◌⊎◌, ℕ, ◌+◌, ◌<◌, ◌≤◌, true, false, List, Option, Some, None, Result, Ok, Err}
 use Rattle.sector_model.specs.declared.refusal.Refusal.{Refusal}
 use Rattle.sector_model.specs.declared.refusal.Refusal.TheVariants.{BadGeometry, NotUsable, Worn}
 use Rattle.sector_model.specs.declared.calls.TheConstants.{GREATEST_COUNT}
@@ -7,7 +7,6 @@ use Rattle.sector_model.specs.Bank.{IsLater, Panel}
 use Rattle.sector_model.specs.History.{Bytes, History, MayHold, MayLeave, Slots, is_down}
 use Rattle.sector_model.specs.Readable.{readable}
 use Rattle.sector_model.specs.Reads.{HasRead}
-use Rattle.layout_map.specs.declared.format.Format.TheVariants.{One}
 use Rattle.layout_map.specs.declared.geometry.Geometry.{Geometry}
 use Rattle.superblock.specs.declared.state.State.TheVariants.{InSync}
 use Rattle.superblock.specs.declared.table.Table.{Table}
@@ -68,7 +67,7 @@ pub record HasUnusable (geometry : Geometry) (panel : Panel) : Type 0 where
 
 -- why a set could not be made
 abbrev pub IsNoMake : Geometry → Panel → Refusal → Type 0
-IsNoMake geometry panel BadGeometry = (geometry.format ≢ One) ⊎ (panel.devices < geometry.members + 2)
+IsNoMake geometry panel BadGeometry = panel.devices < geometry.members + 2
 IsNoMake geometry panel NotUsable = HasUnusable geometry panel
 IsNoMake geometry panel Worn = GREATEST_COUNT ≤ panel.calls
 IsNoMake geometry panel refusal = ⊥
@@ -80,8 +79,6 @@ pub record Makes (honest : Type 0) (id : List ℕ) (geometry : Geometry) (old : 
   pub first : (array : ArrayView) → outcome ≡ Opened array → IsFirstTable id geometry array.table
   pub number : (array : ArrayView) → outcome ≡ Opened array → array.number ≡ 0
   pub its_slots : (array : ArrayView) → outcome ≡ Opened array → HasItsSlots array.table array.panel
-  -- none of format 2 is made
-  pub of_format_one : (array : ArrayView) → outcome ≡ Opened array → array.table.geometry.format ≡ One
   pub rests : honest → IsQuietBeyond id (geometry.members + 2) old → (array : ArrayView) → outcome ≡ Opened array → RestsOn array None (zeros_of geometry)
   pub cause : (bank : BankView) (refusal : Refusal) → outcome ≡ Returned bank refusal → IsNoMake geometry bank.panel refusal
 

@@ -1,7 +1,6 @@
 //! Making a set.
 ghost use Rattle.std.specs.Prelude.{◌≡◌, ◌↔◌, ◌≤◌, ◌<◌, ◌+◌, ℕ, None, IfOk, IfErr, OnOk};
 ghost use Rattle.sector_model.specs.Bank.{IsLater};
-ghost use Rattle.layout_map.specs.declared.format.Format.TheVariants.{One};
 ghost use Rattle.array_io.specs.Believed.Fresh.{zeros_of};
 ghost use Rattle.array_io.specs.Believed.Settled.{IsSettled};
 ghost use Rattle.array_io.specs.Believed.Views.{HasItsSlots};
@@ -16,7 +15,7 @@ mod clearing;
 use self::clearing::{clear_slots, flush_slots};
 use crate::Returned;
 use array_io::Array;
-use layout_map::{Format, Geometry};
+use layout_map::Geometry;
 use sector_model::{Bank, Refusal, Stop};
 use stripe_journal::Entry;
 use superblock::{State, Table, least_of, publish};
@@ -26,7 +25,7 @@ use superblock::{State, Table, least_of, publish};
 /// generation 1 with all slots in sync and incarnation 1. The new set's logical sectors are all zero. Each sector that
 /// is cleared is read once, and is written only where it is not zero.
 ///
-/// `BadGeometry` where the set would be of another format than 1, or the bank has fewer slots; `NotUsable` where one of
+/// `BadGeometry` where the bank has fewer slots; `NotUsable` where one of
 /// the set's devices is down, goes down in the call, or is too short; `Worn` where the count of device calls stands at
 /// 2^62. After a refusal, as after a crash within the call, nothing is promised of a set on these devices; the bank is
 /// given back as it stands, and the entry is given up.
@@ -42,12 +41,6 @@ pub fn make<B: Bank>(
     ensures refused { IfErr result
         (λ returned. Makes (B.honest bank) id geometry (bank_seen B.Bank bank) (given_back_as B.Bank returned)) }
 {
-    if geometry.format != Format::One {
-        return Err(Returned {
-            bank,
-            refusal: Refusal::BadGeometry,
-        });
-    }
     let table = first_table(id, geometry);
     match put_set(&mut bank, &table) {
         Ok(()) => Ok(Array {

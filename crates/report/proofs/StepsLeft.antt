@@ -30,11 +30,12 @@ none_rebuilding (InSync ∷ states) (suc few) none = none_rebuilding states few 
 none_rebuilding (Rebuilding ∷ states) (suc few) none = absurd (none 0 (omega arith) refl)
 
 -- what is left, by whether a slot of the set is rebuilding
-pub left_while_rebuilding : (status : Status) (slot : ℕ) → IsRebuildingSlot status slot → left status ≡ steps_left status.position status.rows
+pub left_while_rebuilding : (status : Status) (slot : ℕ) → IsRebuildingSlot status slot → left status
+    ≡ steps_left status.format status.position status.rows
 left_while_rebuilding status slot is =
-    ap (λ (b : Bool). cond b (steps_left status.position status.rows) 0) (some_rebuilding status.states (status.members + 2) slot is.of_set is.state)
+    ap (λ (b : Bool). cond b (steps_left status.format status.position status.rows) 0) (some_rebuilding status.states (status.members + 2) slot is.of_set is.state)
 
 pub left_at_rest : (status : Status) → ((slot : ℕ) → IsRebuildingSlot status slot → ⊥) → left status ≡ 0
 left_at_rest status none =
-    ap (λ (b : Bool). cond b (steps_left status.position status.rows) 0)
+    ap (λ (b : Bool). cond b (steps_left status.format status.position status.rows) 0)
     (none_rebuilding status.states (status.members + 2) (λ slot below is. none slot (record { of_set = below; state = is })))

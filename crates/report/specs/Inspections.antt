@@ -3,7 +3,8 @@ use Rattle.std.specs.Prelude.{◌≡◌, ℕ, zero, suc, ◌+◌, ◌-◌, nat_l
 use Rattle.hex.specs.Hex.{encode_lower}
 use Rattle.serde_json.specs.Data.{Data, array, null, object, string}
 use Rattle.serde_json.specs.View.{items_of}
-use Rattle.layout_map.specs.Placement.{rows_of}
+use Rattle.layout_map.specs.declared.format.Format.{Format}
+use Rattle.layout_map.specs.Placement.{extent_blocks, rows_of}
 use Rattle.superblock.specs.declared.table.Table.{Table}
 use Rattle.recovery.specs.declared.examination.Presence.{Presence}
 use Rattle.recovery.specs.declared.examination.Presence.TheVariants as presence
@@ -15,17 +16,20 @@ use Rattle.recovery.specs.declared.examination.ExaminedSlot.{ExaminedSlot}
 use Rattle.recovery.specs.declared.examination.Examined.{Examined}
 use Rattle.recovery.specs.Examining.{unexamined}
 use Rattle.volume_table.specs.declared.status.Status.{Status}
-use Rattle.report.specs.Report.{at_left, at_right, left, members_of, role_word, set_lines, whole}
+use Rattle.report.specs.Report.{at_left, at_right, left, members_of, role_word, set_lines, whole, with_format}
 
 -- a status says of the set what its table says
 pub record IsStatusOf (table : Table) (status : Status) : Type 0 where
   pub id : status.id ≡ table.id
+  pub format : status.format ≡ table.geometry.format
   pub members : status.members ≡ table.geometry.members
   pub chunk : status.chunk ≡ table.geometry.chunk
   pub stripes : status.stripes ≡ table.geometry.stripes
   pub rows : status.rows ≡ rows_of table.geometry.chunk table.geometry.stripes
   pub generation : status.generation ≡ table.generation
   pub position : status.position ≡ table.position
+  pub extent_blocks : status.extent_blocks
+      ≡ extent_blocks table.geometry.format table.geometry.members table.geometry.chunk table.geometry.stripes
   pub states : status.states ≡ table.states
 
 -- whether a slot's device is there
@@ -113,11 +117,13 @@ abbrev pub inspection_slots_json : Examined → ℕ → List Data
 inspection_slots_json examined zero = []
 inspection_slots_json examined (suc slot) = inspection_slots_json examined slot ++ inspection_slot_json examined slot ∷ []
 
--- an inspection as an object, with an array of the set's slots
-abbrev pub inspection_json : Status → Examined → Data
-inspection_json status examined = object (members_of (
+-- what an inspection says, with an array of the set's slots: each key and its value, the keys in order
+abbrev pub inspection_pairs : Format → Status → Examined → List (List ℕ × Data)
+inspection_pairs format status examined =
     (codes "chunk", whole status.chunk)
-    ∷ (codes "generation", whole status.generation)
+    ∷ with_format format (codes "extent_blocks", whole status.extent_blocks) (
+    with_format format (codes "format", whole 2) (
+    (codes "generation", whole status.generation)
     ∷ (codes "id", string (encode_lower status.id))
     ∷ (codes "left", whole (left status))
     ∷ (codes "members", whole status.members)
@@ -127,3 +133,7 @@ inspection_json status examined = object (members_of (
     ∷ (codes "slots", array (items_of (inspection_slots_json examined (examined.table.geometry.members + 2))))
     ∷ (codes "stripes", whole status.stripes)
     ∷ []))
+
+-- an inspection as an object
+abbrev pub inspection_json : Status → Examined → Data
+inspection_json status examined = object (members_of (inspection_pairs status.format status examined))

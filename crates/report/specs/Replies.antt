@@ -4,6 +4,7 @@ use Rattle.std.specs.List.{flat_map, list_all}
 use Rattle.hex.specs.Hex.{encode_lower}
 use Rattle.sector_model.specs.declared.refusal.Refusal.{Refusal}
 use Rattle.sector_model.specs.Refusals.{number_of, name_of}
+use Rattle.layout_map.specs.declared.format.Format.{Format}
 use Rattle.rebuild.specs.Rebuilding.{Complete, Position, Progress, steps_left}
 use Rattle.scrub.specs.Scrubbing.{Report}
 use Rattle.volume_table.specs.VolumeStep.{Blocks, Done, Progressed, Refused, Reply, Scrubbed, Volumes}
@@ -32,15 +33,16 @@ made_line = codes "made" ++ 10 ∷ []
 abbrev pub slot_line : (before : List ℕ) (slot : ℕ) (after : List ℕ) → List ℕ
 slot_line before slot after = before ++ codes "dev" ++ decimal slot ++ codes ".img" ++ after ++ 10 ∷ []
 
--- how many steps of 64 rows are left at a position of so many rows
-abbrev pub left_text : (position rows : ℕ) → List ℕ
-left_text position rows = codes ", " ++ decimal (steps_left position rows) ++ codes " left"
+-- how many steps are left
+abbrev pub left_text : ℕ → List ℕ
+left_text steps = codes ", " ++ decimal steps ++ codes " left"
 
 -- how far the rebuild of a member of so many rows is
-abbrev pub progress_line : ℕ → Progress → List ℕ
-progress_line rows (Position position) =
-    codes "position " ++ decimal position ++ codes " of " ++ decimal rows ++ left_text position rows ++ 10 ∷ []
-progress_line rows Complete = codes "complete" ++ 10 ∷ []
+abbrev pub progress_line : Format → (rows : ℕ) → Progress → List ℕ
+progress_line format rows (Position position) =
+    codes "position " ++ decimal position ++ codes " of " ++ decimal rows
+    ++ left_text (steps_left format position rows) ++ 10 ∷ []
+progress_line format rows Complete = codes "complete" ++ 10 ∷ []
 
 -- which row is the first that is not sound, if one is not
 abbrev pub first_bad_text : Option ℕ → List ℕ

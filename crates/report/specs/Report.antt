@@ -1,8 +1,10 @@
 -- A set's status as lines of text, and as a JSON value.
 use Rattle.std.specs.Prelude.{◌≡◌, ℕ, zero, suc, ◌+◌, ◌-◌, ◌<◌, nat_lt, if◌then◌else◌, List, [], ◌∷◌, ◌++◌, length, replicate, take, codes, decimal}
 use Rattle.hex.specs.Hex.{encode_lower}
-use Rattle.serde_json.specs.Data.{Data, number, unsigned, string, array, object, Members, no_members, member}
+use Rattle.serde_json.specs.Data.{Data, number, unsigned, string, array, object, Members, no_members, member, put}
 use Rattle.serde_json.specs.View.{items_of}
+use Rattle.layout_map.specs.declared.format.Format.{Format}
+use Rattle.layout_map.specs.declared.format.Format.TheVariants.{One, Two}
 use Rattle.superblock.specs.declared.state.State.{State}
 use Rattle.superblock.specs.declared.state.State.TheVariants.{Missing, InSync, Rebuilding}
 use Rattle.superblock.specs.States.{has_rebuilding}
@@ -32,11 +34,17 @@ at_right places text = replicate (places - length text) 32 ++ text
 abbrev pub set_line : Status → List ℕ
 set_line status = codes "set " ++ encode_lower status.id ++ codes "\n"
 
+-- the set's format, which is not said of format 1
+abbrev pub format_text : Format → List ℕ
+format_text One = []
+format_text Two = codes " format 2"
+
 -- the set's shape
 abbrev pub shape_line : Status → List ℕ
 shape_line status =
     codes "members " ++ decimal status.members ++ codes " chunk " ++ decimal status.chunk
-    ++ codes " stripes " ++ decimal status.stripes ++ codes " rows " ++ decimal status.rows ++ codes "\n"
+    ++ codes " stripes " ++ decimal status.stripes ++ codes " rows " ++ decimal status.rows
+    ++ format_text status.format ++ codes "\n"
 
 -- this slot is rebuilding
 pub record IsRebuildingSlot (status : Status) (slot : ℕ) : Type 0 where
@@ -46,7 +54,7 @@ pub record IsRebuildingSlot (status : Status) (slot : ℕ) : Type 0 where
 -- how many steps of a rebuild are left: none where no slot is rebuilding
 abbrev pub left : Status → ℕ
 left status =
-    if has_rebuilding (take (status.members + 2) status.states) then steps_left status.position status.rows else 0
+    if has_rebuilding (take (status.members + 2) status.states) then steps_left status.format status.position status.rows else 0
 
 -- the number of its table, how far a rebuild came, and how many of its steps are left
 abbrev pub table_line : Status → List ℕ
@@ -107,12 +115,24 @@ abbrev pub slots_json : Status → ℕ → List Data
 slots_json status zero = []
 slots_json status (suc slot) = slots_json status slot ++ slot_json status slot ∷ []
 
--- the status as an object, with an array of its slots
-abbrev pub status_json : Status → Data
-status_json status = object (members_of (
+-- one more key and its value, which an object of a set of format 1 has not
+abbrev pub with_format : Format → List ℕ × Data → List (List ℕ × Data) → List (List ℕ × Data)
+with_format One pair pairs = pairs
+with_format Two pair pairs = pair ∷ pairs
+
+-- the keys that an object of a set of format 1 has not, put into one
+abbrev pub format_put : Format → (extent_blocks : ℕ) → Members → Members
+format_put One extent_blocks done = done
+format_put Two extent_blocks done = put (codes "format") (whole 2) (put (codes "extent_blocks") (whole extent_blocks) done)
+
+-- what a status says, with an array of its slots: each key and its value, the keys in order
+abbrev pub status_pairs : Format → Status → List (List ℕ × Data)
+status_pairs format status =
     (codes "chunk", whole status.chunk)
-    ∷ (codes "extents", whole status.extents)
-    ∷ (codes "free", whole status.free)
+    ∷ with_format format (codes "extent_blocks", whole status.extent_blocks) (
+    (codes "extents", whole status.extents)
+    ∷ with_format format (codes "format", whole 2) (
+    (codes "free", whole status.free)
     ∷ (codes "generation", whole status.generation)
     ∷ (codes "id", string (encode_lower status.id))
     ∷ (codes "left", whole (left status))
@@ -124,3 +144,7 @@ status_json status = object (members_of (
     ∷ (codes "table", whole status.version)
     ∷ (codes "volumes", whole status.volumes)
     ∷ []))
+
+-- the status as an object
+abbrev pub status_json : Status → Data
+status_json status = object (members_of (status_pairs status.format status))

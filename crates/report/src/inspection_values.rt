@@ -12,7 +12,7 @@ ghost use Rattle.report.specs.Report.{left};
 use crate::inspections::{last_of, presence_word, status_of, write_outlook, write_standing};
 use crate::left::left_of;
 use crate::text::role_word;
-use crate::value::put_numbers;
+use crate::value::{put_format, put_numbers};
 use recovery::{Examined, ExaminedSlot, Outlook, Standing};
 use sector_model::Refusal;
 use serde_json::{Map, Value, put};
@@ -43,6 +43,7 @@ fn inspection_value(
 {
     let mut object = Map::new(alloc);
     put_numbers(&mut object, alloc, &set_numbers(status))?;
+    put_format(&mut object, alloc, status)?;
     let id = hex::encode(alloc, status.id)?;
     put(&mut object, alloc, "id", Value::String(id))?;
     let outlook = outlook_string(alloc, examined.outlook)?;

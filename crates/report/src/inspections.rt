@@ -36,12 +36,14 @@ pub(crate) fn status_of(table: &Table) -> Status
 {
     Status {
         id: table.id,
+        format: table.geometry.format,
         members: table.geometry.members,
         chunk: table.geometry.chunk,
         stripes: table.geometry.stripes,
         rows: table.geometry.rows(),
         generation: table.generation,
         position: table.position,
+        extent_blocks: table.geometry.extent_blocks(),
         extents: 0,
         free: 0,
         volumes: 0,

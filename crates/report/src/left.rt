@@ -11,7 +11,7 @@ pub(crate) fn left_of(status: &Status) -> u64
     ensures { result ≡ left status.now }
 {
     match rebuilding_in(status) {
-        Some(_) => steps_left(status.position, status.rows),
+        Some(_) => steps_left(status.format, status.position, status.rows),
         None => 0,
     }
 }

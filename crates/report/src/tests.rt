@@ -1,6 +1,7 @@
 //! The texts of docs/FORMATS.md, "Status".
 use crate::testing::same;
 use crate::*;
+use layout_map::Format;
 use std::process::Abort;
 use superblock::State;
 use volume_table::Status;
@@ -11,12 +12,14 @@ const FRESH: Status = Status {
         0x00, 0x01, 0x02, 0x03, 0x04, 0x05, 0x06, 0x07, 0x08, 0x09, 0x0a, 0x0b, 0x0c, 0x0d, 0x0e,
         0x0f,
     ],
+    format: Format::One,
     members: 3,
     chunk: 8,
     stripes: 32,
     rows: 256,
     generation: 1,
     position: 0,
+    extent_blocks: 64,
     extents: 7,
     free: 7,
     volumes: 0,
@@ -115,4 +118,46 @@ fn json_of_a_fresh_set(rt: HostRuntime) {
     let text = json_text(&rt, &FRESH);
     same(&rt, text.as_str().starts_with(FRESH_BEGIN), true);
     same(&rt, text.as_str().ends_with(FRESH_END), true);
+}
+
+// A set of format 2 of 3 members, chunk 8 and 32 stripes while slot 1, whose device is its second, is rebuilt.
+fn large(status: &Status) -> Status {
+    let mut large = *status;
+    large.format = Format::Two;
+    large.generation = 3;
+    large.extent_blocks = 16;
+    large.extents = 28;
+    large.free = 28;
+    large.version = 3;
+    large.states[1] = State::Rebuilding;
+    large.incarnations[1] = 2;
+    large
+}
+
+// Its text: a step of its rebuild is of 4,096 rows.
+const LARGE: &str = "\
+set 000102030405060708090a0b0c0d0e0f
+members 3 chunk 8 stripes 32 rows 256 format 2
+generation 3 position 0 left 1
+extents 28 free 28 volumes 0 table 3
+ 0 member   in-sync    1
+ 1 member   rebuilding 2
+ 2 member   in-sync    1
+ 3 journal  in-sync    1
+ 4 journal  in-sync    1
+";
+
+#[test]
+fn text_of_format_2(rt: HostRuntime) {
+    has_text(&rt, &large(&FRESH), LARGE);
+}
+
+// How its JSON text begins.
+const LARGE_BEGIN: &str =
+    r#"{"chunk":8,"extent_blocks":16,"extents":28,"format":2,"free":28,"generation":3,"id":"000102030405060708090a0b0c0d0e0f","left":1,"members":3,"#;
+
+#[test]
+fn json_of_format_2(rt: HostRuntime) {
+    let text = json_text(&rt, &large(&FRESH));
+    same(&rt, text.as_str().starts_with(LARGE_BEGIN), true);
 }

@@ -1,10 +1,12 @@
 //! The status of a set, as lines of text.
 ghost use Rattle.std.specs.Prelude.{◌≡◌, ◌+◌, ◌<◌, ◌++◌, IfOk, IfErr, OnOk, string_bytes};
 ghost use Rattle.sector_model.specs.declared.refusal.Refusal.TheVariants.{Memory};
-ghost use Rattle.report.specs.Report.{role_word as word_of_role, state_word as word_of_state, head_lines, set_lines};
+ghost use Rattle.report.specs.Report.{role_word as word_of_role, state_word as word_of_state, format_text};
+ghost use Rattle.report.specs.Report.{head_lines, set_lines};
 ghost use Rattle.report.specs.Report.{shape_line, table_line, use_line, slot_line, slot_lines, status_text};
 
 use crate::left::left_of;
+use layout_map::Format;
 use sector_model::Refusal;
 use std::alloc::{AllocError, Global};
 use superblock::State;
@@ -50,10 +52,21 @@ fn write_shape(text: &mut String, status: &Status) -> Result<(), AllocError>
     let chunk = status.chunk;
     let stripes = status.stripes;
     let rows = status.rows;
+    let format = format_word(status.format);
     writeln!(
         text,
-        "members {members} chunk {chunk} stripes {stripes} rows {rows}"
+        "members {members} chunk {chunk} stripes {stripes} rows {rows}{format}"
     )
+}
+
+// What is said of the format of a set.
+fn format_word(format: Format) -> &'static str
+    ensures { result.now ≡ format_text format }
+{
+    match format {
+        Format::One => "",
+        Format::Two => " format 2",
+    }
 }
 
 // Appends the line of the set's table.

@@ -4,10 +4,11 @@ ghost use Rattle.std.specs.Borrow.{Bor};
 ghost use Rattle.sector_model.specs.declared.refusal.Refusal.TheVariants.{Memory};
 ghost use Rattle.serde_json.specs.Data.{Members, put as with_member};
 ghost use Rattle.serde_json.specs.View.{view, members_view};
-ghost use Rattle.report.specs.Report.{left, slot_json, slots_json, status_json, whole};
+ghost use Rattle.report.specs.Report.{format_put, left, slot_json, slots_json, status_json, whole};
 
 use crate::left::left_of;
 use crate::text::{role_word, state_word};
+use layout_map::Format;
 use sector_model::Refusal;
 use serde_json::{Map, Value, json, put};
 use std::alloc::{AllocError, Global};
@@ -30,6 +31,7 @@ fn status_value(alloc: Global, status: &Status) -> Result<Value, AllocError>
 {
     let mut object = Map::new(alloc);
     put_numbers(&mut object, alloc, &numbers(status))?;
+    put_format(&mut object, alloc, status)?;
     let id = hex::encode(alloc, status.id)?;
     put(&mut object, alloc, "id", Value::String(id))?;
     let slots = slot_values(alloc, status)?;
@@ -75,6 +77,25 @@ pub(crate) fn put_numbers(
         put(object, alloc, key, Value::from(*number))?;
     }
     Ok(())
+}
+
+/// Puts what an object says of a set of format 2 alone into it: the format and the blocks of an extent.
+pub(crate) fn put_format(
+    object: &mut Map<String, Value>,
+    alloc: Global,
+    status: &Status,
+) -> Result<(), AllocError>
+    ensures { OnOk result (members_view object.new.entries
+        ≡ format_put status.now.format status.now.extent_blocks (members_view object.old.entries)) }
+{
+    match status.format {
+        Format::One => Ok(()),
+        Format::Two => put_numbers(
+            object,
+            alloc,
+            &[("extent_blocks", status.extent_blocks), ("format", 2)],
+        ),
+    }
 }
 
 // The objects of all slots, in order.

@@ -96,16 +96,16 @@ own_uncut (OnSet Scrub) refusal own is = cc
 module _ (honest then : Type 0) (so : honest → then) (id : List ℕ) (bank : BankView) (first last : StoreView) (opened : IsOpened honest id bank first)
     (event : Event)
     (answered : Reply) (applies : Applies then event first last answered) where
-  pub applied_on : (reply : Reply) (rows : ℕ) (IsWritten : List ℕ → Type 0) → reply ≡ answered → ((refusal : Refusal) → reply ≢ Refused refusal)
-      → rows ≡ row_count last.array.table → IsWritten (event_text rows reply) → AppliesOn honest id event bank IsWritten
-  applied_on reply rows IsWritten same done is written = record {
+  pub applied_on : (reply : Reply) (IsWritten : List ℕ → Type 0) → reply ≡ answered → ((refusal : Refusal) → reply ≢ Refused refusal)
+      → IsWritten (event_text last.array.table.geometry reply) → AppliesOn honest id event bank IsWritten
+  applied_on reply IsWritten same done written = record {
     first = first;
     last = last;
     reply = reply;
     opened = opened;
     applies = applies_for then honest event first last reply so (subst (λ (r : Reply). Applies then event first last r) (sym same) applies);
     done = done;
-    written = subst (λ (n : ℕ). IsWritten (event_text n reply)) is written;
+    written = written;
   }
 
   refuses : (refusal : Refusal) → answered ≡ Refused refusal → Applies then event first last (Refused refusal)
@@ -179,7 +179,7 @@ module _ (honest : Type 0) (id : List ℕ) (bank : BankView) (IsWritten : List �
           comes =
               subst (λ (r : Reply). Applies honest (OnSet (Fail slot)) does.first does.last r) is does.applies;
         },
-        subst (λ (r : Reply). IsWritten (event_text (row_count does.last.array.table) r)) is does.written,
+        subst (λ (r : Reply). IsWritten (event_text does.last.array.table.geometry r)) is does.written,
       )
 
   -- a slot was given a device
@@ -194,7 +194,7 @@ module _ (honest : Type 0) (id : List ℕ) (bank : BankView) (IsWritten : List �
           comes =
               subst (λ (r : Reply). Applies honest (OnSet (Replace slot)) does.first does.last r) is does.applies;
         },
-        subst (λ (r : Reply). IsWritten (event_text (row_count does.last.array.table) r)) is does.written,
+        subst (λ (r : Reply). IsWritten (event_text does.last.array.table.geometry r)) is does.written,
       )
 
   -- the rows were looked at
@@ -210,7 +210,7 @@ module _ (honest : Type 0) (id : List ℕ) (bank : BankView) (IsWritten : List �
         report = record { rows = rows; bad = bad; first_bad = first_bad };
         opened = does.opened;
         scrubs = subst (λ (r : Reply). Applies honest (OnSet Scrub) does.first does.last r) is does.applies;
-        written = subst (λ (r : Reply). IsWritten (event_text (row_count does.last.array.table) r)) is does.written;
+        written = subst (λ (r : Reply). IsWritten (event_text does.last.array.table.geometry r)) is does.written;
       }
 
   -- the table of volumes got version 2
@@ -224,7 +224,7 @@ module _ (honest : Type 0) (id : List ℕ) (bank : BankView) (IsWritten : List �
           comes =
               subst (λ (r : Reply). Applies honest (OnVolumes Upgrade) does.first does.last r) is does.applies;
         },
-        subst (λ (r : Reply). IsWritten (event_text (row_count does.last.array.table) r)) is does.written,
+        subst (λ (r : Reply). IsWritten (event_text does.last.array.table.geometry r)) is does.written,
       )
 
 -- an upgrade has no refusal of its own

@@ -79,12 +79,12 @@ fresh_slots a b c d e slots is first second third fourth fifth =
 
 -- ---- the set is made
 
-pub made_fresh : (id : List ℕ) (geometry : Geometry) (bank : BankView) (array : ArrayView) → id ≡ fresh_id → geometry.members ≡ 3 → geometry.chunk ≡ 8
+pub made_fresh : (id : List ℕ) (geometry : Geometry) (bank : BankView) (array : ArrayView) → id ≡ fresh_id → geometry.format ≡ One → geometry.members ≡ 3 → geometry.chunk ≡ 8
     → geometry.stripes ≡ 32
     → IsQuietBeyond id 5 bank → Makes (Unit {0}) id geometry bank (recovery.Opened array) → IsMadeFresh array
-made_fresh id geometry bank array is_id members chunk stripes quiet makes = record {
+made_fresh id geometry bank array is_id one members chunk stripes quiet makes = record {
   of_id = (makes.first array refl).of_id ∙ is_id;
-  of_format_one = makes.of_format_one array refl;
+  of_format_one = ap (λ (g : Geometry). g.format) same ∙ one;
   members = ap (λ (g : Geometry). g.members) same ∙ members;
   chunk = ap (λ (g : Geometry). g.chunk) same ∙ chunk;
   stripes = ap (λ (g : Geometry). g.stripes) same ∙ stripes;
@@ -99,19 +99,18 @@ made_fresh id geometry bank array is_id members chunk stripes quiet makes = reco
     five members is = omega (arith, is)
 
 -- the bank has enough slots, so that it is refused for two reasons alone
-make_refused_for : (geometry : Geometry) (panel : Panel) (refusal : Refusal) → geometry.format ≡ One → geometry.members ≡ 3 → panel.devices ≡ 5
+make_refused_for : (geometry : Geometry) (panel : Panel) (refusal : Refusal) → geometry.members ≡ 3 → panel.devices ≡ 5
     → IsNoMake geometry panel refusal → IsFreshRefusal refusal
-make_refused_for geometry panel BadGeometry one members five (inl other) = absurd (other one)
-make_refused_for geometry panel BadGeometry one members five (inr few) = absurd (omega (arith, members, five, few))
-make_refused_for geometry panel NotUsable one members five why = inr (inl refl)
-make_refused_for geometry panel Worn one members five why = inr (inr tt)
-make_refused_for geometry panel refusal one members five why = absurd why
+make_refused_for geometry panel BadGeometry members five few = absurd (omega (arith, members, five, few))
+make_refused_for geometry panel NotUsable members five why = inr (inl refl)
+make_refused_for geometry panel Worn members five why = inr (inr tt)
+make_refused_for geometry panel refusal members five why = absurd why
 
-pub make_refused : (id : List ℕ) (geometry : Geometry) (bank back : BankView) (refusal : Refusal) → geometry.format ≡ One → geometry.members ≡ 3
+pub make_refused : (id : List ℕ) (geometry : Geometry) (bank back : BankView) (refusal : Refusal) → geometry.members ≡ 3
     → bank.panel.devices ≡ 5
     → Makes (Unit {0}) id geometry bank (recovery.Returned back refusal) → IsFreshRefusal refusal
-make_refused id geometry bank back refusal one members five makes =
-    make_refused_for geometry back.panel refusal one members (makes.later.devices ∙ five) (makes.cause back refusal refl)
+make_refused id geometry bank back refusal members five makes =
+    make_refused_for geometry back.panel refusal members (makes.later.devices ∙ five) (makes.cause back refusal refl)
 
 -- ---- its store is opened
 
@@ -131,13 +130,19 @@ extents_are geometry one three eight more =
     (ap (λ (f : Format). extent_blocks f geometry.members geometry.chunk geometry.stripes) one)
     (count_is geometry.format geometry.members geometry.chunk geometry.stripes one three eight more)
 
+-- it shows no volume
+fresh_shows : (array : ArrayView) → IsMadeFresh array → ∥ Shows (extents_in array.table.geometry) (zeros_of array.table.geometry) (no_volumes One) ∥₁
+fresh_shows array fresh =
+    subst (λ (format : Format). ∥ Shows (extents_in array.table.geometry) (zeros_of array.table.geometry) (no_volumes format) ∥₁) fresh.of_format_one
+    (fresh_set_shows_none array.table.geometry)
+
 pub opened_fresh : (array : ArrayView) (store : StoreView) → IsMadeFresh array → Opens (Unit {0}) array (Opened store) → ∥ HasNoVolumes store ∥₁
-opened_fresh array store fresh opens = ∥∥₁_map (fresh_set_shows_none array.table.geometry fresh.of_format_one) by_shown
+opened_fresh array store fresh opens = ∥∥₁_map (fresh_shows array fresh) by_shown
   where
-    by_shown : Shows (extents_in array.table.geometry) (zeros_of array.table.geometry) no_volumes → HasNoVolumes store
+    by_shown : Shows (extents_in array.table.geometry) (zeros_of array.table.geometry) (no_volumes One) → HasNoVolumes store
     by_shown shows =
-        let after : IsSettledAfter None store no_volumes =
-        opens.settled tt None (zeros_of array.table.geometry) no_volumes fresh.rests shows store refl in record {
+        let after : IsSettledAfter None store (no_volumes One) =
+        opens.settled tt None (zeros_of array.table.geometry) (no_volumes One) fresh.rests shows store refl in record {
           of_id = (opens.goes_on store refl).not_older.same_id ∙ fresh.of_id;
           lost = after.lost;
           settled = after.settled;
@@ -149,8 +154,8 @@ opened_fresh array store fresh opens = ∥∥₁_map (fresh_set_shows_none array
 open_refused_for : (array : ArrayView) (bank : BankView) (refusal : Refusal) → IsMadeFresh array → IsNoOpening (Unit {0}) array bank refusal
     → IsFreshRefusal refusal
 open_refused_for array bank BadTable fresh why =
-    absurd (∥∥₁_elim (fresh_set_shows_none array.table.geometry fresh.of_format_one) (hlevel props)
-    (λ shows. why.0 tt None (zeros_of array.table.geometry) no_volumes fresh.rests shows))
+    absurd (∥∥₁_elim (fresh_shows array fresh) (hlevel props)
+    (λ shows. why.0 tt None (zeros_of array.table.geometry) (no_volumes One) fresh.rests shows))
 open_refused_for array bank TwoLost fresh why = inr (inr tt)
 open_refused_for array bank Worn fresh why = inr (inr tt)
 open_refused_for array bank refusal fresh why = absurd why
@@ -168,11 +173,11 @@ runs_fresh script first last was is told ran none = ∥∥₁_map none by_none
   where
     by_none : HasNoVolumes first → RunsFresh script was.contents is.contents
     by_none none =
-        let ends : EndsSettled ran.lines ran.replies first last no_volumes =
-        (script_keeps_volumes ran.lines ran.replies first last ran.serves none.lost no_volumes none.settled).1 in record {
+        let ends : EndsSettled ran.lines ran.replies first last (no_volumes One) =
+        (script_keeps_volumes ran.lines ran.replies first last ran.serves none.lost (no_volumes One) none.settled).1 in record {
           replies = ran.replies;
           after = ends.after;
-          runs = subst₂ (λ (extents : ExtentLayout) (lines : List (List ℕ)). Runs extents lines no_volumes ran.replies ends.after) none.extents
+          runs = subst₂ (λ (extents : ExtentLayout) (lines : List (List ℕ)). Runs extents lines (no_volumes One) ran.replies ends.after) none.extents
               (sym (ran.read script told).all) ends.runs;
           written = ran.written;
         }

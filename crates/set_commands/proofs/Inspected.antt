@@ -2,7 +2,9 @@
 use Rattle.std.proofs.Common.{◌≡◌, ◌≢◌, inl, inr, refl, sym, ◌∙◌, ap, subst, arith, ℕ, zero, suc, ◌+◌, ◌-◌, Bool, true, false, ◌||◌, List, [], ◌∷◌, ◌++◌}
 use Rattle.std.proofs.Common.{Option, Some, None, Ok}
 use Rattle.std.proofs.lemmas.List.{append_assoc, append-nil}
-use Rattle.serde_json.specs.Data.{Data}
+use Rattle.layout_map.specs.declared.format.Format.{Format}
+use Rattle.layout_map.specs.declared.format.Format.TheVariants.{One, Two}
+use Rattle.serde_json.specs.Data.{Data, object}
 use Rattle.serde_json.specs.View.{items_of}
 use Rattle.serde_json.specs.Written.{compact_text, has_float, items_have_float}
 use Rattle.recovery.specs.declared.examination.Examined.{Examined}
@@ -13,7 +15,9 @@ use Rattle.recovery.proofs.ExaminedSet.{lasts_by, outlook_still, slots_by}
 use Rattle.sector_model.specs.declared.refusal.Refusal.{Refusal}
 use Rattle.std.specs.Prelude.{Result}
 use Rattle.volume_table.specs.declared.status.Status.{Status}
-use Rattle.report.specs.Inspections.{IsStatusOf, entry_json, last_in, inspection_json, inspection_slot_json, inspection_slots_json, inspection_text}
+use Rattle.report.specs.Report.{members_of}
+use Rattle.report.specs.Inspections.{IsStatusOf, entry_json, last_in, inspection_json, inspection_pairs, inspection_slot_json, inspection_slots_json}
+use Rattle.report.specs.Inspections.{inspection_text}
 use Rattle.set_commands.specs.Healths.{HealthAbove, HealthAt}
 use Rattle.set_commands.specs.declared.serving.health.Health.{Health}
 use Rattle.set_commands.specs.Examining.{IsInspectionText, InspectsAbove, InspectsOne, Puts, inspection_told}
@@ -183,8 +187,13 @@ inspection_slots_no_float examined (suc slot) =
     items_no_float (inspection_slots_json examined slot) (inspection_slot_json examined slot) (inspection_slots_no_float examined slot)
     (inspection_slot_no_float examined slot)
 
+inspection_no_float_in : (format : Format) (status : Status) (examined : Examined)
+    → has_float (object (members_of (inspection_pairs format status examined))) ≡ false
+inspection_no_float_in One status examined = ap (λ (b : Bool). b || false) (inspection_slots_no_float examined (examined.table.geometry.members + 2))
+inspection_no_float_in Two status examined = ap (λ (b : Bool). b || false) (inspection_slots_no_float examined (examined.table.geometry.members + 2))
+
 inspection_no_float : (status : Status) (examined : Examined) → has_float (inspection_json status examined) ≡ false
-inspection_no_float status examined = ap (λ (b : Bool). b || false) (inspection_slots_no_float examined (examined.table.geometry.members + 2))
+inspection_no_float status examined = inspection_no_float_in status.format status examined
 
 -- JSON and a newline after it
 pub json_inspection : (examined : Examined) (json : Bool) (value : Data) (text : List ℕ) → json ≡ true

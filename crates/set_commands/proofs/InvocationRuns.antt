@@ -164,4 +164,4 @@ pub headline_of_the_program : HeadlineOfTheProgram
 headline_of_the_program id geometry bank array left makes quiet crashes invocations =
     ∥∥₁_map (headline id geometry bank array left makes quiet (runs.unopened crashes)
     (runs_of array.table.id array.panel.devices (slots_of array.table) invocations))
-    (keep array.table.id (extents_in array.table.geometry) array.panel.devices (slots_of array.table) nothing_before invocations)
+    (keep array.table.id (extents_in array.table.geometry) array.panel.devices (slots_of array.table) (nothing_before array.table.geometry.format) invocations)

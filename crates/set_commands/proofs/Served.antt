@@ -13,10 +13,12 @@ use Rattle.volume_table.specs.Stands.{StoreView}
 use Rattle.volume_table.specs.StoreFunctions.{TellsStatus}
 use Rattle.volume_table.specs.VolumeStep.{Refused, Reply}
 use Rattle.volume_table.specs.declared.status.Status.{Status}
-use Rattle.serde_json.specs.Data.{Data}
+use Rattle.layout_map.specs.declared.format.Format.{Format}
+use Rattle.layout_map.specs.declared.format.Format.TheVariants.{One, Two}
+use Rattle.serde_json.specs.Data.{Data, object}
 use Rattle.serde_json.specs.View.{items_of}
 use Rattle.serde_json.specs.Written.{compact_text, has_float, items_have_float}
-use Rattle.report.specs.Report.{slot_json, slots_json, status_json}
+use Rattle.report.specs.Report.{members_of, slot_json, slots_json, status_json, status_pairs}
 use Rattle.volume_table.proofs.RunChains.{applies_for}
 use Rattle.set_commands.specs.Run.{AreAllOf, AreReadWhole, HasAnswered, HasRun, IsScriptRefusal, StoppedByStore, StoppedReading, StoppedWriting, Streams}
 use Rattle.report.specs.Script.{Answers, Serves, none_read, then_read}
@@ -286,8 +288,12 @@ slots_no_float : (status : Status) (slots : ℕ) → items_have_float (items_of 
 slots_no_float status zero = refl
 slots_no_float status (suc slot) = items_no_float (slots_json status slot) (slot_json status slot) (slots_no_float status slot) refl
 
+no_float_in : (format : Format) (status : Status) → has_float (object (members_of (status_pairs format status))) ≡ false
+no_float_in One status = ap (λ (b : Bool). b || false) (slots_no_float status (status.members + 2))
+no_float_in Two status = ap (λ (b : Bool). b || false) (slots_no_float status (status.members + 2))
+
 no_float : (status : Status) → has_float (status_json status) ≡ false
-no_float status = ap (λ (b : Bool). b || false) (slots_no_float status (status.members + 2))
+no_float status = no_float_in status.format status
 
 -- the text of the value, and the newline after it
 pub json_told : (status : Status) (json : Bool) (value : Data) (text pushed : List ℕ) → json ≡ true → value ≡ status_json status

@@ -23,14 +23,14 @@ module _ (honest then : Type 0) (so : honest → then) (id : List ℕ) (bank : B
   on Comes comes = record { first = first; last = last; opened = opened; comes = comes }
 
   pub rebuilt_on : (steps : Option ℕ) (progress : Progress) (rows : ℕ) (IsWritten : List ℕ → Type 0) → Rebuilds then steps first last (Ok progress)
-      → rows ≡ row_count last.array.table → IsWritten (progress_line rows progress) → RebuildsOn honest id steps bank IsWritten
+      → rows ≡ row_count last.array.table → IsWritten (progress_line last.array.table.geometry.format rows progress) → RebuildsOn honest id steps bank IsWritten
   rebuilt_on steps progress rows IsWritten rebuilds is written = record {
     first = first;
     last = last;
     progress = progress;
     opened = opened;
     rebuilds = rebuilds_for then honest steps first last (Ok progress) so rebuilds;
-    written = subst (λ (n : ℕ). IsWritten (progress_line n progress)) is written;
+    written = subst (λ (n : ℕ). IsWritten (progress_line last.array.table.geometry.format n progress)) is written;
   }
 
   pub rebuild_stopped : (steps : Option ℕ) (refusal : Refusal) → Rebuilds then steps first last (Err refusal) → StopsRebuildingOn honest id steps bank refusal

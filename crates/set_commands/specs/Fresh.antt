@@ -56,14 +56,14 @@ pub record IsMadeFresh (array : ArrayView) : Type 0 where
 pub record HasNoVolumes (store : StoreView) : Type 0 where
   pub of_id : store.array.table.id ≡ fresh_id
   pub lost : Option Lost
-  pub settled : IsSettledOn store lost no_volumes
+  pub settled : IsSettledOn store lost (no_volumes One)
   pub extents : extents_for_store store ≡ fresh_extents
 
 -- the script ran to its end, from no volumes
 pub record RunsFresh (script : List ℕ) (old new : Option (List ℕ)) : Type 0 where
   pub replies : List Reply
   pub after : VolumeMap
-  pub runs : Runs fresh_extents (lines_of script) no_volumes replies after
+  pub runs : Runs fresh_extents (lines_of script) (no_volumes One) replies after
   pub written : Appends old new (texts_of replies)
 
 -- what the making of the set in memory can be refused with

@@ -185,4 +185,5 @@ HeadlineOfTheProgram = (id : List ℕ) (geometry : Geometry) (bank : BankView) (
     → Makes (Unit {0}) id geometry bank (recovery.Opened array) → IsQuietBeyond id (geometry.members + 2) bank
     → Crashes (slots_of array.table) nothing_lost.lost nothing_lost array.history array.history left
     → (invocations : Invocations array.table.id array.panel.devices (slots_of array.table) left)
-    → ∥ InvocationsKeep array.table.id (extents_in array.table.geometry) array.panel.devices (slots_of array.table) nothing_before invocations ∥₁
+    → ∥ InvocationsKeep array.table.id (extents_in array.table.geometry) array.panel.devices (slots_of array.table)
+    (nothing_before array.table.geometry.format) invocations ∥₁

@@ -4,6 +4,8 @@ use Rattle.std.specs.Io.KnownBytes.{Appends}
 use Rattle.sector_model.specs.declared.refusal.Refusal.{Refusal}
 use Rattle.sector_model.specs.declared.refusal.Refusal.TheVariants.{BadTable, Incomplete, Memory, NoSet, NotMissing, NothingToRebuild, NotUsable, ReadFault}
 use Rattle.sector_model.specs.declared.refusal.Refusal.TheVariants.{WouldLose, WriteFault}
+use Rattle.layout_map.specs.declared.geometry.Geometry.{Geometry}
+use Rattle.layout_map.specs.Placement.{rows_of}
 use Rattle.array_io.specs.Believed.Holds.{row_count}
 use Rattle.array_io.specs.Believed.Views.{ArrayView, EndsIt}
 use Rattle.recovery.specs.Making as recovery
@@ -92,11 +94,11 @@ pub record TellsPartOn (honest : Type 0) (id : List ℕ) (bank : BankView) (json
   pub told : StatusOn honest id bank status
   pub written : AppendsPart was is (told_text json status)
 
--- the text of what an event is answered; a member has so many rows
-abbrev pub event_text : (rows : ℕ) → Reply → List ℕ
-event_text rows (Progressed progress) = progress_line rows progress
-event_text rows (Scrubbed all bad first_bad) = scrub_line (record { rows = all; bad = bad; first_bad = first_bad })
-event_text rows reply = reply_text reply
+-- the text of what an event is answered on a set of this geometry
+abbrev pub event_text : Geometry → Reply → List ℕ
+event_text geometry (Progressed progress) = progress_line geometry.format (rows_of geometry.chunk geometry.stripes) progress
+event_text geometry (Scrubbed all bad first_bad) = scrub_line (record { rows = all; bad = bad; first_bad = first_bad })
+event_text geometry reply = reply_text reply
 
 -- an event was done, and what it answered is a text of which this holds
 pub record AppliesOn (honest : Type 0) (id : List ℕ) (event : Event) (bank : BankView) (IsWritten : List ℕ → Type 0) : Type 0 where
@@ -106,7 +108,7 @@ pub record AppliesOn (honest : Type 0) (id : List ℕ) (event : Event) (bank : B
   pub opened : IsOpened honest id bank first
   pub applies : Applies honest event first last reply
   pub done : (refusal : Refusal) → reply ≢ Refused refusal
-  pub written : IsWritten (event_text (row_count last.array.table) reply)
+  pub written : IsWritten (event_text last.array.table.geometry reply)
 
 -- an event was refused
 abbrev pub RefusesOn : (honest : Type 0) (id : List ℕ) (event : Event) (bank : BankView) → Refusal → Type 0
@@ -127,7 +129,7 @@ pub record RebuildsOn (honest : Type 0) (id : List ℕ) (steps : Option ℕ) (ba
   pub progress : Progress
   pub opened : IsOpened honest id bank first
   pub rebuilds : Rebuilds honest steps first last (Ok progress)
-  pub written : IsWritten (progress_line (row_count last.array.table) progress)
+  pub written : IsWritten (progress_line last.array.table.geometry.format (row_count last.array.table) progress)
 
 -- steps of a rebuild were made, the last of which was refused
 abbrev pub StopsRebuildingOn : (honest : Type 0) (id : List ℕ) (steps : Option ℕ) (bank : BankView) → Refusal → Type 0

@@ -8,7 +8,7 @@ mod script;
 mod serving;
 
 pub use law::{headline_of_the_program, law_of_invocations, law_of_scripts};
-pub use progress::{Left, Meter, ProgressBank, in_words, percent, time_left};
+pub use progress::{Left, Meter, ProgressBank, Speed, average_speed, in_words, percent, time_left};
 pub use script::run_script;
 pub use serving::fresh::serve_fresh;
 pub use serving::{

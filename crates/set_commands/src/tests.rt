@@ -64,9 +64,19 @@ fn fresh_store(rt: &(impl Abort + AllocGlobal), stripes: u32) -> Store<MemBank> 
 /// The same with this id.
 fn fresh_store_of(rt: &(impl Abort + AllocGlobal), id: [u8; 16], stripes: u32) -> Store<MemBank> {
     let geometry = Geometry::new(3, 8, stripes).expect(rt, "a geometry");
+    fresh_store_on(rt, id, geometry)
+}
+
+/// The same of this geometry, of 3 members.
+fn fresh_store_on(
+    rt: &(impl Abort + AllocGlobal),
+    id: [u8; 16],
+    geometry: Geometry,
+) -> Store<MemBank> {
     let member = geometry.rows() as usize + 8;
+    let journal = geometry.format.journal_sectors() as usize;
     let mut slots = Vec::new(rt.alloc());
-    for sectors in [member, member, member, 520, 520] {
+    for sectors in [member, member, member, journal, journal] {
         let disk = vec![in rt.alloc(); [0; 512]; sectors].expect(rt, "memory");
         slots.push(Some(disk)).expect(rt, "memory");
     }

@@ -5,7 +5,7 @@ use crate::testing::{all, front, same};
 use array_io::Array;
 use array_io::oracle::logical_in;
 use extents::{ExtentLayout, Owned};
-use layout_map::Geometry;
+use layout_map::{Format, Geometry};
 use rebuild::Progress;
 use recovery::{assemble, make};
 use scrub::ScrubReport;
@@ -27,6 +27,7 @@ mod events;
 mod every_call;
 mod failures;
 mod file_calls;
+mod large;
 mod memory;
 mod mixed;
 mod rebuild_failures;
@@ -46,14 +47,14 @@ const ID: [u8; 16] = [0, 1, 2, 3, 4, 5, 6, 7, 8, 9, 10, 11, 12, 13, 14, 15];
 /// A store over devices in memory.
 pub(crate) type TestStore = Store<MemBank>;
 
-/// Members, chunk and stripes.
-pub(crate) type Shape = (u8, u16, u32);
+/// Format, members, chunk and stripes.
+pub(crate) type Shape = (Format, u8, u16, u32);
 
 /// 256 rows, 512 data sectors and 7 extents.
-pub(crate) const SET_A: Shape = (3, 8, 32);
+pub(crate) const SET_A: Shape = (Format::One, 3, 8, 32);
 
 /// 96 rows, 192 data sectors and 2 extents.
-pub(crate) const SMALL: Shape = (3, 8, 12);
+pub(crate) const SMALL: Shape = (Format::One, 3, 8, 12);
 
 /// No slot of these sets, which have five to seven.
 pub(crate) const NO_SLOT: usize = 10;
@@ -103,7 +104,7 @@ pub(crate) enum Step<'a> {
     /// So does the event of a call.
     Apply(Call<'a>, Answer<'a>),
     /// A call answers so, and makes so many reads (with what failed), writes with flushes, and entries. For sets of 3
-    /// members and 256 rows.
+    /// members.
     Makes(Call<'a>, Answer<'a>, [u64; 3]),
     /// The store lists these volumes and no other, and reads their blocks so, one by one.
     Holds(Volumes<'a>),
@@ -216,12 +217,24 @@ fn check_bytes(rt: &impl Abort, number: usize, sectors: &[Sector], first: usize,
     }
 }
 
+/// The geometry of a set of this shape.
+pub(crate) fn geometry_of(rt: &impl Abort, shape: Shape) -> Geometry {
+    let (format, members, chunk, stripes) = shape;
+    let geometry = Geometry::of_format(format, members, chunk, stripes);
+    geometry.expect(rt, "a shape")
+}
+
 // Blank devices, as long as a set needs them.
 fn blank_devices(rt: &(impl Abort + AllocGlobal), geometry: &Geometry) -> Image {
     let mut slots = Vec::new(rt.alloc());
     let member = (geometry.rows() as usize).saturating_add(8);
+    let journal = geometry.format.journal_sectors() as usize;
     for slot in 0..geometry.members.saturating_add(2) {
-        let sectors = if slot < geometry.members { member } else { 520 };
+        let sectors = if slot < geometry.members {
+            member
+        } else {
+            journal
+        };
         let disk = vec![in rt.alloc(); [0; 512]; sectors].expect(rt, "memory");
         slots.push(Some(disk)).expect(rt, "memory");
     }
@@ -241,7 +254,7 @@ fn opened(rt: &impl Abort, array: Array<MemBank>) -> TestStore {
 
 /// A store over a set of this shape that was just made: the calls of `make` are its bank's first.
 pub(crate) fn fresh_store(rt: &(impl Abort + AllocGlobal), shape: Shape) -> TestStore {
-    let geometry = Geometry::new(shape.0, shape.1, shape.2).expect(rt, "a shape");
+    let geometry = geometry_of(rt, shape);
     let bank = bank_of(rt, blank_devices(rt, &geometry));
     let entry = Entry::new(rt.alloc()).expect(rt, "memory");
     let array = make(bank, entry, ID, geometry);
@@ -488,11 +501,12 @@ pub(crate) fn check_missing(rt: &impl Abort, store: &TestStore, number: usize, m
 }
 
 // How many calls were made, how many writes and flushes there still is room for, and the number of the last entry, as
-// the seals of both journals of set A have it; 0 where there is none.
-fn counts(rt: &(impl Abort + AllocGlobal), bank: &MemBank) -> (u64, u64, u64) {
+// the seals of both journals of a set of 3 members have it; 0 where there is none.
+fn counts(rt: &(impl Abort + AllocGlobal), store: &TestStore) -> (u64, u64, u64) {
+    let bank = store.bank();
     let image = image_now(rt, bank);
     assert!(rt; image.slots.len() == 5);
-    let geometry = Geometry::new(SET_A.0, SET_A.1, SET_A.2).expect(rt, "a shape");
+    let geometry = store.array.table.geometry;
     let lower = last_sealed_in(&image.slots[3], &ID, &geometry).map_or(0, |seal| seal.number);
     let upper = last_sealed_in(&image.slots[4], &ID, &geometry).map_or(0, |seal| seal.number);
     same(rt, lower, upper);
@@ -507,9 +521,9 @@ fn check_made(
     answer: Answer,
     made: [u64; 3],
 ) {
-    let before = counts(rt, store.bank());
+    let before = counts(rt, store);
     check_call(rt, store, number, call, answer);
-    let after = counts(rt, store.bank());
+    let after = counts(rt, store);
     let calls = after.0.saturating_sub(before.0);
     let writes = before.1.saturating_sub(after.1);
     let got = [

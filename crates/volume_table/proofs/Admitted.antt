@@ -17,7 +17,7 @@ use Rattle.extents.specs.declared.record.Record.{Record}
 use Rattle.extents.specs.declared.volume_table.VolumeTable.{VolumeTable}
 use Rattle.extents.specs.ExtentMaps.{free_of}
 use Rattle.extents.specs.Names.{IsGoodName}
-use Rattle.extents.specs.VolumeTables.{HasRecord, IsRecordFor, extents_for, record_of}
+use Rattle.extents.specs.VolumeTables.{HasRecord, IsRecordFor, extents_for, most_blocks, record_of}
 use Rattle.extents.proofs.Tables.{some_within}
 use Rattle.volume_table.specs.Names.{is_good_name}
 use Rattle.extents.specs.Versions.{most_name_bytes, most_volumes}
@@ -35,7 +35,6 @@ use Rattle.volume_table.proofs.ReadLemmas.{absent_is_shown, length_is_shown}
 use Rattle.volume_table.proofs.ShowsLemmas.{distinct_names, good_names}
 use Rattle.volume_table.proofs.TableSizes.{few_volumes}
 use Rattle.volume_table.proofs.VolumeLemmas.{need-with_other}
-use Rattle.extents.specs.declared.record.TheConstants.{MOST_BLOCKS}
 use Rattle.volume_table.specs.declared.event.TheConstants.{MOST_BLOCKS_AT_ONCE}
 use Rattle.extents.specs.declared.volume_table.TheConstants.{MOST_VOLUMES}
 
@@ -170,13 +169,13 @@ made_name version made name same good short =
     record { good = subst IsGoodName same good; short = subst (λ (n : List ℕ). length n ≤ most_name_bytes version) same short }
 
 -- a size that may not be
-size_is_bad : (count : ℕ) → (count ≡ 0) ⊎ (MOST_BLOCKS < count) → is_bad_size MOST_BLOCKS count ≡ true
-size_is_bad count bad = ⊎_elim (λ none. or_left (count == 0) (nat_lt MOST_BLOCKS count) (eq-eqb count 0 none))
-    (λ above. or_right (count == 0) (nat_lt MOST_BLOCKS count) (lt-ltb MOST_BLOCKS count above)) bad
+size_is_bad : (most count : ℕ) → (count ≡ 0) ⊎ (most < count) → is_bad_size most count ≡ true
+size_is_bad most count bad = ⊎_elim (λ none. or_left (count == 0) (nat_lt most count) (eq-eqb count 0 none))
+    (λ above. or_right (count == 0) (nat_lt most count) (lt-ltb most count above)) bad
 
-size_is_good : (count : ℕ) → 1 ≤ count → count ≤ MOST_BLOCKS → is_bad_size MOST_BLOCKS count ≡ false
-size_is_good count least most = or_from (count == 0) (nat_lt MOST_BLOCKS count) (ne_eqb count 0 (λ none. omega (arith, least, none)))
-    (le-ltb MOST_BLOCKS count most)
+size_is_good : (most count : ℕ) → 1 ≤ count → count ≤ most → is_bad_size most count ≡ false
+size_is_good most count least within = or_from (count == 0) (nat_lt most count) (ne_eqb count 0 (λ none. omega (arith, least, none)))
+    (le-ltb most count within)
 
 -- what an admission decides where extents lie so, it decides in a set whose extents lie so
 pub decided_by : (refused : Option Refusal) (table : VolumeTable) (owners : List (Option Owned)) (command : Command) (extents its : ExtentLayout)
@@ -283,16 +282,16 @@ volumes_are_fewer extents table sectors volumes number by unused =
     )
 
 -- a new volume may have this name and so many blocks
-pub record IsGoodNew (version : ℕ) (name : List ℕ) (count : ℕ) : Type 0 where
+pub record IsGoodNew (extents : ExtentLayout) (version : ℕ) (name : List ℕ) (count : ℕ) : Type 0 where
   pub its_name : IsNameOf version name
   pub least : 1 ≤ count
-  pub most : count ≤ MOST_BLOCKS
+  pub most : count ≤ most_blocks extents.blocks
 
 -- a name that a table may have is one that its volumes may have
 pub new_by : (extents : ExtentLayout) (table : VolumeTable) (sectors : List Block) (volumes : VolumeMap) (name : List ℕ) (count : ℕ)
     → ShowsBy extents table sectors volumes
-    → IsGoodNew table.version name count → IsGoodNew volumes.version name count
-new_by extents table sectors volumes name count by new = subst (λ (v : ℕ). IsGoodNew v name count) (version_by extents table sectors volumes by) new
+    → IsGoodNew extents table.version name count → IsGoodNew extents volumes.version name count
+new_by extents table sectors volumes name count by new = subst (λ (v : ℕ). IsGoodNew extents v name count) (version_by extents table sectors volumes by) new
 
 pub name_by : (extents : ExtentLayout) (table : VolumeTable) (sectors : List Block) (volumes : VolumeMap) (name : List ℕ)
     → ShowsBy extents table sectors volumes
@@ -313,28 +312,28 @@ creation_long_name extents table sectors volumes name count by long =
     creation_bad_name extents name count volumes (λ is. omega (arith, long, same, is.short))
 
 pub creation_bad_size : (extents : ExtentLayout) (name : List ℕ) (count : ℕ) (volumes : VolumeMap) → IsNameOf volumes.version name
-    → (count ≡ 0) ⊎ (MOST_BLOCKS < count)
+    → (count ≡ 0) ⊎ (most_blocks extents.blocks < count)
     → Some BadSize ≡ refusal_of extents (Create name count) volumes
 creation_bad_size extents name count volumes is bad =
     sym (cond-false (not (is_good_name volumes.version name)) (Some BadName) _ (name_is_good volumes.version name is)
-    ∙ cond-true (is_bad_size MOST_BLOCKS count) (Some BadSize) _ (size_is_bad count bad))
+    ∙ cond-true (is_bad_size (most_blocks extents.blocks) count) (Some BadSize) _ (size_is_bad (most_blocks extents.blocks) count bad))
 
 -- what a creation is refused with where name and size are good
-good_new : (extents : ExtentLayout) (name : List ℕ) (count : ℕ) (volumes : VolumeMap) → IsGoodNew volumes.version name count
+good_new : (extents : ExtentLayout) (name : List ℕ) (count : ℕ) (volumes : VolumeMap) → IsGoodNew extents volumes.version name count
     → refusal_of extents (Create name count) volumes
     ≡ first_refusal ((is_some (blocks_of name volumes.volumes), Exists) ∷ (nat_le (most_volumes volumes.version) (length volumes.volumes), TooManyVolumes)
     ∷ (nat_lt extents.count (need extents.blocks volumes.volumes + extents_for extents.blocks count), NoSpace) ∷ [])
 good_new extents name count volumes new =
     cond-false (not (is_good_name volumes.version name)) (Some BadName) _ (name_is_good volumes.version name new.its_name)
-    ∙ cond-false (is_bad_size MOST_BLOCKS count) (Some BadSize) _ (size_is_good count new.least new.most)
+    ∙ cond-false (is_bad_size (most_blocks extents.blocks) count) (Some BadSize) _ (size_is_good (most_blocks extents.blocks) count new.least new.most)
 
-pub creation_exists : (extents : ExtentLayout) (name : List ℕ) (long count : ℕ) (volumes : VolumeMap) → IsGoodNew volumes.version name count
+pub creation_exists : (extents : ExtentLayout) (name : List ℕ) (long count : ℕ) (volumes : VolumeMap) → IsGoodNew extents volumes.version name count
     → HasLength name long volumes.volumes
     → Some Exists ≡ refusal_of extents (Create name count) volumes
 creation_exists extents name long count volumes new has =
     sym (good_new extents name count volumes new ∙ cond-true (is_some (blocks_of name volumes.volumes)) (Some Exists) _ (ap is_some has.found))
 
-pub creation_full : (extents : ExtentLayout) (name : List ℕ) (count : ℕ) (volumes : VolumeMap) → IsGoodNew volumes.version name count
+pub creation_full : (extents : ExtentLayout) (name : List ℕ) (count : ℕ) (volumes : VolumeMap) → IsGoodNew extents volumes.version name count
     → blocks_of name volumes.volumes ≡ None
     → most_volumes volumes.version ≤ length volumes.volumes → Some TooManyVolumes ≡ refusal_of extents (Create name count) volumes
 creation_full extents name count volumes new none full =
@@ -351,7 +350,8 @@ pub record HasRoomFor (name : List ℕ) (volumes : VolumeMap) : Type 0 where
   pub fewer : length volumes.volumes < most_volumes volumes.version
 
 -- what it is refused with there
-room_for_one : (extents : ExtentLayout) (name : List ℕ) (count : ℕ) (volumes : VolumeMap) → IsGoodNew volumes.version name count → HasRoomFor name volumes
+room_for_one : (extents : ExtentLayout) (name : List ℕ) (count : ℕ) (volumes : VolumeMap) → IsGoodNew extents volumes.version name count
+    → HasRoomFor name volumes
     → refusal_of extents (Create name count) volumes ≡ cond (nat_lt extents.count (need extents.blocks volumes.volumes + extents_for extents.blocks count))
     (Some NoSpace) None
 room_for_one extents name count volumes new room =
@@ -360,7 +360,7 @@ room_for_one extents name count volumes new room =
     ∙ cond-false (nat_le (most_volumes volumes.version) (length volumes.volumes)) (Some TooManyVolumes) _
     (lt-leb (most_volumes volumes.version) (length volumes.volumes) room.fewer)
 
-pub creation_no_space : (extents : ExtentLayout) (free : ℕ) (name : List ℕ) (count : ℕ) (volumes : VolumeMap) → IsGoodNew volumes.version name count
+pub creation_no_space : (extents : ExtentLayout) (free : ℕ) (name : List ℕ) (count : ℕ) (volumes : VolumeMap) → IsGoodNew extents volumes.version name count
     → HasRoomFor name volumes
     → free + need extents.blocks volumes.volumes ≡ extents.count → free < extents_for extents.blocks count
     → Some NoSpace ≡ refusal_of extents (Create name count) volumes
@@ -369,7 +369,7 @@ creation_no_space extents free name count volumes new room all less =
     sym (room_for_one extents name count volumes new room
     ∙ cond-true (nat_lt extents.count needed) (Some NoSpace) None (lt-ltb extents.count needed (omega (arith, all, less))))
 
-pub creation_admitted : (extents : ExtentLayout) (free : ℕ) (name : List ℕ) (count : ℕ) (volumes : VolumeMap) → IsGoodNew volumes.version name count
+pub creation_admitted : (extents : ExtentLayout) (free : ℕ) (name : List ℕ) (count : ℕ) (volumes : VolumeMap) → IsGoodNew extents volumes.version name count
     → HasRoomFor name volumes
     → free + need extents.blocks volumes.volumes ≡ extents.count → extents_for extents.blocks count ≤ free
     → None ≡ refusal_of extents (Create name count) volumes
@@ -380,16 +380,17 @@ creation_admitted extents free name count volumes new room all fits =
 
 -- a new record may be put
 pub may_create_at : (extents : ExtentLayout) (table : VolumeTable) (owners : List (Option Owned)) (number : ℕ) (entry : Record) (name : List ℕ)
-    → IsFirstUnused table.version table.records number → 1 ≤ entry.blocks
+    → IsFirstUnused table.version table.records number → 1 ≤ entry.blocks → entry.blocks ≤ most_blocks extents.blocks
     → entry.name.bytes.items ≡ name → length name ≤ most_name_bytes table.version → (HasRecord table.records name → ⊥)
     → extents_for extents.blocks entry.blocks ≤ free_of owners
     → MayGrowTo extents table.version table.records owners number 0 entry
-may_create_at extents table owners number entry name unused least named short none fits =
+may_create_at extents table owners number entry name unused least most named short none fits =
     record {
       of_table = unused.of_table;
       short = subst (λ (n : List ℕ). length n ≤ most_name_bytes table.version) (sym named) short;
       from = subst (λ o. IsGrownFrom o 0 entry) (sym unused.unused) refl;
       more = least;
+      most = most;
       apart = λ other one used same. absurd (none (record { number = other; entry = one; used = used; named = same ∙ named }));
       fits = omega (arith, fits);
     }
@@ -397,14 +398,16 @@ may_create_at extents table owners number entry name unused least named short no
 -- a record may be put with more blocks
 pub may_extend_at : (extents : ExtentLayout) (table : VolumeTable) (owners : List (Option Owned)) (number first : ℕ) (entry : Record) (name : List ℕ)
     → IsRecordFor table.records name number first
-    → first < entry.blocks → entry.name.bytes.items ≡ name → extents_for extents.blocks entry.blocks ≤ extents_for extents.blocks first + free_of owners
+    → first < entry.blocks → entry.blocks ≤ most_blocks extents.blocks → entry.name.bytes.items ≡ name
+    → extents_for extents.blocks entry.blocks ≤ extents_for extents.blocks first + free_of owners
     → MayGrowTo extents table.version table.records owners number first entry
-may_extend_at extents table owners number first entry name found more named fits =
+may_extend_at extents table owners number first entry name found more most named fits =
     record {
       of_table = used_is_of_version table number found.entry found.used;
       short = subst (λ (n : List ℕ). length n ≤ most_name_bytes table.version) (found.named ∙ sym named) (used_is_short table number found.entry found.used);
       from = subst (λ o. IsGrownFrom o first entry) (sym found.used) (found.as_long, found.named ∙ sym named);
       more = more;
+      most = most;
       apart = λ other one used same. distinct_names table.version table.records table.extents table.is_table other number one found.entry used found.used
           (same ∙ named ∙ sym found.named);
       fits = fits;
@@ -425,33 +428,33 @@ grown_need extents name long growth volumes are has =
     ∙ ap (λ n. need extents.blocks volumes.volumes + extents_for extents.blocks n) new_long
 
 pub extension_bad_size : (extents : ExtentLayout) (name : List ℕ) (long growth : ℕ) (volumes : VolumeMap) → HasLength name long volumes.volumes → (growth ≡ 0)
-    ⊎ (MOST_BLOCKS < long + growth)
+    ⊎ (most_blocks extents.blocks < long + growth)
     → Some BadSize ≡ refusal_of extents (Extend name growth) volumes
 extension_bad_size extents name long growth volumes has bad =
     let all = length (blocks_in name volumes.volumes) + growth in
     let as_long = long_blocks name long volumes.volumes has in
     sym (
     cond-false (has_no_volume name volumes.volumes) (Some NoVolume) _ (is_there name long volumes.volumes has)
-    ∙ cond-true (growth == 0 || nat_lt MOST_BLOCKS all) (Some BadSize) _
-    (⊎_elim (λ none. or_left (growth == 0) (nat_lt MOST_BLOCKS all) (eq-eqb growth 0 none))
-    (λ above. or_right (growth == 0) (nat_lt MOST_BLOCKS all) (lt-ltb MOST_BLOCKS all (omega (arith, above, as_long)))) bad)
+    ∙ cond-true (growth == 0 || nat_lt (most_blocks extents.blocks) all) (Some BadSize) _
+    (⊎_elim (λ none. or_left (growth == 0) (nat_lt (most_blocks extents.blocks) all) (eq-eqb growth 0 none))
+    (λ above. or_right (growth == 0) (nat_lt (most_blocks extents.blocks) all) (lt-ltb (most_blocks extents.blocks) all (omega (arith, above, as_long)))) bad)
     )
 
 -- what it is refused with where the size is good
 good_growth : (extents : ExtentLayout) (name : List ℕ) (long growth : ℕ) (volumes : VolumeMap) → HasLength name long volumes.volumes → 1 ≤ growth
-    → long + growth ≤ MOST_BLOCKS
+    → long + growth ≤ most_blocks extents.blocks
     → refusal_of extents (Extend name growth) volumes ≡ cond (nat_lt extents.count (need extents.blocks (changed (Extend name growth) volumes.volumes)))
     (Some NoSpace) None
 good_growth extents name long growth volumes has least most =
     let all = length (blocks_in name volumes.volumes) + growth in
     let as_long = long_blocks name long volumes.volumes has in
     cond-false (has_no_volume name volumes.volumes) (Some NoVolume) _ (is_there name long volumes.volumes has)
-    ∙ cond-false (growth == 0 || nat_lt MOST_BLOCKS all) (Some BadSize) _
-    (or_from (growth == 0) (nat_lt MOST_BLOCKS all) (ne_eqb growth 0 (λ none. omega (arith, least, none)))
-    (le-ltb MOST_BLOCKS all (omega (arith, most, as_long))))
+    ∙ cond-false (growth == 0 || nat_lt (most_blocks extents.blocks) all) (Some BadSize) _
+    (or_from (growth == 0) (nat_lt (most_blocks extents.blocks) all) (ne_eqb growth 0 (λ none. omega (arith, least, none)))
+    (le-ltb (most_blocks extents.blocks) all (omega (arith, most, as_long))))
 
 pub extension_no_space : (extents : ExtentLayout) (free : ℕ) (name : List ℕ) (long growth : ℕ) (volumes : VolumeMap) → AreVolumes extents volumes
-    → HasLength name long volumes.volumes → 1 ≤ growth → long + growth ≤ MOST_BLOCKS
+    → HasLength name long volumes.volumes → 1 ≤ growth → long + growth ≤ most_blocks extents.blocks
     → free + need extents.blocks volumes.volumes ≡ extents.count → extents_for extents.blocks long + free < extents_for extents.blocks (long + growth)
     → Some NoSpace ≡ refusal_of extents (Extend name growth) volumes
 extension_no_space extents free name long growth volumes are has least most all less =
@@ -461,7 +464,7 @@ extension_no_space extents free name long growth volumes are has least most all 
     ∙ cond-true (nat_lt extents.count needed) (Some NoSpace) None (lt-ltb extents.count needed above))
 
 pub extension_admitted : (extents : ExtentLayout) (free : ℕ) (name : List ℕ) (long growth : ℕ) (volumes : VolumeMap) → AreVolumes extents volumes
-    → HasLength name long volumes.volumes → 1 ≤ growth → long + growth ≤ MOST_BLOCKS
+    → HasLength name long volumes.volumes → 1 ≤ growth → long + growth ≤ most_blocks extents.blocks
     → free + need extents.blocks volumes.volumes ≡ extents.count → extents_for extents.blocks (long + growth) ≤ extents_for extents.blocks long + free
     → None ≡ refusal_of extents (Extend name growth) volumes
 extension_admitted extents free name long growth volumes are has least most all fits =

@@ -30,7 +30,6 @@ use Rattle.volume_table.specs.ListChanges.{ChangesList}
 use Rattle.volume_table.proofs.GrownTables.{record_here}
 use Rattle.volume_table.proofs.GrownVolumes.{IsGrowth, created_is_shown, is_growth, shown_on_the_way}
 use Rattle.volume_table.proofs.StoreSteps.{done_with_volumes, ended_with_volumes, refused_at_once}
-use Rattle.extents.specs.declared.record.TheConstants.{MOST_BLOCKS}
 use Rattle.extents.specs.declared.volume_table.TheConstants.{MOST_VOLUMES}
 
 -- a list that shows volumes by a table begins with its spelling
@@ -43,9 +42,10 @@ pub record HasGrown (honest : Type 0) (old new : StoreView) (owners owners' : Li
   pub kept : AreKept (extents_for_store old) old.keeps owners
   pub kept_then : AreKept (extents_for_store new) new.keeps owners'
   pub version : new.keeps.version ≡ old.keeps.version
+  pub dirty : new.keeps.dirty ≡ old.keeps.dirty
   pub may : MayGrowTo (extents_for_store old) old.keeps.version old.keeps.records owners number first entry
   pub records : new.keeps.records ≡ slice_set old.keeps.records number (Some entry)
-  pub taken : IsTaken owners owners' number (extents_for (extents_for_store old).blocks entry.blocks - extents_for (extents_for_store old).blocks first)
+  pub taken : IsTaken old.keeps.dirty owners owners' number (extents_for (extents_for_store old).blocks entry.blocks - extents_for (extents_for_store old).blocks first)
   pub changes : ChangesList honest (entry.blocks - first + 1) (MayGrow (extents_for_store old) old.keeps new.keeps number first entry.blocks)
       (Grows (extents_for_store old) old.keeps new.keeps number first entry.blocks) old.array new.array result
   pub going : old.ended ≡ None
@@ -57,7 +57,8 @@ module _ (honest : Type 0) (old new : StoreView) (owners owners' : List (Option 
     (grown : HasGrown honest old new owners owners' number first entry result) where
   pub growth : IsGrowth (extents_for_store old) old.keeps new.keeps number first entry
   growth = is_growth (extents_for_store old) old.keeps new.keeps owners owners' number first
-      (extents_for (extents_for_store old).blocks entry.blocks - extents_for (extents_for_store old).blocks first) entry grown.version
+      (extents_for (extents_for_store old).blocks entry.blocks - extents_for (extents_for_store old).blocks first) entry grown.version grown.dirty
+      (omega (arith, grown.may.more))
       (omega (arith, table_all_records old.keeps.records old.keeps.extents old.keeps.is_table, grown.may.of_table, most_volumes_most old.keeps.version))
       grown.kept
       (subst (λ (geometry : Geometry). AreKept (extents_in geometry) new.keeps owners') grown.changes.goes_on.not_older.same_geometry grown.kept_then)
@@ -67,14 +68,14 @@ module _ (honest : Type 0) (old new : StoreView) (owners owners' : List (Option 
 pub growing_applies : (honest : Type 0) (command : Command) (old new : StoreView) (owners owners' : List (Option Owned)) (number first : ℕ) (entry : Record)
     (result : Answer)
     → HasGrown honest old new owners owners' number first entry result → HasBlocks command → IsOfItsKind command Done
-    → ((volumes : VolumeMap) → Done ≡ answer command volumes.volumes) → entry.blocks ≤ MOST_BLOCKS
+    → ((volumes : VolumeMap) → Done ≡ answer command volumes.volumes)
     → ((sectors : List Block) (volumes : VolumeMap) → ShowsBy (extents_for_store old) old.keeps sectors volumes
     → None ≡ refusal_of (extents_for_store old) command volumes)
     → ((V W : List Block) (volumes : VolumeMap) → ShowsBy (extents_for_store old) old.keeps V volumes
     → IsGrown (extents_for_store old) new.keeps number first entry.blocks V W
     → ShowsBy (extents_for_store old) new.keeps W (done command volumes))
     → Applies honest (OnVolumes command) old new (done_reply result)
-growing_applies honest command old new owners owners' number first entry result grown whole kind answers most admitted shows = by_result result grown
+growing_applies honest command old new owners owners' number first entry result grown whole kind answers admitted shows = by_result result grown
   where
     on_the_way : (V W : List Block) (volumes : VolumeMap) → ShowsBy (extents_for_store old) old.keeps V volumes
         → MayGrow (extents_for_store old) old.keeps new.keeps number first entry.blocks V W
@@ -89,14 +90,14 @@ growing_applies honest command old new owners owners' number first entry result 
         → Applies honest (OnVolumes command) old new (done_reply result)
     by_result (Ok unit) is =
         done_with_volumes honest command (entry.blocks - first + 1) (MayGrow (extents_for_store old) old.keeps new.keeps number first entry.blocks)
-        (Grows (extents_for_store old) old.keeps new.keeps number first entry.blocks) old new Done whole (omega (arith, most)) is.going (is.goes refl)
+        (Grows (extents_for_store old) old.keeps new.keeps number first entry.blocks) old new Done whole (omega (arith, is.may.most)) is.going (is.goes refl)
         is.true_to is.changes kind
         admitted
         (λ fair lost V volumes rests by. answers volumes) on_the_way
         (λ V W volumes by leaves. shows V W volumes by (leaves (begins_with (extents_for_store old) old.keeps V volumes by)))
     by_result (Err refusal) is =
         ended_with_volumes honest command (entry.blocks - first + 1) (MayGrow (extents_for_store old) old.keeps new.keeps number first entry.blocks)
-        (Grows (extents_for_store old) old.keeps new.keeps number first entry.blocks) old new refusal whole (omega (arith, most)) is.going
+        (Grows (extents_for_store old) old.keeps new.keeps number first entry.blocks) old new refusal whole (omega (arith, is.may.most)) is.going
         (is.ends refusal refl) is.true_to is.changes
         admitted on_the_way
 
@@ -104,12 +105,12 @@ growing_applies honest command old new owners owners' number first entry result 
 pub create_applies : (honest : Type 0) (name : List ℕ) (count : ℕ) (old new : StoreView) (owners owners' : List (Option Owned)) (number first : ℕ)
     (entry : Record) (result : Answer)
     → HasGrown honest old new owners owners' number first entry result → record_of old.keeps.records number ≡ None → entry.name.bytes.items ≡ name
-    → entry.blocks ≡ count → entry.blocks ≤ MOST_BLOCKS
+    → entry.blocks ≡ count
     → ((sectors : List Block) (volumes : VolumeMap) → ShowsBy (extents_for_store old) old.keeps sectors volumes
     → None ≡ refusal_of (extents_for_store old) (Create name count) volumes)
     → CreatesVolume honest name count old new result
-create_applies honest name count old new owners owners' number first entry result grown unused named same_count most admitted =
-    growing_applies honest (Create name count) old new owners owners' number first entry result grown tt refl (λ volumes. refl) most admitted shows
+create_applies honest name count old new owners owners' number first entry result grown unused named same_count admitted =
+    growing_applies honest (Create name count) old new owners owners' number first entry result grown tt refl (λ volumes. refl) admitted shows
   where
     none_first : first ≡ 0
     none_first = subst (λ (r : Option Record). IsGrownFrom r first entry) unused grown.may.from

@@ -13,7 +13,7 @@ use Rattle.extents.specs.declared.extent_layout.ExtentLayout.{ExtentLayout}
 use Rattle.extents.specs.ExtentMaps.{place_of, sector_of_block}
 use Rattle.extents.specs.declared.volume_table.VolumeTable.{VolumeTable}
 use Rattle.extents.specs.Owners.{IsAt, HasPlaces}
-use Rattle.extents.specs.VolumeTables.{HasRecord, HaveTheirPlaces, IsRecordFor, extents_for, extents_of, record_of}
+use Rattle.extents.specs.VolumeTables.{HasRecord, HaveTheirPlaces, IsRecordFor, extents_for, extents_of, most_blocks, record_of}
 use Rattle.extents.proofs.Blocks.{place_is_below}
 use Rattle.extents.proofs.TableLaws.{fills}
 use Rattle.extents.specs.TableSpelling.{Spell}
@@ -98,8 +98,8 @@ is_found extents sectors volumes name number count table shows same found =
     let used : record_of shows.table.records number ≡ Some found.entry = ap (λ (t : VolumeTable). record_of t.records number) (sym same) ∙ found.used in
     let was : IsOfVolume extents shows.table.extents sectors volumes.volumes number found.entry = shows.shown.used number found.entry used in
     let is : blocks_of name volumes.volumes ≡ Some was.blocks = ap (λ n. blocks_of n volumes.volumes) (sym found.named) ∙ was.named in
-    let volume : IsVolume volumes.version (record { name = name; blocks = was.blocks }) =
-    found_has (IsVolume volumes.version) name volumes.volumes was.blocks shows.limits.each is in
+    let volume : IsVolume (most_blocks extents.blocks) volumes.version (record { name = name; blocks = was.blocks }) =
+    found_has (IsVolume (most_blocks extents.blocks) volumes.version) name volumes.volumes was.blocks shows.limits.each is in
     record {
       blocks = was.blocks;
       is = is;

@@ -29,11 +29,10 @@ use Rattle.volume_table.specs.StoreCalls.{extents_for_store}
 use Rattle.volume_table.specs.StoreChanges.{IsGrown}
 use Rattle.volume_table.specs.StoreFunctions.{ExtendsVolume}
 use Rattle.volume_table.proofs.CreatedVolumes.{HasGrown, growing_applies, growth}
-use Rattle.volume_table.proofs.GrownVolumes.{IsGrowth, changes_one, done_reply, entry_used, new_block, old_block, shows_by}
+use Rattle.volume_table.proofs.GrownVolumes.{IsGrowth, changes_one, done_reply, entry_used, new_block, still_clean, old_block, shows_by}
 use Rattle.volume_table.proofs.StepLemmas.{changed_if_done}
 use Rattle.volume_table.proofs.StoreSteps.{refused_at_once}
 use Rattle.volume_table.proofs.TableLemmas.{extend_is_shown}
-use Rattle.extents.specs.declared.record.TheConstants.{MOST_BLOCKS}
 
 -- an extent that the volume had at a place is the one that it has there in the new table
 old_extent : (extents : ExtentLayout) (old new : VolumeTable) (number first : ℕ) (entry one : Record) (j extent : ℕ)
@@ -75,8 +74,9 @@ extended_is_shown extents old new number entry one growth_by V W volumes growth 
         blocks,
       );
       stand = stands;
-    }))
-    grown.put.spelled
+    }
+    (still_clean extents t new number one.blocks entry growth' entry.blocks V W grown refl by.shows.clean)))
+    grown.put.spelled growth.of_set
   where
     growth' : IsGrowth extents by.shows.table new number one.blocks entry
     growth' = subst (λ (table : VolumeTable). IsGrowth extents table new number one.blocks entry) (sym by.by) growth
@@ -111,7 +111,8 @@ extended_is_shown extents old new number entry one growth_by V W volumes growth 
             long,
           ) in
           let below : k < growth_by = omega (arith, past, within, its_long) in
-          new_block extents by.shows.table new number one.blocks entry growth' entry.blocks V W grown j extent past (omega (arith, within, its_long, blocks)) at
+          new_block extents by.shows.table new number one.blocks entry growth' entry.blocks V W grown j extent past (omega (arith, within, its_long, blocks))
+          by.shows.clean at
           ∙ sym (ap (λ (n : ℕ). get_or (blocks_in one.name.bytes.items volumes.volumes ++ zero_blocks growth_by) n []) (omega (arith, past, long) ∙ refl)
           ∙ get_or-append-add (blocks_in one.name.bytes.items volumes.volumes) (zero_blocks growth_by) k []
           ∙ get_or-replicate {A = Block} growth_by k zero_block [] below)
@@ -121,13 +122,13 @@ extended_is_shown extents old new number entry one growth_by V W volumes growth 
 applies_to : (honest : Type 0) (name : List ℕ) (growth_by : ℕ) (old new : StoreView) (owners owners' : List (Option Owned)) (number first : ℕ) (entry : Record)
     (result : Answer)
     → HasGrown honest old new owners owners' number first entry result → IsRecordFor old.keeps.records name number first → entry.name.bytes.items ≡ name
-    → entry.blocks ≡ first + growth_by → entry.blocks ≤ MOST_BLOCKS
+    → entry.blocks ≡ first + growth_by
     → ((sectors : List Block) (volumes : VolumeMap) → ShowsBy (extents_for_store old) old.keeps sectors volumes
     → None ≡ refusal_of (extents_for_store old) (Extend name growth_by) volumes)
     → ((V W : List Block) (volumes : VolumeMap) → ShowsBy (extents_for_store old) old.keeps V volumes
     → IsGrown (extents_for_store old) new.keeps number first entry.blocks V W
     → ShowsBy (extents_for_store old) new.keeps W (done (Extend name growth_by) volumes))
-applies_to honest name growth_by old new owners owners' number first entry result grown found named blocks most admitted V W volumes by is =
+applies_to honest name growth_by old new owners owners' number first entry result grown found named blocks admitted V W volumes by is =
     let one : Record = found.entry in
     let first_is : first ≡ one.blocks = sym found.as_long in
     subst (λ (n : List ℕ). ShowsBy (extents_for_store old) new.keeps W (done (Extend n growth_by) volumes)) found.named
@@ -155,14 +156,14 @@ found_for records name number first found = by_record (record_of records number)
 pub extend_applies : (honest : Type 0) (name : List ℕ) (growth_by : ℕ) (old new : StoreView) (owners owners' : List (Option Owned)) (number first : ℕ)
     (entry : Record) (result : Answer)
     → HasGrown honest old new owners owners' number first entry result → ∥ IsRecordFor old.keeps.records name number first ∥₁ → entry.name.bytes.items ≡ name
-    → entry.blocks ≡ first + growth_by → entry.blocks ≤ MOST_BLOCKS
+    → entry.blocks ≡ first + growth_by
     → ((sectors : List Block) (volumes : VolumeMap) → ShowsBy (extents_for_store old) old.keeps sectors volumes
     → None ≡ refusal_of (extents_for_store old) (Extend name growth_by) volumes)
     → ExtendsVolume honest name growth_by old new result
-extend_applies honest name growth_by old new owners owners' number first entry result grown found named blocks most admitted =
-    growing_applies honest (Extend name growth_by) old new owners owners' number first entry result grown tt refl (λ volumes. refl) most admitted
+extend_applies honest name growth_by old new owners owners' number first entry result grown found named blocks admitted =
+    growing_applies honest (Extend name growth_by) old new owners owners' number first entry result grown tt refl (λ volumes. refl) admitted
     (applies_to honest name growth_by old new owners owners' number first entry result grown (found_for old.keeps.records name number first found) named blocks
-    most admitted)
+    admitted)
 
 -- What an extend is refused with at once does not end the store.
 not_ended : (refusal : Refusal) → Contains (NoVolume ∷ BadSize ∷ NoSpace ∷ []) refusal → ¬ EndsIt refusal

@@ -1,6 +1,6 @@
 -- The table of volumes and the map of its extents, when a volume gets extents, when it gives its own back, and when it gets another name.
-use Rattle.std.proofs.Common.{◌≡◌, ◌≢◌, ◌⊎◌, inl, inr, ⊎_elim, ℕ, ◌+◌, ◌-◌, ◌<◌, ◌≤◌, List, length, take, slice_set, Option, Some, None, refl, sym, ap, true}
-use Rattle.volume_table.proofs.TableLemmas.{any_version}
+use Rattle.std.proofs.Common.{◌≡◌, ◌≢◌, ◌⊎◌, inl, inr, ⊎_elim, ℕ, ◌+◌, ◌-◌, ◌<◌, ◌≤◌, Bool, List, length, take, slice_set, Option, Some, None, refl, sym, ap, true}
+use Rattle.extents.specs.Checks.{AreCleanBeyond}
 use Rattle.extents.specs.Versions.{is_version_of}
 use Rattle.std.proofs.Common.{◌∙◌, subst, Ok, Err, arith}
 use Rattle.std.proofs.Props.{props}
@@ -21,7 +21,7 @@ use Rattle.extents.specs.declared.volume_table.VolumeTable.{VolumeTable}
 use Rattle.extents.specs.ExtentMaps.{IsExtentMap, IsTaken, IsGivenBack, count_of, free_of, place_of}
 use Rattle.extents.specs.ExtentLaws.{TakingKeeps}
 use Rattle.extents.specs.Owners.{owner_of, HasPlaces}
-use Rattle.extents.specs.VolumeTables.{record_of, extents_for, extents_of, AreDistinct, AreOfVersion, HaveTheirPlaces, IsShort, IsVolumeTable}
+use Rattle.extents.specs.VolumeTables.{record_of, extents_for, extents_of, AreDistinct, AreOfVersion, HaveTheirPlaces, IsMarked, IsShort, IsVolumeTable}
 use Rattle.extents.specs.VolumeTables.{owners_padded}
 use Rattle.extents.specs.TableSpelling.{Spell}
 use Rattle.extents.specs.Versions.{most_name_bytes, most_volumes, table_length}
@@ -68,11 +68,12 @@ kept_is_map extents table owners kept is_table =
 -- a map of so many extents is that of the table whose owners are its own
 kept_by_owners : (extents : ExtentLayout) (table : VolumeTable) (owners : List (Option Owned)) → length owners ≡ extents.count
     → table.extents ≡ owners_padded owners → ∥ HaveTheirPlaces extents.blocks table.records (owners_padded owners) ∥₁
-    → is_version_of extents.format table.version ≡ true → AreKept extents table owners
-kept_by_owners extents table owners long same placed version = record {
+    → is_version_of extents.format table.version ≡ true → AreCleanBeyond table.version table.dirty extents.count → AreKept extents table owners
+kept_by_owners extents table owners long same placed version clean = record {
   same = sym (take_padded owners) ∙ ap (λ n. take n (owners_padded owners)) long ∙ ap (take extents.count) (sym same);
   of_set = record {
     version = version;
+    clean_beyond = clean;
     free_beyond = λ extent beyond.
         ap (λ (its : List (Option Owned)). owner_of its extent) same ∙ owner_padded owners extent
         ∙ get_or_past owners extent None (omega (arith, beyond, long));
@@ -82,13 +83,28 @@ kept_by_owners extents table owners long same placed version = record {
 
 -- it is so where the table has got its owners from the map, and the set's table may have changed, but not its geometry
 pub kept_after : (geometry later : Geometry) (table new : VolumeTable) (owners other : List (Option Owned)) (records : List (Option Record))
+    → new.version ≡ table.version → AreCleanBeyond table.version new.dirty (extents_in geometry).count
     → AreKept (extents_in geometry) table owners → length other ≡ length owners → new.extents ≡ owners_padded other → new.records ≡ records
     → ∥ HaveTheirPlaces (extents_in geometry).blocks records (owners_padded other) ∥₁ → later ≡ geometry → AreKept (extents_in later) new other
-kept_after geometry later table new owners other records kept as_long same same_records placed is =
+kept_after geometry later table new owners other records same_version clean kept as_long same same_records placed is =
     subst (λ (its : Geometry). AreKept (extents_in its) new other) (sym is)
     (kept_by_owners (extents_in geometry) new other (as_long ∙ kept_length (extents_in geometry) table owners kept) same
     (subst (λ (its : List (Option Record)). ∥ HaveTheirPlaces (extents_in geometry).blocks its (owners_padded other) ∥₁) (sym same_records) placed)
-    (any_version (extents_in geometry).format table.version new.version kept.of_set.version))
+    (ap (is_version_of (extents_in geometry).format) same_version ∙ kept.of_set.version)
+    (subst (λ (v : ℕ). AreCleanBeyond v new.dirty (extents_in geometry).count) (sym same_version) clean))
+
+-- the flags of a table are those of one that has the same
+pub clean_as_before : (geometry : Geometry) (table new : VolumeTable) (owners : List (Option Owned)) → new.dirty ≡ table.dirty
+    → AreKept (extents_in geometry) table owners → AreCleanBeyond table.version new.dirty (extents_in geometry).count
+clean_as_before geometry table new owners same kept =
+    subst (λ (dirty : List Bool). AreCleanBeyond table.version dirty (extents_in geometry).count) (sym same) kept.of_set.clean_beyond
+
+-- and of one in which the extents of a volume are dirty besides
+pub clean_but_marked : (geometry : Geometry) (table new : VolumeTable) (owners : List (Option Owned)) (number : ℕ)
+    → IsMarked table.extents number table.dirty new.dirty
+    → AreKept (extents_in geometry) table owners → AreCleanBeyond table.version new.dirty (extents_in geometry).count
+clean_but_marked geometry table new owners number marked kept tells extent beyond below =
+    marked.others extent (λ place at. none-some _ (sym (kept.of_set.free_beyond extent beyond) ∙ at)) ∙ kept.of_set.clean_beyond tells extent beyond below
 
 -- the owners of a map, and free extents after them, are a map
 padded_is_map : (owners : List (Option Owned)) → IsExtentMap owners → IsExtentMap (owners_padded owners)
@@ -124,7 +140,6 @@ of_version_with version records number entry are long below numbered short = rec
     | inl same ↦ subst (IsShort version) (sym (ap (record_of (slice_set records number entry)) same ∙ record_here records number entry long below)) short
     | inr apart ↦ subst (IsShort version) (sym (record_else records number volume entry apart)) (are.short volume)
   ];
-  sized = λ volume used is. used.most;
 }
 
 -- the owners of a map and the records of a table, one of them changed, make a table
@@ -218,7 +233,7 @@ grown_enough extents version records owners number first n entry may so_many = o
 taken_places_of : (extents : ExtentLayout) (table : VolumeTable) (owners new : List (Option Owned)) (number first n : ℕ) (entry : Record)
     → AreKept extents table owners → HaveTheirPlaces extents.blocks table.records table.extents
     → IsVolumeTable table.version table.records table.extents → MayGrowTo extents table.version table.records owners number first entry
-    → n ≡ extents_for extents.blocks entry.blocks - extents_for extents.blocks first → IsTaken owners new number n
+    → n ≡ extents_for extents.blocks entry.blocks - extents_for extents.blocks first → IsTaken table.dirty owners new number n
     → HasPlaces new number (extents_for extents.blocks entry.blocks)
 taken_places_of extents table owners new number first n entry kept placed is_table may so_many taken =
     let had = extents_of extents.blocks (record_of table.records number) in
@@ -228,7 +243,7 @@ taken_places_of extents table owners new number first n entry kept placed is_tab
     may.from in
     let more : extents_for extents.blocks first ≤ extents_for extents.blocks entry.blocks =
     more_take_more extents.blocks first entry.blocks extents.limits.some (omega (arith, may.more)) in
-    let keeps : TakingKeeps owners new number n = taking_keeps owners new number n (kept_is_map extents table owners kept is_table)
+    let keeps : TakingKeeps table.dirty owners new number n = taking_keeps table.dirty owners new number n (kept_is_map extents table owners kept is_table)
     (grown_below extents table.version table.records owners number first entry may)
     (grown_enough extents table.version table.records owners number first n entry may so_many) taken in
     subst (λ m. HasPlaces new number m) (omega (arith, count, was, so_many, more)) keeps.places
@@ -236,7 +251,7 @@ taken_places_of extents table owners new number first n entry kept placed is_tab
 pub grown_is_table : (extents : ExtentLayout) (table : VolumeTable) (owners new : List (Option Owned)) (number first n : ℕ) (entry : Record)
     → AreKept extents table owners
     → MayGrowTo extents table.version table.records owners number first entry
-    → n ≡ extents_for extents.blocks entry.blocks - extents_for extents.blocks first → IsTaken owners new number n
+    → n ≡ extents_for extents.blocks entry.blocks - extents_for extents.blocks first → IsTaken table.dirty owners new number n
     → ∥ IsVolumeTable table.version (slice_set table.records number (Some entry)) (owners_padded new) ∥₁
 grown_is_table extents table owners new number first n entry kept may so_many taken =
     ∥∥₁_elim table.is_table (hlevel props) (λ is_table. ∣ by_table is_table ∣₁)
@@ -248,7 +263,7 @@ grown_is_table extents table owners new number first n entry kept may so_many ta
         → IsVolumeTable table.version (slice_set table.records number (Some entry)) (owners_padded new)
     by_table is_table =
         table_with table.version table.records table.extents new number (Some entry) is_table below
-        (taking_keeps owners new number n (kept_is_map extents table owners kept is_table) below
+        (taking_keeps table.dirty owners new number n (kept_is_map extents table owners kept is_table) below
         (grown_enough extents table.version table.records owners number first n entry may so_many) taken).map
         (inr may.of_table) (λ used same. subst (λ (one : Record). length one.name.bytes.items ≤ most_name_bytes table.version) (same_Some entry used same)
         may.short)
@@ -258,21 +273,21 @@ grown_is_table extents table owners new number first n entry kept may so_many ta
 pub grown_has_places : (extents : ExtentLayout) (table : VolumeTable) (owners new : List (Option Owned)) (number first n : ℕ) (entry : Record)
     → AreKept extents table owners
     → MayGrowTo extents table.version table.records owners number first entry
-    → n ≡ extents_for extents.blocks entry.blocks - extents_for extents.blocks first → IsTaken owners new number n
+    → n ≡ extents_for extents.blocks entry.blocks - extents_for extents.blocks first → IsTaken table.dirty owners new number n
     → ∥ HaveTheirPlaces extents.blocks (slice_set table.records number (Some entry)) (owners_padded new) ∥₁
 grown_has_places extents table owners new number first n entry kept may so_many taken =
     ∥∥₁_elim table.is_table (hlevel props) (λ is_table. ∥∥₁_elim kept.of_set.placed (hlevel props) (λ placed.
     ∣ placed_with extents.blocks table.records table.extents new number (Some entry) is_table.all_records
     (grown_below extents table.version table.records owners number first entry may) placed
     (taken_places_of extents table owners new number first n entry kept placed is_table may so_many taken)
-    (λ other m apart has. taken_others owners new number (count_of owners number) n other m taken apart
+    (λ other m apart has. taken_others table.dirty owners new number n taken other m apart
     (places_by_owner table.extents owners other m (kept_owner extents table owners kept) has)) ∣₁))
 
 -- each of the new blocks has an extent
 pub grown_is_placed : (extents : ExtentLayout) (table : VolumeTable) (owners new : List (Option Owned)) (number first n : ℕ) (entry : Record)
     → AreKept extents table owners
     → MayGrowTo extents table.version table.records owners number first entry
-    → n ≡ extents_for extents.blocks entry.blocks - extents_for extents.blocks first → IsTaken owners new number n
+    → n ≡ extents_for extents.blocks entry.blocks - extents_for extents.blocks first → IsTaken table.dirty owners new number n
     → AllPlaced extents new number first entry.blocks
 grown_is_placed extents table owners new number first n entry kept may so_many taken block least below =
     found_place new number (place_of extents block)
@@ -375,12 +390,14 @@ partly_by_owner {extents} owners other number first last before now same partly 
   each = λ sector. ⊎_elim inl (λ cleared. inr (cleared.0, blocks_by_owner owners other number first last sector same cleared.1)) (partly.each sector);
 }
 
-zeroed_by_owner : {extents : ExtentLayout} (owners other : List (Option Owned)) (number first last : ℕ) (before now : List Block)
+zeroed_by_owner : {extents : ExtentLayout} (dirty : List Bool) (owners other : List (Option Owned)) (number first last : ℕ) (before now : List Block)
     → ((extent : ℕ) → owner_of other extent ≡ owner_of owners extent)
-    → IsZeroed extents owners number first last before now → IsZeroed extents other number first last before now
-zeroed_by_owner {extents} owners other number first last before now same zeroed = record {
+    → IsZeroed extents dirty owners number first last before now → IsZeroed extents dirty other number first last before now
+unfolding blocks_by_owner
+zeroed_by_owner {extents} dirty owners other number first last before now same zeroed = record {
   partly = partly_by_owner owners other number first last before now same zeroed.partly;
-  zero = λ sector is. zeroed.zero sector (blocks_by_owner other owners number first last sector (λ extent. sym (same extent)) is);
+  zero = λ sector is is_dirty_extent.
+      zeroed.zero sector (blocks_by_owner other owners number first last sector (λ extent. sym (same extent)) is) is_dirty_extent;
 }
 
 -- the blocks lie after the table
@@ -399,13 +416,13 @@ may_grow_first {extents} old table owners number first last same V W partly from
 
 grown_after : {extents : ExtentLayout} (table : VolumeTable) (owners : List (Option Owned)) (number first last : ℕ)
     → ((extent : ℕ) → owner_of table.extents extent ≡ owner_of owners extent)
-    → (V U W : List Block) → IsZeroed extents owners number first last V U → HasTable table U W → IsGrown extents table number first last V W
+    → (V U W : List Block) → IsZeroed extents table.dirty owners number first last V U → HasTable table U W → IsGrown extents table number first last V W
 grown_after {extents} table owners number first last same V U W zeroed has =
-    record { mid = U; zeroed = zeroed_by_owner owners table.extents number first last V U same zeroed; put = has }
+    record { mid = U; zeroed = zeroed_by_owner table.dirty owners table.extents number first last V U same zeroed; put = has }
 
 may_grow_then : {extents : ExtentLayout} (old table : VolumeTable) (owners : List (Option Owned)) (number first last : ℕ)
     → ((extent : ℕ) → owner_of table.extents extent ≡ owner_of owners extent)
-    → (V U W : List Block) → IsZeroed extents owners number first last V U → MayPutTable old table U W → MayGrow extents old table number first last V W
+    → (V U W : List Block) → IsZeroed extents table.dirty owners number first last V U → MayPutTable old table U W → MayGrow extents old table number first last V W
 may_grow_then {extents} old table owners number first last same V U W zeroed put from =
     elim (put (partly_keeps_table old owners number first last V U zeroed.partly from)) [
       | inl is ↦ inl (subst (IsPartlyZero extents table.extents number first last V) (sym is)
@@ -415,7 +432,7 @@ may_grow_then {extents} old table owners number first last same V U W zeroed put
 
 grows_then : {extents : ExtentLayout} (old table : VolumeTable) (owners : List (Option Owned)) (number first last : ℕ)
     → ((extent : ℕ) → owner_of table.extents extent ≡ owner_of owners extent)
-    → (V U W : List Block) → IsZeroed extents owners number first last V U → PutsTable old table U W → Grows extents old table number first last V W
+    → (V U W : List Block) → IsZeroed extents table.dirty owners number first last V U → PutsTable old table U W → Grows extents old table number first last V W
 grows_then {extents} old table owners number first last same V U W zeroed put from =
     grown_after table owners number first last same V U W zeroed (put (partly_keeps_table old owners number first last V U zeroed.partly from))
 
@@ -428,13 +445,13 @@ table_owner table owners same extent = ap (λ (its : List (Option Owned)). owner
 pub zeroed_then_put : (extents : ExtentLayout) (honest still : Type 0) → (honest → still)
     → (before table : VolumeTable) (owners : List (Option Owned)) (number first last : ℕ) (old mid new : ArrayView) (answer : Answer)
     → table.extents ≡ owners_padded owners → (honest → IsTrueTo mid.panel mid.history)
-    → ChangesList honest (last - first) (IsPartlyZero extents owners number first last) (IsZeroed extents owners number first last) old mid
+    → ChangesList honest (last - first) (IsPartlyZero extents owners number first last) (IsZeroed extents table.dirty owners number first last) old mid
     (Ok tt)
     → ChangesList still 1 (MayPutTable before table) (PutsTable before table) mid new answer
     → ChangesList honest (last - first + 1) (MayGrow extents before table number first last) (Grows extents before table number first last) old new answer
 zeroed_then_put extents honest still fair before table owners number first last old mid new answer is_map true_to zeroes puts =
     let same = table_owner table owners is_map in
-    changes_both honest still fair (last - first) 1 (IsPartlyZero extents owners number first last) (IsZeroed extents owners number first last)
+    changes_both honest still fair (last - first) 1 (IsPartlyZero extents owners number first last) (IsZeroed extents table.dirty owners number first last)
     (MayPutTable before table) (PutsTable before table)
     (MayGrow extents before table number first last) (Grows extents before table number first last) old mid new answer true_to zeroes puts
     (may_grow_first before table owners number first last same) (may_grow_then before table owners number first last same)
@@ -445,12 +462,12 @@ pub zeroed_in_part : (extents : ExtentLayout) (honest : Type 0) (before table : 
     (old new : ArrayView)
     (refusal : Refusal)
     → table.extents ≡ owners_padded owners
-    → ChangesList honest (last - first) (IsPartlyZero extents owners number first last) (IsZeroed extents owners number first last) old new
+    → ChangesList honest (last - first) (IsPartlyZero extents owners number first last) (IsZeroed extents table.dirty owners number first last) old new
     (Err refusal)
     → ChangesList honest (last - first + 1) (MayGrow extents before table number first last) (Grows extents before table number first last) old new
     (Err refusal)
 zeroed_in_part extents honest before table owners number first last old new refusal is_map zeroes =
     changes_refused honest (last - first) (last - first + 1) (IsPartlyZero extents owners number first last)
-    (IsZeroed extents owners number first last)
+    (IsZeroed extents table.dirty owners number first last)
     (MayGrow extents before table number first last) (Grows extents before table number first last) old new refusal (omega arith) zeroes
     (may_grow_first before table owners number first last (table_owner table owners is_map))

@@ -91,16 +91,18 @@ run_without_memory honest events store acks goes = record {
 
 -- a status that the table of the array and the table of volumes tell is that of each store that goes on
 pub status_is_told : TablesHaveOneSpelling → (store : StoreView) → store.ended ≡ None
-    → TellsStatus store (Ok (status_by store (row_count store.array.table) (extents_for_store store).count
+    → TellsStatus store (Ok (status_by store (row_count store.array.table) (extents_for_store store).blocks (extents_for_store store).count
     ((extents_for_store store).count - records_need (extents_for_store store).blocks store.keeps.records) (used_records store.keeps.records)
     store.keeps.version))
 status_is_told one_spelling store goes =
-    counts_told store (row_count store.array.table) (extents_for_store store).count
+    counts_told store (row_count store.array.table) (extents_for_store store).blocks (extents_for_store store).count
     ((extents_for_store store).count - records_need (extents_for_store store).blocks store.keeps.records)
-    (used_records store.keeps.records) store.keeps.version goes refl refl counted
+    (used_records store.keeps.records) store.keeps.version goes refl refl refl counted
   where
     same_table : (those : VolumeMap) (lost : Option Lost) (rests : IsSettledOn store lost those) → rests.shown.table ≡ store.keeps
-    same_table those lost rests = one_spelling rests.logical rests.shown.table store.keeps rests.shown.spelled rests.spelled
+    same_table those lost rests =
+        one_spelling (extents_for_store store).format rests.logical rests.shown.table store.keeps rests.shown.of_set.version rests.of_format
+        rests.shown.spelled rests.spelled
 
     counted : (lost : Option Lost) (those : VolumeMap) → IsSettledOn store lost those
         → ((extents_for_store store).count - records_need (extents_for_store store).blocks store.keeps.records ≡ (extents_for_store store).count - need

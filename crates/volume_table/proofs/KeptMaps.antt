@@ -76,7 +76,7 @@ within_is_placed extents table owners name number at count kept within block lea
     let there = (placed number).extent_at (place_of extents block) (omega (arith, many, its)) in
     ∣ (there.0, kept_owner extents table owners kept there.0 ∙ there.1) ∣₁)))
 
--- they are 1 to 32, and end by 65,536
+-- they are 1 to 32, and end by the most blocks of a volume
 pub within_least : (records : List (Option Record)) (name : List ℕ) (number at count : ℕ) → ∥ IsWithinVolume records name number at count ∥₁ → 1 ≤ count
 within_least records name number at count within = ∥∥₁_elim within (hlevel props) (λ it. it.least)
 

@@ -1,5 +1,6 @@
 pub mod Admitted
 pub mod Assembled
+pub mod CleanExtents
 pub mod CountLemmas
 pub mod CreatedVolumes
 pub mod Evaluated

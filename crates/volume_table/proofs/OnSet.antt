@@ -22,6 +22,7 @@ use Rattle.array_io.specs.Believed.Moments.{HoldsNow}
 use Rattle.array_io.specs.Believed.Views.{ArrayView, EndsIt, DeviceFailed, GoesOn, HasEnded, IsEndOf, RestsAfter}
 use Rattle.extents.specs.SetExtents.{extents_in}
 use Rattle.extents.specs.declared.volume_table.VolumeTable.{VolumeTable}
+use Rattle.extents.specs.TableLaw.{IsOfFormat}
 use Rattle.extents.specs.TableSpelling.{Spell}
 use Rattle.scrub.specs.Scrubbing.{AreUnsound}
 use Rattle.volume_table.specs.SetReplies.{Devices, changed_set, set_answer, set_or_same, set_refusal, settled, with_faults}
@@ -178,6 +179,8 @@ settled_still old new lost before volumes goes_on same going settled after = rec
     rests = after.rests;
     shown = subst (λ (g : Geometry). Shows (extents_in g) settled.logical volumes) (sym goes_on.not_older.same_geometry) settled.shown;
     spelled = subst (λ (t : VolumeTable). Spell settled.logical t) (sym same) settled.spelled;
+    of_format = subst (λ (g : Geometry). IsOfFormat (extents_in g).format new.keeps) (sym goes_on.not_older.same_geometry)
+        (subst (λ (t : VolumeTable). IsOfFormat (extents_in old.array.table.geometry).format t) (sym same) settled.of_format);
     going = going;
   };
 }

@@ -28,6 +28,7 @@ use Rattle.array_io.specs.Believed.Views.{ArrayView, DeviceFailed, GoesOn, Rests
 use Rattle.array_io.proofs.Laws.Beginning.{lost_at_rest, state_in_sync}
 use Rattle.array_io.proofs.Images.Codecs.{spellings}
 use Rattle.extents.specs.declared.volume_table.VolumeTable.{VolumeTable}
+use Rattle.extents.specs.TableLaw.{IsOfFormat}
 use Rattle.extents.specs.TableSpelling.{Spell}
 use Rattle.extents.proofs.TableLaws.{one_table}
 use Rattle.recovery.specs.Making.{BankView}
@@ -125,12 +126,20 @@ rests_spelled : (array : ArrayView) (keeps : VolumeTable) → Spell (list_read a
     → Spell V keeps
 rests_spelled array keeps spelled lost V rests = subst (λ (l : List Bytes). Spell l keeps) rests.listed spelled
 
-stays_settled : (array : ArrayView) (keeps : VolumeTable) → Spell (list_read array) keeps → (lost : Option Lost) (V : List Bytes) (volumes : VolumeMap)
+stays_settled : (array : ArrayView) (keeps : VolumeTable) → Spell (list_read array) keeps
+    → IsOfFormat (extents_in array.table.geometry).format keeps → (lost : Option Lost) (V : List Bytes) (volumes : VolumeMap)
     → RestsOn array lost V → Shows (extents_in array.table.geometry) V volumes → IsSettledAfter lost (store_of array keeps) volumes
-stays_settled array keeps spelled lost V volumes rests shown = record {
+stays_settled array keeps spelled of_format lost V volumes rests shown = record {
   lost = lost;
   is_lost = lost_stays array lost V rests;
-  settled = record { logical = V; rests = rests; shown = shown; spelled = rests_spelled array keeps spelled lost V rests; going = refl };
+  settled = record {
+    logical = V;
+    rests = rests;
+    shown = shown;
+    spelled = rests_spelled array keeps spelled lost V rests;
+    of_format = of_format;
+    going = refl;
+  };
 }
 
 -- Opening an array whose list spells a table gives the array itself, with that table kept.
@@ -143,7 +152,7 @@ opens_at_rest honest array keeps spelled of_set = record {
   stays = λ store is. opened_is (λ s. StaysButForFailures honest array s.array ⊥) (store_of array keeps) store is (array_stays honest array ⊥);
   moments = λ fair lost V volumes rests shown. here (stands_at_rest array.panel.devices array.table array.number array.history lost V volumes rests shown);
   settled = λ fair lost V volumes rests shown store is.
-      opened_is (λ s. IsSettledAfter lost s volumes) (store_of array keeps) store is (stays_settled array keeps spelled lost V volumes rests shown);
+      opened_is (λ s. IsSettledAfter lost s volumes) (store_of array keeps) store is (stays_settled array keeps spelled of_set.version lost V volumes rests shown);
   spelled = λ fair lost V rests store is.
       opened_is (λ s. Spell V s.keeps) (store_of array keeps) store is (rests_spelled array keeps spelled lost V rests);
   of_set = λ store is. opened_is (λ s. IsOfSet (extents_in array.table.geometry) s.keeps) (store_of array keeps) store is of_set;
@@ -172,7 +181,7 @@ opens_none honest array none = record {
 -- ---- events that leave a store as it is
 
 same_spelling : TablesHaveOneSpelling
-same_spelling sectors first second one two = one_table sectors first second one two
+same_spelling = one_table
 
 -- a store is settled on one map of volumes at most
 one_map : (store : StoreView) (lost other : Option Lost) (volumes those : VolumeMap) → IsSettledOn store lost volumes → IsSettledOn store other those

@@ -27,8 +27,11 @@ use Rattle.extents.specs.declared.owned.Owned.{Owned}
 use Rattle.extents.specs.declared.volume_table.VolumeTable.{VolumeTable}
 use Rattle.extents.specs.ExtentMaps.{IsExtentMap, count_of}
 use Rattle.extents.specs.Owners.{IsAt}
-use Rattle.extents.specs.TableSpelling.{Spell, first_sector, table_sectors}
-use Rattle.extents.specs.Versions.{IsVersion, table_length}
+use Rattle.extents.specs.TableLaw.{IsOfFormat}
+use Rattle.extents.specs.TableSpelling.{Spell, entries_in, first_sector, table_sectors}
+use Rattle.layout_map.specs.declared.format.Format.{Format}
+use Rattle.extents.proofs.FirstSectors.{first_byte, version_is_one}
+use Rattle.extents.specs.Versions.{IsVersion, IsVersionIn, table_length}
 use Rattle.extents.proofs.ExtentLawLemmas.{extents_are_counted}
 use Rattle.extents.proofs.Sectors.{spelling_at}
 use Rattle.extents.proofs.TableLaws.{fills}
@@ -41,7 +44,7 @@ use Rattle.volume_table.specs.Shows.{Shows}
 use Rattle.volume_table.specs.Stands.{IsSettledAfter, StandsNow, StandsThroughout, StoreView, store_of}
 use Rattle.volume_table.proofs.FreeLemmas.{table_is_extent_map}
 use Rattle.volume_table.proofs.ListChanges.{changes_both, changes_read, rests_long}
-use Rattle.volume_table.proofs.TableSizes.{has_table_sectors, table_long, table_short}
+use Rattle.volume_table.proofs.TableSizes.{has_table_sectors, of_format_in, table_long, table_short}
 use Rattle.extents.specs.declared.volume_table.TheConstants.{TABLE_SECTORS}
 
 -- ---- the first eleven sectors
@@ -87,26 +90,31 @@ first_of_spelled : (sectors : List Bytes) (table : VolumeTable) → Spell sector
 first_of_spelled sectors table spelled =
     let some : 0 < table_length table.version = omega (arith, table_long table.version) in
     sym (get_or-take (table_length table.version) sectors 0 [] some) ∙ ap (λ (list : List Bytes). get_or list 0 []) spelled
-    ∙ spelling_at table.version table.records table.extents 0 some
+    ∙ spelling_at table.version table.records (entries_in table) 0 some
 
 -- it says the version
-same_version : (first second : ℕ) → IsVersion first → IsVersion second → first_sector first ≡ first_sector second → first ≡ second
-unfolding first_sector
-same_version first second is other same =
-    let one : first - 1 ≡ second - 1 = ap (λ (bytes : List ℕ). get_or bytes 0 0) same in
-    omega (arith, is.0, other.0, one)
+same_version : (format : Format) (first second : ℕ) → IsVersionIn format first → IsVersionIn format second → first_sector first ≡ first_sector second
+    → first ≡ second
+same_version format first second is other same =
+    version_is_one format first second is other (sym (first_byte (first_sector first) first refl) ∙ first_byte (first_sector first) second same)
 
--- a first sector of no version begins no table
-pub spells_none : (first : Bytes) (sectors : List Bytes) (table : VolumeTable) → ((version : ℕ) → IsVersion version → first ≡ first_sector version → ⊥)
-    → get_or sectors 0 [] ≡ first
+pub in_format : (format : Format) (table : VolumeTable) → IsOfFormat format table → IsVersionIn format table.version
+in_format format table of_format = (is_version table, of_format)
+
+-- a first sector of no version of a format begins no table of it
+pub spells_none : (format : Format) (first : Bytes) (sectors : List Bytes) (table : VolumeTable)
+    → ((version : ℕ) → IsVersionIn format version → first ≡ first_sector version → ⊥)
+    → get_or sectors 0 [] ≡ first → IsOfFormat format table
     → Spell sectors table → ⊥
-spells_none first sectors table none is spelled = none table.version (is_version table) (sym is ∙ first_of_spelled sectors table spelled)
+spells_none format first sectors table none is of_format spelled =
+    none table.version (in_format format table of_format) (sym is ∙ first_of_spelled sectors table spelled)
 
 -- where the first sector is that of a version, lists with the same sectors of a table of that version begin with the same tables
-pub spells_too : (version : ℕ) (sectors other : List Bytes) (table : VolumeTable) → IsVersion version → get_or sectors 0 [] ≡ first_sector version
+pub spells_too : (format : Format) (version : ℕ) (sectors other : List Bytes) (table : VolumeTable) → IsOfFormat format table → IsVersionIn format version
+    → get_or sectors 0 [] ≡ first_sector version
     → take (table_length version) other ≡ take (table_length version) sectors → Spell sectors table → Spell other table
-spells_too version sectors other table is first same spelled =
-    let its : table.version ≡ version = same_version table.version version (is_version table) is (sym (first_of_spelled sectors table spelled) ∙ first) in
+spells_too format version sectors other table of_format is first same spelled =
+    let its : table.version ≡ version = same_version format table.version version (in_format format table of_format) is (sym (first_of_spelled sectors table spelled) ∙ first) in
     subst (λ (v : ℕ). take (table_length v) other ≡ take (table_length v) sectors) (sym its) same ∙ spelled
 
 -- ---- what reads give where no device fails
@@ -206,12 +214,15 @@ length-beyond n sectors first long within =
     length-take-le (n - 1) (drop 1 (set sectors 0 first)) (omega (arith, within, length-drop 1 (set sectors 0 first), length-set sectors 0 first, long))
 
 -- at rest they are those of the list
-reads_table : (array : ArrayView) (lost : Option Lost) (V : List Bytes) (version n : ℕ) (first : Bytes) (part sectors : List Bytes) (table : VolumeTable)
-    → RestsOn array lost V → IsVersion version
+reads_table : (format : Format) (array : ArrayView) (lost : Option Lost) (V : List Bytes) (version n : ℕ) (first : Bytes) (part sectors : List Bytes)
+    (table : VolumeTable) → IsOfFormat format table
+    → RestsOn array lost V → IsVersionIn format version
     → first ≡ first_sector version → n ≡ table_length version → IsPut n first part sectors → first ≡ get_or V 0 [] → part ≡ take (n - 1) (drop 1 V)
     → Spell sectors table ↔ Spell V table
-reads_table array lost V version n first part sectors table rests is says so_many put same beyond =
-    (spells_too version sectors V table is (put_first n first part sectors put ∙ says) (sym both), spells_too version V sectors table is (sym same ∙ says) both)
+reads_table format array lost V version n first part sectors table of_format rests is says so_many put same beyond = (
+  spells_too format version sectors V table of_format is (put_first n first part sectors put ∙ says) (sym both),
+  spells_too format version V sectors table of_format is (sym same ∙ says) both,
+)
   where
     each : (k : ℕ) → k + 1 < n → get_or part k [] ≡ get_or V (k + 1) []
     each k below =
@@ -223,14 +234,16 @@ reads_table array lost V version n first part sectors table rests is says so_man
         (omega (arith, so_many, table_short version, rests_long array lost V rests, has_table_sectors array.table.geometry)) same each)
 
 -- and so where the part was read after the first
-pub gives_table : (honest : Type 0) (old mid : ArrayView) (version n : ℕ) (first : Bytes) (part sectors : List Bytes) {m : ℕ} → IsVersion version
+pub gives_table : (format : Format) (honest : Type 0) (old mid : ArrayView) (version n : ℕ) (first : Bytes) (part sectors : List Bytes) {m : ℕ}
+    → IsVersionIn format version
     → first ≡ first_sector version
     → n ≡ table_length version → IsPut n first part sectors → m ≡ n - 1 → Reads honest 0 old mid first (Ok tt)
     → ((lost : Option Lost) (V : List Bytes) → RestsOn mid lost V → part ≡ take m (drop 1 V))
-    → honest → (lost : Option Lost) (V : List Bytes) (table : VolumeTable) → RestsOn old lost V → Spell sectors table ↔ Spell V table
-gives_table honest old mid version n first part sectors {m} is says so_many put long reads gives fair lost V table rests =
+    → honest → (lost : Option Lost) (V : List Bytes) (table : VolumeTable) → IsOfFormat format table → RestsOn old lost V
+    → Spell sectors table ↔ Spell V table
+gives_table format honest old mid version n first part sectors {m} is says so_many put long reads gives fair lost V table of_format rests =
     let now = (changes_read honest 0 old mid first (Ok tt) reads).rests fair refl lost V rests in
-    reads_table old lost V version n first part sectors table rests is says so_many put (reads.sector fair refl lost V rests)
+    reads_table format old lost V version n first part sectors table of_format rests is says so_many put (reads.sector fair refl lost V rests)
     (gives now.rests.lost now.logical now.rests.rests ∙ ap (λ (k : ℕ). take k (drop 1 now.logical)) long
     ∙ ap (λ (list : List Bytes). take (n - 1) (drop 1 list)) now.is)
 
@@ -240,15 +253,16 @@ where_ok (Ok done) so then_so = then_so so
 where_ok (Err refusal) so then_so = tt
 
 -- where none failed and what reads give spells a table, they spell it
-pub reads_spelled : (old mid new : ArrayView) (version n : ℕ) (first : Bytes) (part sectors : List Bytes) (table : VolumeTable) → IsVersion version
+pub reads_spelled : (format : Format) (old mid new : ArrayView) (version n : ℕ) (first : Bytes) (part sectors : List Bytes) (table : VolumeTable)
+    → IsOfFormat format table → IsVersionIn format version
     → first ≡ first_sector version → n ≡ table_length version
     → IsPut n first part sectors → GoesOn old mid → GoesOn mid new → NoDeviceFailed old.panel new.panel
     → (NoDeviceFailed old.panel mid.panel → ReadsWhole 0 old mid first)
     → (NoDeviceFailed mid.panel new.panel → (k : ℕ) → k < n - 1 → length (get_or (list_read mid) (1 + k) []) ≡ 512
     → get_or part k [] ≡ get_or (list_read mid) (1 + k) [])
     → Spell (list_read old) table → Spell sectors table
-reads_spelled old mid new version n first part sectors table is says so_many put goes goes_then none one more spelled =
-    spells_too version (table_sectors table) sectors table is (first_of_spelled (table_sectors table) table itself ∙ ap first_sector its) both itself
+reads_spelled format old mid new version n first part sectors table of_format is says so_many put goes goes_then none one more spelled =
+    spells_too format version (table_sectors table) sectors table of_format is (first_of_spelled (table_sectors table) table itself ∙ ap first_sector its) both itself
   where
     read : ReadsWhole 0 old mid first
     read = one (none_failed_before old.panel mid.panel new.panel goes_then.later none)
@@ -257,7 +271,7 @@ reads_spelled old mid new version n first part sectors table is says so_many put
     itself = take_all (table_length table.version) (table_sectors table) (le_of_eq (fills table).0)
 
     its : table.version ≡ version
-    its = same_version table.version version (is_version table) is (sym (first_spelled old mid first table read spelled) ∙ says)
+    its = same_version format table.version version (in_format format table of_format) is (sym (first_spelled old mid first table read spelled) ∙ says)
 
     fits : n ≡ table_length table.version
     fits = so_many ∙ ap table_length (sym its)
@@ -423,12 +437,15 @@ module _ (honest : Type 0) (old new : ArrayView) where
   -- the sectors that were read are no table of the set
   pub open_refused : (sectors : List Bytes) → ChangesList honest 0 IsSame IsSame old new (Ok tt)
       → ((table : VolumeTable) → Spell sectors table → ¬ IsOfSet (extents_in old.table.geometry) table)
-      → (honest → (lost : Option Lost) (V : List Bytes) (table : VolumeTable) → RestsOn old lost V → Spell sectors table ↔ Spell V table)
-      → (honest → NoDeviceFailed old.panel new.panel → (table : VolumeTable) → Spell (list_read old) table → Spell sectors table)
+      → (honest → (lost : Option Lost) (V : List Bytes) (table : VolumeTable) → IsOfFormat old.table.geometry.format table → RestsOn old lost V
+      → Spell sectors table ↔ Spell V table)
+      → (honest → NoDeviceFailed old.panel new.panel → (table : VolumeTable) → IsOfFormat old.table.geometry.format table → Spell (list_read old) table
+      → Spell sectors table)
       → Opens honest old (given_back new.panel new.history BadTable)
   open_refused sectors changes no_table gives spelled = given_up (Ok tt) BadTable changes (
-    λ fair lost V volumes rests shown. no_table shown.table ((gives fair lost V shown.table rests).1 shown.spelled) shown.of_set,
-    λ fair none table spells. no_table table (spelled fair none table spells),
+    λ fair lost V volumes rests shown. no_table shown.table
+        ((gives fair lost V shown.table (of_format_in old.table.geometry shown.table shown.of_set) rests).1 shown.spelled) shown.of_set,
+    λ fair none table spells of_set. no_table table (spelled fair none table (of_format_in old.table.geometry table of_set) spells) of_set,
   )
 
   -- they are one
@@ -460,6 +477,7 @@ module _ (honest : Type 0) (old new : ArrayView) where
               shown = subst (λ (g : Geometry). Shows (extents_in g) some.logical volumes) (sym changes.goes_on.not_older.same_geometry)
                   (subst (λ (l : List Bytes). Shows (extents_in old.table.geometry) l volumes) (sym some.is) shown);
               spelled = subst (λ (l : List Bytes). Spell l keeps) (sym some.is) (spelled fair lost V rests);
+              of_format = subst (λ (g : Geometry). IsOfFormat (extents_in g).format keeps) (sym changes.goes_on.not_older.same_geometry) of_set.version;
               going = refl;
             };
           }

@@ -12,7 +12,7 @@ use Rattle.extents.specs.declared.volume_table.VolumeTable.{VolumeTable}
 use Rattle.extents.specs.TableSpelling.{Spell, table_sectors}
 use Rattle.extents.specs.Versions.{table_length}
 use Rattle.extents.proofs.Versions.{table_length_most, table_length_some}
-use Rattle.extents.proofs.TableLaws.{fills, one_table}
+use Rattle.extents.proofs.TableLaws.{fills, same_spelled}
 use Rattle.volume_table.specs.Volumes.{Block}
 use Rattle.volume_table.specs.ListChanges.{ChangesList, IsSameOr}
 use Rattle.volume_table.specs.StoreChanges.{AreAll, AreChangedBelow, AreTheChanged, HasTable, MayPutTable, PutsTable, no_sector}
@@ -275,5 +275,5 @@ pub same_where_none : (before after : List Block) (first table : VolumeTable) (s
 same_where_none before after first table [] none are spells begins same =
     let has : HasTable table before before = has_table before before after table [] are spells (spelled_long before first table.version same begins)
     (λ k below unwritten. refl) in
-    one_table before first table begins has.spelled
+    same_spelled before first table same begins has.spelled
 same_where_none before after first table (sector ∷ sectors) none are spells begins same = absurd (omega (arith, none))

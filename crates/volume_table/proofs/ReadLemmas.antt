@@ -1,8 +1,9 @@
 -- What a list says of the names, lengths and blocks of its volumes.
-use Rattle.std.proofs.Common.{◌≡◌, ◌≢◌, ℕ, ◌+◌, ◌<◌, List, [], length, take, drop, get_or, Option, Some, None, refl, sym, ap, subst, ◌∙◌, arith}
-use Rattle.extents.specs.Versions.{is_version_of}
+use Rattle.std.proofs.Common.{◌≡◌, ◌≢◌, ℕ, ◌+◌, ◌<◌, true, List, [], length, take, drop, get_or, Option, Some, None, refl, sym, ap, subst, ◌∙◌, arith}
+use Rattle.extents.specs.TableLaw.{IsEmpty}
+use Rattle.extents.specs.Versions.{IsVersion, fresh_version, is_version_of}
 use Rattle.layout_map.specs.declared.format.Format.{Format}
-use Rattle.layout_map.specs.declared.format.Format.TheVariants.{One}
+use Rattle.layout_map.specs.declared.format.Format.TheVariants.{One, Two}
 use Rattle.std.proofs.lemmas.List.{length-take, length-drop, get_or-take, get_or-drop}
 use Rattle.std.specs.List.Sorted.{IsStrictlySortedBy}
 use Rattle.std.proofs.lemmas.List.Elements.{All-nil}
@@ -14,11 +15,11 @@ use Rattle.extents.specs.declared.record.Record.{Record}
 use Rattle.extents.specs.declared.volume_table.VolumeTable.{VolumeTable}
 use Rattle.extents.specs.TableSpelling.{Spell}
 use Rattle.extents.specs.Owners.{owner_of, HasPlaces, IsAt}
-use Rattle.extents.specs.VolumeTables.{HasRecord, extents_of, record_of}
+use Rattle.extents.specs.VolumeTables.{HasRecord, extents_of, most_blocks, record_of}
 use Rattle.volume_table.specs.Volumes.{Block, VolumeMap, no_volumes, blocks_of, IsVolume, AreVolumes}
 use Rattle.volume_table.specs.VolumeStep.{Read, Reply, Blocks, or_refused, refusal_of, reply_to, answer, blocks_in}
 use Rattle.volume_table.specs.Law.{HasLength}
-use Rattle.volume_table.specs.Shows.{IsOfVolume, Shows}
+use Rattle.volume_table.specs.Shows.{AreClean, IsOfVolume, Shows}
 use Rattle.volume_table.proofs.StepLemmas.{IsWithin, is_within}
 
 pub absent_is_shown : (extents : ExtentLayout) (sectors : List Block) (volumes : VolumeMap) (name : List ℕ) (shows : Shows extents sectors volumes)
@@ -73,33 +74,46 @@ read_is_shown extents sectors volumes number entry at count blocks shows used re
           ∙ sym (was.stand (at + j) extent (omega (arith, ap length same, within.fits, less)) at_extent),
     )
 
--- no volume is within any limits
-none_within : (extents : ExtentLayout) → AreVolumes extents no_volumes
-unfolding IsStrictlySortedBy
-none_within extents = record { is_version = (omega arith, omega arith); few = omega arith; each = All-nil (IsVolume 1); rising = tt; within = omega arith }
+-- the version of a set that was just made is one of its format
+pub fresh_is_version : (format : Format) → IsVersion (fresh_version format) × (is_version_of format (fresh_version format) ≡ true)
+fresh_is_version One = ((omega arith, omega arith), refl)
+fresh_is_version Two = ((omega arith, omega arith), refl)
 
-pub empty_is_shown : (extents : ExtentLayout) (sectors : List Block) (table : VolumeTable) → extents.format ≡ One → Spell sectors table → table.version ≡ 1
-    → ((number : ℕ) → record_of table.records number ≡ None) → ((extent : ℕ) → owner_of table.extents extent ≡ None) → Shows extents sectors no_volumes
-empty_is_shown extents sectors table one spelled first_version unused free =
+-- no volume is within any limits
+none_within : (extents : ExtentLayout) → AreVolumes extents (no_volumes extents.format)
+unfolding IsStrictlySortedBy
+none_within extents = record {
+  is_version = fresh_is_version extents.format;
+  few = omega arith;
+  each = All-nil (IsVolume (most_blocks extents.blocks) (fresh_version extents.format));
+  rising = tt;
+  within = omega arith;
+}
+
+pub empty_is_shown : (extents : ExtentLayout) (sectors : List Block) (table : VolumeTable) → Spell sectors table → IsEmpty extents.format table
+    → AreClean extents table.dirty table.records table.extents sectors → Shows extents sectors (no_volumes extents.format)
+empty_is_shown extents sectors table spelled empty clean =
     record {
       limits = none_within extents;
       table = table;
-      of_version = first_version;
+      of_version = empty.fresh;
       spelled = spelled;
       of_set = record {
-        version = ap (λ (format : Format). is_version_of format table.version) one;
-        free_beyond = λ extent above. free extent;
-        placed = ∣ (λ volume. subst (λ n. HasPlaces table.extents volume n) (sym (ap (extents_of extents.blocks) (unused volume))) (none_there volume)) ∣₁;
+        version = ap (is_version_of extents.format) empty.fresh ∙ (fresh_is_version extents.format).1;
+        free_beyond = λ extent above. empty.all_free extent;
+        clean_beyond = λ tells extent above below. empty.all_clean tells extent (omega arith) below;
+        placed = ∣ (λ volume. subst (λ n. HasPlaces table.extents volume n) (sym (ap (extents_of extents.blocks) (empty.no_record volume))) (none_there volume)) ∣₁;
       };
       shown = record {
-        used = λ number entry used. absurd (none-some entry (sym (unused number) ∙ used));
+        used = λ number entry used. absurd (none-some entry (sym (empty.no_record number) ∙ used));
         all = λ name blocks found. absurd (none-some blocks found);
       };
+      clean = clean;
     }
   where
     none_there : (volume : ℕ) → HasPlaces table.extents volume 0
     none_there volume = record {
       extent_at = λ place within. absurd (omega (arith, within));
-      below = λ extent place at. absurd (none-some _ (sym (free extent) ∙ at));
-      once = λ first second place one two. absurd (none-some _ (sym (free first) ∙ one));
+      below = λ extent place at. absurd (none-some _ (sym (empty.all_free extent) ∙ at));
+      once = λ first second place one two. absurd (none-some _ (sym (empty.all_free first) ∙ one));
     }

@@ -1,8 +1,8 @@
 -- A volume is removed, by what its calls of the array do.
-use Rattle.std.proofs.Common.{◌≡◌, ◌⊎◌, inl, inr, ℕ, List, [], ◌∷◌, slice_set, Option, Some, None, Ok, Err, refl, sym, ◌∙◌, ap, subst, arith}
+use Rattle.std.proofs.Common.{◌≡◌, ◌⊎◌, inl, inr, ℕ, false, List, [], ◌∷◌, length, slice_set, Option, Some, None, Ok, Err, refl, sym, ◌∙◌, ap, subst, arith}
 use Rattle.std.specs.Prelude.{Contains}
-use Rattle.std.proofs.lemmas.Bool.{cases_eq}
-use Rattle.std.proofs.lemmas.List.{get_or-set_other, get_or-set_same}
+use Rattle.std.proofs.lemmas.Bool.{cases_eq, cases_lt}
+use Rattle.std.proofs.lemmas.List.{get_or-set_other, get_or-set_same, get_or_past, length-set}
 use Rattle.std.proofs.lemmas.List.Elements.{Contains-push}
 use Rattle.std.proofs.lemmas.Option.{none-some}
 use Rattle.sector_model.specs.declared.refusal.Refusal.{Refusal}
@@ -17,16 +17,19 @@ use Rattle.extents.specs.SetExtents.{extents_in}
 use Rattle.extents.specs.declared.owned.Owned.{Owned}
 use Rattle.extents.specs.declared.record.Record.{Record}
 use Rattle.extents.specs.declared.volume_table.VolumeTable.{VolumeTable}
-use Rattle.extents.specs.ExtentMaps.{IsGivenBack}
+use Rattle.extents.specs.ExtentMaps.{IsGivenBack, is_dirty}
+use Rattle.extents.proofs.OwnerLemmas.{free_or_owned}
+use Rattle.volume_table.proofs.CleanExtents.{WasUsed, clean_moved}
+use Rattle.std.proofs.lemmas.Bool.{true≢false}
 use Rattle.extents.specs.Owners.{owner_of, IsAt}
 use Rattle.extents.specs.TableSpelling.{Spell}
 use Rattle.extents.proofs.Versions.{table_length_most}
-use Rattle.extents.specs.VolumeTables.{record_of}
+use Rattle.extents.specs.VolumeTables.{IsMarked, record_of}
 use Rattle.extents.proofs.Sectors.{table_all_records}
 use Rattle.extents.proofs.TableLaws.{one_table}
 use Rattle.volume_table.specs.Volumes.{Block, VolumeMap}
 use Rattle.volume_table.specs.VolumeStep.{Done, Remove, done, or_refused, refusal_of, reply_to, volumes_after}
-use Rattle.volume_table.specs.Shows.{ChangesOneRecord, Shows}
+use Rattle.volume_table.specs.Shows.{AreClean, ChangesOneRecord, Shows}
 use Rattle.volume_table.specs.Stands.{StoreView}
 use Rattle.volume_table.specs.StoreCalls.{extents_for_store}
 use Rattle.volume_table.specs.StoreChanges.{HasTable, MayPutTable, PutsTable}
@@ -67,15 +70,66 @@ others_stay extents old new owners left number before now kept kept_then records
       (omega (arith, table_length_most new.version));
 }
 
+-- the record is not used any more
+removed_unused : (old new : VolumeTable) (number : ℕ) → new.records ≡ slice_set old.records number None → record_of new.records number ≡ None
+removed_unused old new number records =
+    ap (λ (those : List (Option Record)). record_of those number) records ∙ elim (cases_lt number (length old.records)) [
+      | inl within ↦ get_or-set_same old.records number None None within
+      | inr beyond ↦ get_or_past (slice_set old.records number None) number None (omega (arith, beyond, length-set old.records number None))
+    ]
+
+-- clean extents stay so: those that are given back are dirty
+removed_clean : (extents : ExtentLayout) (old new : VolumeTable) (owners left : List (Option Owned)) (number : ℕ) (before now : List Block)
+    → AreKept extents old owners → AreKept extents new left → new.records ≡ slice_set old.records number None
+    → IsMarked old.extents number old.dirty new.dirty → IsGivenBack owners left number → HasTable new before now
+    → AreClean extents old.dirty old.records old.extents before → AreClean extents new.dirty new.records new.extents now
+removed_clean extents old new owners left number before now kept kept_then records marked given has clean =
+    clean_moved extents old.dirty new.dirty old.records new.records old.extents new.extents before now flags frees ats used
+    (λ extent block. has.beyond (sector_of_block extents extent block) (omega (arith, table_length_most new.version, extents.limits.above))) clean
+  where
+    -- one that is clean now is not the volume's
+    not_its : (extent place : ℕ) → is_dirty new.dirty extent ≡ false → IsAt old.extents extent number place → ⊥
+    not_its extent place is_clean at = true≢false (sym (marked.marked extent place at) ∙ is_clean)
+
+    flags : (extent : ℕ) → is_dirty new.dirty extent ≡ false → is_dirty old.dirty extent ≡ false
+    flags extent is_clean = sym (marked.others extent (λ place at. not_its extent place is_clean at)) ∙ is_clean
+
+    ats : (extent other place : ℕ) → IsAt new.extents extent other place → IsAt old.extents extent other place
+    ats extent other place at =
+        sym (kept_owner extents old owners kept extent)
+        ∙ was_at owners left number other extent place given (kept_owner extents new left kept_then extent ∙ at)
+
+    frees : (extent : ℕ) → is_dirty new.dirty extent ≡ false → owner_of new.extents extent ≡ None → owner_of old.extents extent ≡ None
+    frees extent is_clean is_free = elim (free_or_owned old.extents extent) [
+      | inl free ↦ free
+      | inr owned ↦ elim (cases_eq owned.volume number) [
+        | inl same ↦ absurd (not_its extent owned.place is_clean (subst (λ (v : ℕ). IsAt old.extents extent v owned.place) same owned.at))
+        | inr apart ↦ absurd (none-some _ (sym (kept_owner extents new left kept_then extent ∙ is_free)
+            ∙ given.kept extent owned.volume owned.place apart (kept_owner extents old owners kept extent ∙ owned.at)))
+      ]
+    ]
+
+    used : (extent other place : ℕ) (entry : Record) → IsAt new.extents extent other place → record_of new.records other ≡ Some entry
+        → WasUsed old.records other entry
+    used extent other place entry at entry_used = elim (cases_eq other number) [
+      | inl same ↦ absurd (none-some entry (sym (removed_unused old new number records) ∙ ap (record_of new.records) (sym same) ∙ entry_used))
+      | inr apart ↦ record {
+        before = entry;
+        used = sym (ap (λ (those : List (Option Record)). record_of those other) records ∙ get_or-set_other old.records number other None None apart)
+            ∙ entry_used;
+        fewer = omega arith;
+      }
+    ]
+
 -- so the list with the new table shows the volumes but the one that is removed
 removal_shows : (extents : ExtentLayout) (old new : VolumeTable) (owners left : List (Option Owned)) (name : List ℕ) (number : ℕ) (before now : List Block)
     (volumes : VolumeMap) → AreKept extents old owners
     → AreKept extents new left → new.version ≡ old.version → HasRecordAt old.records name number → new.records ≡ slice_set old.records number None
-    → IsGivenBack owners left number → ShowsBy extents old before volumes
+    → IsMarked old.extents number old.dirty new.dirty → IsGivenBack owners left number → ShowsBy extents old before volumes
     → None ≡ refusal_of extents (Remove name) volumes → HasTable new before now → ShowsBy extents new now (done (Remove name) volumes)
-removal_shows extents old new owners left name number before now volumes kept kept_then version found records given shown admitted has = record {
+removal_shows extents old new owners left name number before now volumes kept kept_then version found records marked given shown admitted has = record {
   shows = after;
-  by = one_table now after.table new after.spelled has.spelled;
+  by = one_table extents.format now after.table new after.of_set.version kept_then.of_set.version after.spelled has.spelled;
 }
   where
     is_done : reply_to extents (Remove name) volumes ≡ Done
@@ -94,20 +148,23 @@ removal_shows extents old new owners left name number before now volumes kept ke
         (subst (λ (n : List ℕ). reply_to extents (Remove n) volumes ≡ Done) (sym found.named) is_done) has.spelled
         (version ∙ ap (λ (t : VolumeTable). t.version) (sym shown.by) ∙ shown.shows.of_version) kept_then.of_set
         (subst (λ (t : VolumeTable). ChangesOneRecord extents t.records new.records t.extents new.extents before now number) (sym shown.by)
-        (others_stay extents old new owners left number before now kept kept_then records given has)) gone))
+        (others_stay extents old new owners left number before now kept kept_then records given has)) gone
+        (removed_clean extents old new owners left number before now kept kept_then records marked given has
+        (subst (λ (t : VolumeTable). AreClean extents t.dirty t.records t.extents before) shown.by shown.shows.clean))))
 
 -- A removal that is admitted, by its one call.
 pub remove_applies : (honest : Type 0) (name : List ℕ) (old new : StoreView) (owners left : List (Option Owned)) (number : ℕ) (result : Answer)
     → old.ended ≡ None
     → AreKept (extents_for_store old) old.keeps owners → AreKept (extents_for_store new) new.keeps left → new.keeps.version ≡ old.keeps.version
     → ∥ HasRecordAt old.keeps.records name number ∥₁
-    → new.keeps.records ≡ slice_set old.keeps.records number None → IsGivenBack owners left number
+    → new.keeps.records ≡ slice_set old.keeps.records number None → IsMarked old.keeps.extents number old.keeps.dirty new.keeps.dirty
+    → IsGivenBack owners left number
     → ((extents : ExtentLayout) (sectors : List Block) (volumes : VolumeMap) → ShowsBy extents old.keeps sectors volumes
     → None ≡ refusal_of extents (Remove name) volumes)
     → (honest → IsTrueTo new.array.panel new.array.history)
     → ChangesList honest 1 (MayPutTable old.keeps new.keeps) (PutsTable old.keeps new.keeps) old.array new.array result
     → (result ≡ Ok tt → new.ended ≡ None) → ((refusal : Refusal) → result ≡ Err refusal → new.ended ≡ Some refusal) → RemovesVolume honest name old new result
-remove_applies honest name old new owners left number result going kept kept_then version found records given admitted true_to changes goes ends =
+remove_applies honest name old new owners left number result going kept kept_then version found records marked given admitted true_to changes goes ends =
     by_result result changes goes ends
   where
     kept_there : AreKept (extents_for_store old) new.keeps left
@@ -117,7 +174,7 @@ remove_applies honest name old new owners left number result going kept kept_the
         → ShowsBy (extents_for_store old) new.keeps W (done (Remove name) volumes)
     shows V W volumes shown has =
         removal_shows (extents_for_store old) old.keeps new.keeps owners left name number V W volumes kept kept_there version
-        (found_record old.keeps.records name number found) records given shown
+        (found_record old.keeps.records name number found) records marked given shown
         (admitted (extents_for_store old) V volumes shown) has
 
     -- the list begins with the old table's spelling

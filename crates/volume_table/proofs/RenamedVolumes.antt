@@ -43,6 +43,7 @@ pub record IsRenamed (extents : ExtentLayout) (old new : VolumeTable) (owners : 
     pub kept : AreKept extents old owners
     pub kept_then : AreKept extents new owners
     pub version : new.version ≡ old.version
+    pub dirty : new.dirty ≡ old.dirty
     pub found : HasRecordAt old.records name number
     pub may : MayRename old.version old.records number entry
     pub named : entry.name.bytes.items ≡ name_after
@@ -71,7 +72,7 @@ renaming_shows : (extents : ExtentLayout) (old new : VolumeTable) (owners : List
     → ShowsBy extents new now (done (Rename name name_after) volumes)
 renaming_shows extents old new owners name name_after number entry before now volumes is shown admitted has = record {
   shows = after;
-  by = one_table now after.table new after.spelled has.spelled;
+  by = one_table extents.format now after.table new after.of_set.version is.kept_then.of_set.version after.spelled has.spelled;
 }
   where
     is_done : reply_to extents (Rename name name_after) volumes ≡ Done
@@ -95,12 +96,13 @@ renaming_shows extents old new owners name name_after number entry before now vo
         (rename_is_shown extents before now volumes name_after new number is.found.entry shown.shows
         (ap (λ (t : VolumeTable). record_of t.records number) shown.by ∙ is.found.used)
         (subst (λ (n : List ℕ). reply_to extents (Rename n name_after) volumes ≡ Done) (sym is.found.named) is_done) has.spelled version changes same_owner
+        (is.dirty ∙ ap (λ (t : VolumeTable). t.dirty) (sym shown.by))
         (λ sector past. has.beyond sector (subst (λ (v : ℕ). table_length v ≤ sector) (sym version) past))))
 
 -- A rename that is admitted, by its one call.
 pub rename_applies : (honest : Type 0) (name name_after : List ℕ) (old new : StoreView) (owners : List (Option Owned)) (number : ℕ) (entry : Record)
     (result : Answer) → old.ended ≡ None
-    → AreKept (extents_for_store old) old.keeps owners → AreKept (extents_for_store new) new.keeps owners → new.keeps.version ≡ old.keeps.version
+    → AreKept (extents_for_store old) old.keeps owners → AreKept (extents_for_store new) new.keeps owners → new.keeps.version ≡ old.keeps.version → new.keeps.dirty ≡ old.keeps.dirty
     → ∥ HasRecordAt old.keeps.records name number ∥₁
     → MayRename old.keeps.version old.keeps.records number entry → entry.name.bytes.items ≡ name_after
     → new.keeps.records ≡ slice_set old.keeps.records number (Some entry)
@@ -110,7 +112,7 @@ pub rename_applies : (honest : Type 0) (name name_after : List ℕ) (old new : S
     → ChangesList honest 1 (MayPutTable old.keeps new.keeps) (PutsTable old.keeps new.keeps) old.array new.array result
     → (result ≡ Ok tt → new.ended ≡ None) → ((refusal : Refusal) → result ≡ Err refusal → new.ended ≡ Some refusal)
     → RenamesVolume honest name name_after old new result
-rename_applies honest name name_after old new owners number entry result going kept kept_then version found may named records admitted true_to changes goes
+rename_applies honest name name_after old new owners number entry result going kept kept_then version dirty found may named records admitted true_to changes goes
     ends = by_result result changes goes ends
   where
     is : IsRenamed (extents_for_store old) old.keeps new.keeps owners name name_after number entry
@@ -118,6 +120,7 @@ rename_applies honest name name_after old new owners number entry result going k
       kept = kept;
       kept_then = subst (λ (its : Geometry). AreKept (extents_in its) new.keeps owners) changes.goes_on.not_older.same_geometry kept_then;
       version = version;
+      dirty = dirty;
       found = found_record old.keeps.records name number found;
       may = may;
       named = named;
@@ -167,12 +170,12 @@ rename_differs old new number entry may records same =
 -- A rename that was done changed the one name, by one entry.
 pub rename_kept : (name name_after : List ℕ) (old new : StoreView) (owners : List (Option Owned)) (number : ℕ) (entry : Record) (result : Answer)
     → new.array.table.geometry ≡ old.array.table.geometry
-    → AreKept (extents_for_store old) old.keeps owners → AreKept (extents_for_store new) new.keeps owners → new.keeps.version ≡ old.keeps.version
+    → AreKept (extents_for_store old) old.keeps owners → AreKept (extents_for_store new) new.keeps owners → new.keeps.version ≡ old.keeps.version → new.keeps.dirty ≡ old.keeps.dirty
     → ∥ HasRecordAt old.keeps.records name number ∥₁
     → MayRename old.keeps.version old.keeps.records number entry → entry.name.bytes.items ≡ name_after
     → new.keeps.records ≡ slice_set old.keeps.records number (Some entry)
     → (result ≡ Ok tt → new.array.number ≡ old.array.number + 1) → OnOk result (RenamesKept name name_after old new)
-rename_kept name name_after old new owners number entry (Ok unit) same kept kept_then version found may named records one_entry =
+rename_kept name name_after old new owners number entry (Ok unit) same kept kept_then version dirty found may named records one_entry =
     let its = found_record old.keeps.records name number found in
     let then : AreKept (extents_for_store old) new.keeps owners = subst (λ (its : Geometry). AreKept (extents_in its) new.keeps owners) same kept_then in
     record {
@@ -182,12 +185,13 @@ rename_kept name name_after old new owners number entry (Ok unit) same kept kept
       used = its.used;
       named = its.named;
       changes = changes_name (extents_for_store old) old.keeps new.keeps owners name name_after number entry
-          record { kept = kept; kept_then = then; version = version; found = its; may = may; named = named; records = records };
+          record { kept = kept; kept_then = then; version = version; dirty = dirty; found = its; may = may; named = named; records = records };
       extents = λ extent. sym (kept_owner (extents_for_store old) new.keeps owners then extent)
           ∙ kept_owner (extents_for_store old) old.keeps owners kept extent;
+      dirty = dirty;
       one_entry = one_entry refl;
     }
-rename_kept name name_after old new owners number entry (Err refusal) same kept kept_then version found may named records one_entry = tt
+rename_kept name name_after old new owners number entry (Err refusal) same kept kept_then version dirty found may named records one_entry = tt
 
 -- What a rename is refused with at once does not end the store.
 not_ended : (refusal : Refusal) → Contains (NoVolume ∷ BadName ∷ Exists ∷ []) refusal → ¬ EndsIt refusal

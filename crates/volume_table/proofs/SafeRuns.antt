@@ -338,8 +338,8 @@ no_device device (k, below, is) = omega (arith, below)
 -- what making a set gives is safe
 made_safe : (id : List ℕ) (geometry : Geometry) (bank : recovery.BankView) (array : ArrayView) → Makes (Unit {0}) id geometry bank (recovery.Opened array)
     → IsQuietBeyond id (geometry.members + 2) bank
-    → Shows (extents_in array.table.geometry) (zeros_of array.table.geometry) no_volumes
-    → IsSafeArray array.table array.panel.devices array nothing_lost no_volumes
+    → Shows (extents_in array.table.geometry) (zeros_of array.table.geometry) (no_volumes array.table.geometry.format)
+    → IsSafeArray array.table array.panel.devices array nothing_lost (no_volumes array.table.geometry.format)
 made_safe id geometry bank array makes quiet shows = record {
   of_bank = refl;
   not_older = not_older_same array.table;
@@ -353,8 +353,9 @@ made_safe id geometry bank array makes quiet shows = record {
 
 -- the theorem
 pub headline : Headline
-headline id geometry bank array left makes quiet session runs = ∥∥₁_map (fresh_set_shows_none array.table.geometry (makes.of_format_one array refl)) (λ shows.
-    session_keeps array.table array.panel.devices nothing_before array nothing_lost no_volumes left (made_safe id geometry bank array makes quiet shows)
+headline id geometry bank array left makes quiet session runs = ∥∥₁_map (fresh_set_shows_none array.table.geometry) (λ shows.
+    session_keeps array.table array.panel.devices (nothing_before array.table.geometry.format) array nothing_lost
+    (no_volumes array.table.geometry.format) left (made_safe id geometry bank array makes quiet shows)
     record { n = 0; has_acknowledged = omega arith; is_prefix = omega arith; is = refl } session
     (λ before. RunsKeep array.table.id (extents_in array.table.geometry) array.panel.devices (slots_of array.table) before runs)
     (λ next maps each safe. runs_keep array.table array.panel.devices next maps left each safe runs))

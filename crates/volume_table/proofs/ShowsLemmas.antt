@@ -21,12 +21,13 @@ use Rattle.extents.proofs.Blocks.{block_is_one, place_is_below, sector_is_of_one
 use Rattle.extents.proofs.OwnerLemmas.{owner_is_one}
 use Rattle.volume_table.specs.Names.{is_same_name, is_good_name}
 use Rattle.volume_table.specs.Volumes.{Block, IsBlock, VolumeList, VolumeMap, blocks_of, AreVolumes}
-use Rattle.volume_table.specs.VolumeStep.{Write, Done, refusal_of, reply_to, volumes_after}
+use Rattle.volume_table.specs.VolumeStep.{Write, Done, blocks_in, refusal_of, reply_to, volumes_after}
 use Rattle.volume_table.specs.Law.{IsWritten, LeavesWritten}
 use Rattle.volume_table.specs.Shows.{AreBlocksIn, IsOfVolume, AreShown, Shows, HasWritten}
 use Rattle.volume_table.specs.ShowsLaw.{TablesHaveOneSpelling}
+use Rattle.volume_table.proofs.CleanExtents.{clean_written, same_sector}
 use Rattle.volume_table.proofs.VolumeLemmas.{same_name_is, same_name_itself, known_by_blocks}
-use Rattle.volume_table.proofs.StepLemmas.{step_keeps, changed_if_done, done_if_not_refused, not_the_one, others_stay, write_changes_its_blocks}
+use Rattle.volume_table.proofs.StepLemmas.{IsWithin, is_within, step_keeps, changed_if_done, done_if_not_refused, not_the_one, others_stay, write_changes_its_blocks}
 use Rattle.volume_table.proofs.TableSizes.{same_first, same_map, short_names, table_short}
 
 -- the test of a name
@@ -67,16 +68,6 @@ good_backward version (first ∷ rest) good short =
 
 pub good_names : (version : ℕ) (name : List ℕ) → IsTrue (is_good_name version name) ↔ (IsGoodName name × (length name ≤ most_name_bytes version))
 good_names version name = (good_forward version name, λ both. good_backward version name both.0 both.1)
-
--- blocks of different places lie in different sectors
-same_sector : (extents : ExtentLayout) (owners : List (Option Owned)) (number other i j extent extent' : ℕ) → IsAt owners extent number (place_of extents i)
-    → IsAt owners extent' other (place_of extents j) → sector_of_block extents extent i ≡ sector_of_block extents extent' j
-    → (number ≡ other) × (i ≡ j)
-same_sector extents owners number other i j extent extent' here there same =
-    let parts = sector_is_of_one extents extent extent' i j same in
-    let owner = owner_is_one owners extent' number (place_of extents i) other (place_of extents j)
-    (subst (λ e. IsAt owners e number (place_of extents i)) parts.0 here) there in
-    (owner.0, block_is_one extents.blocks i j owner.1 parts.1)
 
 -- two volumes of one record have the same blocks
 same_blocks : (extents : ExtentLayout) (records : List (Option Record)) (owners : List (Option Owned)) (sectors : List Block) (number : ℕ) (entry : Record)
@@ -252,6 +243,18 @@ table_stays {extents} version before left owners number at written as_long has =
     same_first (table_length version) before left as_long (λ k less.
     has.outside k (λ j extent below there same. absurd (omega (arith, less, table_short version, extents.limits.above, same))))
 
+-- what is written lies within its volume
+written_within : (extents : ExtentLayout) (before : List Block) (volumes : VolumeMap) (number : ℕ) (entry : Record) (at : ℕ) (written : List Block)
+    (shows : Shows extents before volumes) → record_of shows.table.records number ≡ Some entry
+    → reply_to extents (Write entry.name.bytes.items at written) volumes ≡ Done → at + length written ≤ entry.blocks
+written_within extents before volumes number entry at written shows used replied =
+    let name = entry.name.bytes.items in
+    let none = done_if_not_refused (refusal_of extents (Write name at written) volumes) Done replied in
+    let within : IsWithin name at (length written) volumes.volumes = is_within name at (length written) volumes.volumes none in
+    let was : IsOfVolume extents shows.table.extents before volumes.volumes number entry = shows.shown.used number entry used in
+    let same : was.blocks ≡ blocks_in name volumes.volumes = same_Some was.blocks (blocks_in name volumes.volumes) (sym was.named ∙ within.found) in
+    omega (arith, within.fits, ap length same, was.as_long)
+
 -- a write leaves the version
 write_keeps_version : (extents : ExtentLayout) (name : List ℕ) (at : ℕ) (written : List Block) (volumes : VolumeMap)
     → reply_to extents (Write name at written) volumes ≡ Done
@@ -275,13 +278,15 @@ write_is_shown extents before left volumes number entry at written shows used wh
       of_set = shows.of_set;
       shown = write_is_shown_by extents table.records table.extents before left volumes number entry at written
           (distinct_names table.version table.records table.extents table.is_table) shows.shown used replied has;
+      clean = clean_written extents table.dirty table.records table.extents number at written entry before left used
+          (written_within extents before volumes number entry at written shows used replied) has shows.clean;
     }
 
 -- one list, one map of volumes
 pub list_shows_one : TablesHaveOneSpelling → (extents : ExtentLayout) (sectors : List Block) (first second : VolumeMap) → Shows extents sectors first
     → Shows extents sectors second → first ≡ second
 list_shows_one spelling extents sectors first second one two =
-    let same : one.table ≡ two.table = spelling sectors one.table two.table one.spelled two.spelled in
+    let same : one.table ≡ two.table = spelling extents.format sectors one.table two.table one.of_set.version two.of_set.version one.spelled two.spelled in
     let shown : AreShown extents one.table.records one.table.extents sectors second.volumes =
     subst (λ (t : VolumeTable). AreShown extents t.records t.extents sectors second.volumes) (sym same) two.shown in
     shown_are_one extents one.table.records one.table.extents sectors one.table.version first second one.of_set.placed

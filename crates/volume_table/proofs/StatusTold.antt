@@ -30,15 +30,17 @@ used_are_counted records = is_count_by used_records is_some refl one records
     one (Some used) entries = refl
 
 -- what a store tells by its tables and the counts of what is in use
-abbrev pub status_by : StoreView → (rows extents free volumes version : ℕ) → StatusView
-status_by store rows extents free volumes version = record {
+abbrev pub status_by : StoreView → (rows extent_blocks extents free volumes version : ℕ) → StatusView
+status_by store rows extent_blocks extents free volumes version = record {
   id = store.array.table.id;
+  format = store.array.table.geometry.format;
   members = store.array.table.geometry.members;
   chunk = store.array.table.geometry.chunk;
   stripes = store.array.table.geometry.stripes;
   rows = rows;
   generation = store.array.table.generation;
   position = store.array.table.position;
+  extent_blocks = extent_blocks;
   extents = extents;
   free = free;
   volumes = volumes;
@@ -48,16 +50,17 @@ status_by store rows extents free volumes version = record {
 }
 
 -- it is the status of a store that goes on, where the rows and the counts are right
-pub counts_told : (store : StoreView) (rows extents free volumes version : ℕ) → store.ended ≡ None → rows ≡ row_count store.array.table
-    → extents ≡ (extents_for_store store).count
+pub counts_told : (store : StoreView) (rows extent_blocks extents free volumes version : ℕ) → store.ended ≡ None → rows ≡ row_count store.array.table
+    → extent_blocks ≡ (extents_for_store store).blocks → extents ≡ (extents_for_store store).count
     → ((lost : Option Lost) (those : VolumeMap) → IsSettledOn store lost those
     → (free ≡ (extents_for_store store).count - need (extents_for_store store).blocks those.volumes)
     × (volumes ≡ length those.volumes) × (version ≡ those.version))
-    → TellsStatus store (Ok (status_by store rows extents free volumes version))
-counts_told store rows extents free volumes version goes of_rows of_extents counted = record {
+    → TellsStatus store (Ok (status_by store rows extent_blocks extents free volumes version))
+counts_told store rows extent_blocks extents free volumes version goes of_rows of_blocks of_extents counted = record {
   ended = λ refusal is. absurd (none-some refusal (sym goes ∙ is));
   going = λ going. record {
     id = refl;
+    format = refl;
     members = refl;
     chunk = refl;
     stripes = refl;
@@ -66,6 +69,7 @@ counts_told store rows extents free volumes version goes of_rows of_extents coun
     position = refl;
     states = λ slot of_set. refl;
     incarnations = λ slot of_set. refl;
+    extent_blocks = of_blocks;
     extents = of_extents;
     free = λ lost those rests. (counted lost those rests).0;
     volumes = λ lost those rests. (counted lost those rests).1;
@@ -74,16 +78,19 @@ counts_told store rows extents free volumes version goes of_rows of_extents coun
 }
 
 -- so they are by the map of extents that it keeps
-pub status_told : (store : StoreView) (owners : List (Option Owned)) (rows extents free volumes version : ℕ) → store.ended ≡ None
+pub status_told : (store : StoreView) (owners : List (Option Owned)) (rows extent_blocks extents free volumes version : ℕ) → store.ended ≡ None
     → AreKept (extents_for_store store) store.keeps owners
-    → rows ≡ row_count store.array.table → extents ≡ (extents_for_store store).count → free ≡ free_of owners → volumes ≡ used_records store.keeps.records
+    → rows ≡ row_count store.array.table → extent_blocks ≡ (extents_for_store store).blocks → extents ≡ (extents_for_store store).count
+    → free ≡ free_of owners → volumes ≡ used_records store.keeps.records
     → version ≡ store.keeps.version
-    → TellsStatus store (Ok (status_by store rows extents free volumes version))
-status_told store owners rows extents free volumes version goes kept of_rows of_extents of_free of_volumes of_version =
-    counts_told store rows extents free volumes version goes of_rows of_extents counted
+    → TellsStatus store (Ok (status_by store rows extent_blocks extents free volumes version))
+status_told store owners rows extent_blocks extents free volumes version goes kept of_rows of_blocks of_extents of_free of_volumes of_version =
+    counts_told store rows extent_blocks extents free volumes version goes of_rows of_blocks of_extents counted
   where
     its_table : (lost : Option Lost) (those : VolumeMap) (rests : IsSettledOn store lost those) → rests.shown.table ≡ store.keeps
-    its_table lost those rests = one_table rests.logical rests.shown.table store.keeps rests.shown.spelled rests.spelled
+    its_table lost those rests =
+        one_table (extents_for_store store).format rests.logical rests.shown.table store.keeps rests.shown.of_set.version rests.of_format
+        rests.shown.spelled rests.spelled
 
     counted : (lost : Option Lost) (those : VolumeMap) → IsSettledOn store lost those
         → (free ≡ (extents_for_store store).count - need (extents_for_store store).blocks those.volumes) × (volumes ≡ length those.volumes)

@@ -1,5 +1,5 @@
 -- What each command keeps.
-use Rattle.std.proofs.Common.{◌≡◌, ◌≢◌, ℕ, zero, suc, ◌+◌, ◌-◌, ◌<◌, ◌≤◌, Bool, true, false, cond, not, ◌&&◌, ◌==◌, nat_lt, List, [], ◌∷◌, ◌++◌, length, take}
+use Rattle.std.proofs.Common.{◌≡◌, ◌≢◌, inl, inr, ℕ, zero, suc, ◌+◌, ◌-◌, ◌<◌, ◌≤◌, Bool, true, false, cond, not, ◌&&◌, ◌==◌, nat_lt, List, [], ◌∷◌, ◌++◌, length, take}
 use Rattle.std.proofs.Common.{drop, map, get_or, All, Contains, Option, Some, None, is_none, is_some, refl, sym, ap, ap₂, subst, ◌∙◌, arith}
 use Rattle.std.specs.Prelude.{unwrap_or, IsTrue}
 use Rattle.std.specs.List.{list_all}
@@ -13,20 +13,20 @@ use Rattle.sector_model.specs.declared.refusal.Refusal.{Refusal}
 use Rattle.sector_model.specs.declared.refusal.Refusal.TheVariants.{BadCount, OutOfRange, NoVolume}
 use Rattle.volume_table.specs.Names.{name_order, is_same_name, is_good_name}
 use Rattle.extents.specs.declared.extent_layout.ExtentLayout.{ExtentLayout}
-use Rattle.extents.specs.VolumeTables.{extents_for}
+use Rattle.extents.specs.VolumeTables.{extents_for, most_blocks}
 use Rattle.extents.specs.Names.{is_letter, is_name_byte}
-use Rattle.extents.specs.Versions.{most_name_bytes, most_volumes}
+use Rattle.extents.specs.Versions.{is_version_of, most_name_bytes, most_volumes}
 use Rattle.volume_table.specs.Volumes.{Block, IsBlock, zero_block, Volume, VolumeList, VolumeMap, names, blocks_of, need, without, IsVolume, AreVolumes}
 use Rattle.volume_table.specs.VolumeStep.{Command, Create, Extend, Remove, Read, Write, Rename, Names, Upgrade, Reply, Done, Blocks, Volumes, Refused}
 use Rattle.volume_table.specs.VolumeStep.{HasBlocks, is_bad_size, is_bad_count, checks_within, first_refusal, refusal_of, or_refused, unless_refused, reply_to}
 use Rattle.volume_table.specs.VolumeStep.{volumes_after, changed, done, version_after, answer, zero_blocks, blocks_in, overwritten}
 use Rattle.volume_table.specs.Law.{names_of, IsWritten, LeavesRenamed, LeavesWritten, IsListed, HasLength, ListsExactly}
+use Rattle.extents.proofs.Tables.{upgraded_of_format, version_upgraded}
 use Rattle.volume_table.proofs.TableSizes.{longer_names, more_volumes}
 use Rattle.volume_table.proofs.VolumeLemmas.{Below, Rising, none_below, other_name, same_name_itself, All-with_volume, rising_with_volume, rising_without}
 use Rattle.volume_table.proofs.VolumeLemmas.{length-with_new, need-with_new, length-with_other, need-with_other, found_with_volume, others_with_volume}
 use Rattle.volume_table.proofs.VolumeLemmas.{found_has, length-without, need-without, gone_without, length-without_one, need-without_one, others_without}
 use Rattle.volume_table.proofs.VolumeLemmas.{same_name_is}
-use Rattle.extents.specs.declared.record.TheConstants.{MOST_BLOCKS}
 
 -- where nothing is refused, the first check does not apply, and the others refuse nothing
 none_applies : (applies : Bool) (refusal : Refusal) (rest : Option Refusal) → cond applies (Some refusal) rest ≡ None → (applies ≡ false) × (rest ≡ None)
@@ -47,10 +47,10 @@ not_there : (blocks : Option (List Block)) → is_some blocks ≡ false → bloc
 not_there None e = refl
 not_there (Some blocks) e = absurd (true≢false e)
 
-size_within : (count : ℕ) → is_bad_size MOST_BLOCKS count ≡ false → (1 ≤ count) × (count ≤ MOST_BLOCKS)
-size_within count good =
-    let parts = or_parts (count == 0) (nat_lt MOST_BLOCKS count) good in
-    (omega (arith, eqb-false count 0 parts.0), omega (arith, ltb-false MOST_BLOCKS count parts.1))
+size_within : (most count : ℕ) → is_bad_size most count ≡ false → (1 ≤ count) × (count ≤ most)
+size_within most count good =
+    let parts = or_parts (count == 0) (nat_lt most count) good in
+    (omega (arith, eqb-false count 0 parts.0), omega (arith, ltb-false most count parts.1))
 
 length-zero_block : length zero_block ≡ 512
 unfolding zero_block
@@ -63,7 +63,7 @@ zero_blocks_whole count = All-replicate IsBlock count zero_block length-zero_blo
 pub record MayCreate (extents : ExtentLayout) (version : ℕ) (new : List ℕ) (count : ℕ) (volumes : VolumeList) : Type 0 where
   pub good : IsTrue (is_good_name version new)
   pub least : 1 ≤ count
-  pub most : count ≤ MOST_BLOCKS
+  pub most : count ≤ most_blocks extents.blocks
   pub no_such : blocks_of new volumes ≡ None
   pub fewer : length volumes < most_volumes version
   pub fits : need extents.blocks volumes + extents_for extents.blocks count ≤ extents.count
@@ -76,7 +76,7 @@ may_create extents name count volumes none =
     let three = none_applies _ _ _ two.1 in
     let four = none_applies _ _ _ three.1 in
     let five = none_applies _ _ _ four.1 in
-    let size = size_within count two.0 in
+    let size = size_within (most_blocks extents.blocks) count two.0 in
     record {
       good = not-false (is_good_name volumes.version name) one.0;
       least = size.0;
@@ -89,7 +89,7 @@ may_create extents name count volumes none =
 pub record MayExtend (extents : ExtentLayout) (old : List ℕ) (growth : ℕ) (volumes : VolumeList) : Type 0 where
   pub found : blocks_of old volumes ≡ Some (blocks_in old volumes)
   pub grows : 1 ≤ growth
-  pub most : length (blocks_in old volumes) + growth ≤ MOST_BLOCKS
+  pub most : length (blocks_in old volumes) + growth ≤ most_blocks extents.blocks
   pub fits : need extents.blocks (changed (Extend old growth) volumes) ≤ extents.count
 
 pub may_extend : (extents : ExtentLayout) (name : List ℕ) (growth : ℕ) (volumes : VolumeMap) → refusal_of extents (Extend name growth) volumes ≡ None
@@ -99,11 +99,11 @@ may_extend extents name growth volumes none =
     let two = none_applies _ _ _ one.1 in
     let three = none_applies _ _ _ two.1 in
     let long = length (blocks_in name volumes.volumes) + growth in
-    let parts = or_parts (growth == 0) (nat_lt MOST_BLOCKS long) two.0 in
+    let parts = or_parts (growth == 0) (nat_lt (most_blocks extents.blocks) long) two.0 in
     record {
       found = there (blocks_of name volumes.volumes) one.0;
       grows = omega (arith, eqb-false growth 0 parts.0);
-      most = ltb-false MOST_BLOCKS long parts.1;
+      most = ltb-false (most_blocks extents.blocks) long parts.1;
       fits = ltb-false extents.count (need extents.blocks (changed (Extend name growth) volumes.volumes)) three.0;
     }
 
@@ -202,7 +202,7 @@ create_keeps : (extents : ExtentLayout) (name : List ℕ) (count : ℕ) (volumes
 create_keeps extents name count volumes may are =
     let new : Volume = record { name = name; blocks = zero_blocks count } in
     let long : length (zero_blocks count) ≡ count = length-replicate count zero_block in
-    let one : IsVolume volumes.version new = record {
+    let one : IsVolume (most_blocks extents.blocks) volumes.version new = record {
       good = may.good;
       least = omega (arith, long, may.least);
       most = omega (arith, long, may.most);
@@ -213,7 +213,7 @@ create_keeps extents name count volumes may are =
     record {
       is_version = are.is_version;
       few = omega (arith, length-with_new new volumes.volumes are.rising may.no_such, may.fewer);
-      each = All-with_volume (IsVolume volumes.version) new volumes.volumes one are.each;
+      each = All-with_volume (IsVolume (most_blocks extents.blocks) volumes.version) new volumes.volumes one are.each;
       rising = rising_with_volume new volumes.volumes are.rising;
       within = omega (arith, need-with_new extents.blocks new volumes.volumes are.rising may.no_such, same, may.fits);
     }
@@ -224,11 +224,11 @@ extend_keeps : (extents : ExtentLayout) (name : List ℕ) (growth : ℕ) (volume
 extend_keeps extents name growth volumes may are =
     let old = blocks_in name volumes.volumes in
     let new : Volume = record { name = name; blocks = old ++ zero_blocks growth } in
-    let was : IsVolume volumes.version (record { name = name; blocks = old }) =
-    found_has (IsVolume volumes.version) name volumes.volumes old are.each may.found in
+    let was : IsVolume (most_blocks extents.blocks) volumes.version (record { name = name; blocks = old }) =
+    found_has (IsVolume (most_blocks extents.blocks) volumes.version) name volumes.volumes old are.each may.found in
     let long : length (old ++ zero_blocks growth) ≡ length old + growth = length-append old (zero_blocks growth)
     ∙ ap (λ n. length old + n) (length-replicate growth zero_block) in
-    let one : IsVolume volumes.version new = record {
+    let one : IsVolume (most_blocks extents.blocks) volumes.version new = record {
       good = was.good;
       least = omega (arith, long, may.grows);
       most = omega (arith, long, may.most);
@@ -238,7 +238,7 @@ extend_keeps extents name growth volumes may are =
     record {
       is_version = are.is_version;
       few = omega (arith, length-with_other new volumes.volumes old are.rising may.found, are.few);
-      each = All-with_volume (IsVolume volumes.version) new volumes.volumes one are.each;
+      each = All-with_volume (IsVolume (most_blocks extents.blocks) volumes.version) new volumes.volumes one are.each;
       rising = rising_with_volume new volumes.volumes are.rising;
       within = may.fits;
     }
@@ -248,7 +248,7 @@ remove_keeps extents name volumes are =
     record {
       is_version = are.is_version;
       few = omega (arith, length-without name volumes.volumes, are.few);
-      each = All-filter (λ volume. not (is_same_name name volume.name)) (IsVolume volumes.version) volumes.volumes are.each;
+      each = All-filter (λ volume. not (is_same_name name volume.name)) (IsVolume (most_blocks extents.blocks) volumes.version) volumes.volumes are.each;
       rising = rising_without name volumes.volumes are.rising;
       within = omega (arith, need-without extents.blocks name volumes.volumes, are.within);
     }
@@ -259,10 +259,10 @@ write_keeps : (extents : ExtentLayout) (name : List ℕ) (at : ℕ) (written : L
 write_keeps extents name at written volumes whole within are =
     let old = blocks_in name volumes.volumes in
     let new : Volume = record { name = name; blocks = overwritten old at written } in
-    let was : IsVolume volumes.version (record { name = name; blocks = old }) =
-    found_has (IsVolume volumes.version) name volumes.volumes old are.each within.found in
+    let was : IsVolume (most_blocks extents.blocks) volumes.version (record { name = name; blocks = old }) =
+    found_has (IsVolume (most_blocks extents.blocks) volumes.version) name volumes.volumes old are.each within.found in
     let long : length (overwritten old at written) ≡ length old = length-overwritten old at written within.fits in
-    let one : IsVolume volumes.version new = record {
+    let one : IsVolume (most_blocks extents.blocks) volumes.version new = record {
       good = was.good;
       least = omega (arith, long, was.least);
       most = omega (arith, long, was.most);
@@ -274,7 +274,7 @@ write_keeps extents name at written volumes whole within are =
     record {
       is_version = are.is_version;
       few = omega (arith, length-with_other new volumes.volumes old are.rising within.found, are.few);
-      each = All-with_volume (IsVolume volumes.version) new volumes.volumes one are.each;
+      each = All-with_volume (IsVolume (most_blocks extents.blocks) volumes.version) new volumes.volumes one are.each;
       rising = rising_with_volume new volumes.volumes are.rising;
       within = omega (arith, need-with_other extents.blocks new volumes.volumes old are.rising within.found, same, are.within);
     }
@@ -286,16 +286,16 @@ rename_keeps extents old new volumes may are =
     let blocks = blocks_in old volumes.volumes in
     let others = without old volumes.volumes in
     let named : Volume = record { name = new; blocks = blocks } in
-    let was : IsVolume volumes.version (record { name = old; blocks = blocks }) =
-    found_has (IsVolume volumes.version) old volumes.volumes blocks are.each may.found in
-    let one : IsVolume volumes.version named = record { good = may.good; least = was.least; most = was.most; whole = was.whole } in
+    let was : IsVolume (most_blocks extents.blocks) volumes.version (record { name = old; blocks = blocks }) =
+    found_has (IsVolume (most_blocks extents.blocks) volumes.version) old volumes.volumes blocks are.each may.found in
+    let one : IsVolume (most_blocks extents.blocks) volumes.version named = record { good = may.good; least = was.least; most = was.most; whole = was.whole } in
     let rising = rising_without old volumes.volumes are.rising in
     let no_such : blocks_of new others ≡ None = others_without new old volumes.volumes may.apart ∙ may.no_such in
     record {
       is_version = are.is_version;
       few = omega (arith, length-with_new named others rising no_such, length-without_one old volumes.volumes blocks are.rising may.found, are.few);
-      each = All-with_volume (IsVolume volumes.version) named others one
-          (All-filter (λ volume. not (is_same_name old volume.name)) (IsVolume volumes.version) volumes.volumes are.each);
+      each = All-with_volume (IsVolume (most_blocks extents.blocks) volumes.version) named others one
+          (All-filter (λ volume. not (is_same_name old volume.name)) (IsVolume (most_blocks extents.blocks) volumes.version) volumes.volumes are.each);
       rising = rising_with_volume named others rising;
       within = omega (
         arith,
@@ -314,18 +314,28 @@ good_in_last version (first ∷ rest) good =
     let below : length rest < most_name_bytes 2 = omega (arith, ltb-true (length rest) (most_name_bytes version) parts.1, longer_names version) in
     and_from (is_letter first && list_all is_name_byte rest) (nat_lt (length rest) (most_name_bytes 2)) parts.0 (lt-ltb (length rest) (most_name_bytes 2) below)
 
-volume_in_last : (version : ℕ) (volume : Volume) → IsVolume version volume → IsVolume 2 volume
-volume_in_last version volume is = record { good = good_in_last version volume.name is.good; least = is.least; most = is.most; whole = is.whole }
+volume_in_last : (most version : ℕ) (volume : Volume) → IsVolume most version volume → IsVolume most 2 volume
+volume_in_last most version volume is = record { good = good_in_last version volume.name is.good; least = is.least; most = is.most; whole = is.whole }
 
-upgrade_keeps : (extents : ExtentLayout) (volumes : VolumeMap) → AreVolumes extents volumes → AreVolumes extents (done Upgrade volumes)
-upgrade_keeps extents volumes are =
+-- and so has an upgraded one
+limits_in_last : (extents : ExtentLayout) (volumes : VolumeMap) → is_version_of extents.format 2 ≡ true → AreVolumes extents volumes
+    → AreVolumes extents (record { version = 2; volumes = volumes.volumes })
+limits_in_last extents volumes of_format are =
+    let most = most_blocks extents.blocks in
     record {
-      is_version = (omega arith, omega arith);
+      is_version = ((omega arith, omega arith), of_format);
       few = omega (arith, are.few, more_volumes volumes.version);
-      each = All-weaker (IsVolume volumes.version) (IsVolume 2) (volume_in_last volumes.version) volumes.volumes are.each;
+      each = All-weaker (IsVolume most volumes.version) (IsVolume most 2) (volume_in_last most volumes.version) volumes.volumes are.each;
       rising = are.rising;
       within = are.within;
     }
+
+pub upgrade_keeps : (extents : ExtentLayout) (volumes : VolumeMap) → AreVolumes extents volumes → AreVolumes extents (done Upgrade volumes)
+upgrade_keeps extents volumes are = elim (version_upgraded volumes.version) [
+  | inl first ↦ subst (λ (v : ℕ). AreVolumes extents (record { version = v; volumes = volumes.volumes })) (sym first.1) (limits_in_last extents volumes
+      (subst (λ (v : ℕ). is_version_of extents.format v ≡ true) first.1 (upgraded_of_format extents.format volumes.version are.is_version.1)) are)
+  | inr same ↦ subst (λ (v : ℕ). AreVolumes extents (record { version = v; volumes = volumes.volumes })) (sym same) are
+]
 
 -- a command that is not refused keeps the limits
 changed_keeps : (extents : ExtentLayout) (command : Command) (volumes : VolumeMap) → HasBlocks command → AreVolumes extents volumes

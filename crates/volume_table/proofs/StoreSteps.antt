@@ -31,6 +31,8 @@ use Rattle.array_io.specs.Believed.Views.{ArrayView, EndsIt, GoesOn, HasLostOne,
 use Rattle.array_io.proofs.Marks.MarkingHolds.{incarnation_stays, missing_then, state_stays}
 use Rattle.extents.specs.declared.extent_layout.ExtentLayout.{ExtentLayout}
 use Rattle.extents.specs.SetExtents.{extents_in}
+use Rattle.extents.specs.VolumeTables.{most_blocks}
+use Rattle.extents.specs.TableLaw.{IsOfFormat}
 use Rattle.extents.specs.TableSpelling.{Spell}
 use Rattle.extents.proofs.TableLaws.{one_table}
 use Rattle.scrub.specs.Scrubbing.{AreUnsound, row_in}
@@ -47,7 +49,6 @@ use Rattle.volume_table.specs.ListChanges.{Change, ChangesList, HoldsForSomeNow,
 use Rattle.volume_table.proofs.ListChanges.{changes_none, end_is}
 use Rattle.volume_table.proofs.StepLemmas.{changed_if_done}
 use Rattle.volume_table.proofs.VolumeLemmas.{same_name_is, same_name_itself}
-use Rattle.extents.specs.declared.record.TheConstants.{MOST_BLOCKS}
 
 -- ---- the rows that are not sound
 
@@ -274,7 +275,8 @@ shown_by : (store : StoreView) (lost : Option Lost) (volumes : VolumeMap) (settl
     → ShowsBy (extents_for_store store) store.keeps settled.logical volumes
 shown_by store lost volumes settled = record {
   shows = settled.shown;
-  by = one_table settled.logical settled.shown.table store.keeps settled.shown.spelled settled.spelled;
+  by = one_table (extents_for_store store).format settled.logical settled.shown.table store.keeps settled.shown.of_set.version settled.of_format
+      settled.shown.spelled settled.spelled;
 }
 
 stands_by : (base : Table) (devices : ℕ) (lost : Option Lost) (kind : Kind) (maps : List VolumeMap)
@@ -327,6 +329,8 @@ settled_then honest entries passes leaves old new after going changes done fair 
         rests = some.rests.rests;
         shown = subst (λ (n : ExtentLayout). Shows n some.logical (after volumes)) (ap extents_in (sym changes.goes_on.not_older.same_geometry)) now.shows;
         spelled = subst (Spell some.logical) now.by now.shows.spelled;
+        of_format = subst (λ (n : ExtentLayout). IsOfFormat n.format new.keeps) (ap extents_in (sym changes.goes_on.not_older.same_geometry))
+            (subst (IsOfFormat (extents_for_store old).format) now.by now.shows.of_set.version);
         going = going;
       };
     }
@@ -361,7 +365,8 @@ kind_is_listed command (Refused refusal) kind = absurd (not_refused command (Ref
 kind_is_listed command reply kind = kind
 
 -- the entries of a command are counted
-end_more : (command : Command) (entries : ℕ) (old new : ArrayView) (refusal : Refusal) → entries ≤ MOST_BLOCKS + 1
+end_more : (command : Command) (entries : ℕ) (old new : ArrayView) (refusal : Refusal)
+    → entries ≤ most_blocks (extents_in old.table.geometry).blocks + 1
     → IsEndOf old new (IsNumberFull entries old new) refusal
     → IsEndOf old new (IsCounterFull (OnVolumes command) old new) refusal
 end_more command entries old new TwoLost few end = end
@@ -417,7 +422,7 @@ refused_at_once honest command store refusal going among goes refuses = record {
 
 -- A command that is admitted, and whose calls were all answered, is done.
 pub done_with_volumes : (honest : Type 0) (command : Command) (entries : ℕ) (passes leaves : Change) (old new : StoreView) (reply : Reply) → HasBlocks command
-    → entries ≤ MOST_BLOCKS + 1
+    → entries ≤ most_blocks (extents_for_store old).blocks + 1
     → old.ended ≡ None → new.ended ≡ None → (honest → IsTrueTo new.array.panel new.array.history)
     → ChangesList honest entries passes leaves old.array new.array (Ok tt) → IsOfItsKind command reply
     → ((sectors : List Block) (volumes : VolumeMap) → ShowsBy (extents_for_store old) old.keeps sectors volumes
@@ -456,7 +461,7 @@ done_with_volumes honest command entries passes leaves old new reply whole few g
 
 -- A command that is admitted, and whose calls ended with 15 or 16, ends the store.
 pub ended_with_volumes : (honest : Type 0) (command : Command) (entries : ℕ) (passes leaves : Change) (old new : StoreView) (refusal : Refusal)
-    → HasBlocks command → entries ≤ MOST_BLOCKS + 1
+    → HasBlocks command → entries ≤ most_blocks (extents_for_store old).blocks + 1
     → old.ended ≡ None → new.ended ≡ Some refusal → (honest → IsTrueTo new.array.panel new.array.history)
     → ChangesList honest entries passes leaves old.array new.array (Err refusal)
     → ((sectors : List Block) (volumes : VolumeMap) → ShowsBy (extents_for_store old) old.keeps sectors volumes

@@ -1,8 +1,9 @@
 -- What a logical list shows after its table is changed.
-use Rattle.std.proofs.Common.{◌≡◌, ◌≢◌, ⊎_elim, inl, inr, ℕ, ◌≤◌, Bool, true, false, List, [], ◌++◌, take, get_or, slice_set, IsTrue, Option, Some, None}
-use Rattle.extents.specs.Versions.{is_version_of}
-use Rattle.layout_map.specs.declared.format.Format.{Format}
-use Rattle.layout_map.specs.declared.format.Format.TheVariants.{One, Two}
+use Rattle.std.proofs.Common.{◌≡◌, ◌≢◌, ⊎_elim, inl, inr, ℕ, ◌≤◌, Bool, true, false, List, [], ◌++◌, length, take, get_or, slice_set, IsTrue, Option, Some, None}
+use Rattle.extents.specs.Checks.{AreCleanBeyond}
+use Rattle.extents.specs.Versions.{IsVersion, is_version_of, most_volumes, tells_dirty, upgraded_version}
+use Rattle.extents.proofs.Tables.{upgraded_of_format, upgraded_tells, version_upgraded}
+use Rattle.volume_table.proofs.CleanExtents.{WasUsed, clean_moved}
 use Rattle.std.proofs.Common.{refl, sym}
 use Rattle.std.proofs.Common.{ap, subst, ◌∙◌, arith}
 use Rattle.std.proofs.Props.{props}
@@ -12,7 +13,7 @@ use Rattle.std.specs.Prelude.{unwrap_or}
 use Rattle.std.proofs.lemmas.List.{get_or-set_other, get_or-set_same}
 use Rattle.std.proofs.lemmas.Option.{none-some, same_Some}
 use Rattle.extents.specs.declared.extent_layout.ExtentLayout.{ExtentLayout}
-use Rattle.extents.specs.ExtentMaps.{place_of, sector_of_block}
+use Rattle.extents.specs.ExtentMaps.{is_dirty, place_of, sector_of_block}
 use Rattle.extents.specs.declared.owned.Owned.{Owned}
 use Rattle.extents.specs.declared.record.Record.{Record}
 use Rattle.extents.specs.declared.volume_table.VolumeTable.{VolumeTable}
@@ -20,18 +21,17 @@ use Rattle.extents.specs.Owners.{owner_of, HasPlaces, IsAt}
 use Rattle.extents.specs.SetExtents.{IsOfSet}
 use Rattle.extents.specs.TableSpelling.{Spell}
 use Rattle.extents.specs.Versions.{table_length}
-use Rattle.extents.specs.VolumeTables.{AreDistinct, HasRecord, HaveTheirPlaces, extents_for, extents_of, record_of}
+use Rattle.extents.specs.VolumeTables.{AreDistinct, HasRecord, HaveTheirPlaces, extents_for, extents_of, most_blocks, record_of}
 use Rattle.extents.proofs.OwnerLemmas.{places_by_owner}
 use Rattle.extents.proofs.Tables.{some_within}
 use Rattle.volume_table.specs.Names.{is_good_name, is_same_name}
 use Rattle.volume_table.specs.Volumes.{Block, Volume, VolumeList, VolumeMap, blocks_of, with_volume, without, IsVolume, AreVolumes}
 use Rattle.volume_table.specs.VolumeStep.{Create, Extend, Remove, Rename, Upgrade, Done, zero_blocks, blocks_in, reply_to, refusal_of, volumes_after}
-use Rattle.volume_table.specs.Shows.{AreBlocksIn, IsOfVolume, AreShown, Shows, HaveSameBlocks, ChangesName, ChangesOneRecord, IsRecordOf}
+use Rattle.volume_table.specs.Shows.{AreBlocksIn, AreClean, IsOfVolume, AreShown, Shows, HaveSameBlocks, ChangesName, ChangesOneRecord, IsRecordOf}
 use Rattle.volume_table.proofs.VolumeLemmas.{same_name_is, same_name_itself, found_with_volume, others_with_volume, gone_without, others_without}
-use Rattle.volume_table.proofs.StepLemmas.{step_keeps, changed_if_done, done_if_not_refused}
+use Rattle.volume_table.proofs.StepLemmas.{step_keeps, changed_if_done, done_if_not_refused, upgrade_keeps}
 use Rattle.volume_table.proofs.ShowsLemmas.{distinct_names, good_names}
 use Rattle.volume_table.proofs.TableSizes.{longer_names, more_volumes, table_short}
-use Rattle.extents.specs.declared.version.TheConstants.{LAST_VERSION}
 
 -- a map with another list of volumes
 abbrev with_list : VolumeList → VolumeMap → VolumeMap
@@ -52,8 +52,9 @@ stands_still {extents} owners before left volumes number entry same was =
 pub unused_may_change : (extents : ExtentLayout) (before left : List Block) (volumes : VolumeMap) (shows : Shows extents before volumes)
     → take (table_length volumes.version) left ≡ take (table_length volumes.version) before
     → ((number : ℕ) (entry : Record) → record_of shows.table.records number ≡ Some entry
-    → HaveSameBlocks extents shows.table.extents number entry before left) → Shows extents left volumes
-unused_may_change extents before left volumes shows same_table same =
+    → HaveSameBlocks extents shows.table.extents number entry before left)
+    → AreClean extents shows.table.dirty shows.table.records shows.table.extents left → Shows extents left volumes
+unused_may_change extents before left volumes shows same_table same clean =
     let table = shows.table in
     record {
       limits = shows.limits;
@@ -66,6 +67,7 @@ unused_may_change extents before left volumes shows same_table same =
             (shows.shown.used number entry used);
         all = shows.shown.all;
       };
+      clean = clean;
     }
 
 -- the volume of another record, in the new table
@@ -150,8 +152,9 @@ pub put_is_shown : (extents : ExtentLayout) (before left : List Block) (volumes 
     → ChangesOneRecord extents shows.table.records table.records shows.table.extents table.extents before left number
     → IsRecordOf extents table.records table.extents left number new
     → ((entry : Record) → record_of shows.table.records number ≡ Some entry → entry.name.bytes.items ≡ new.name)
+    → AreClean extents table.dirty table.records table.extents left
     → Shows extents left (with_list (with_volume new volumes.volumes) volumes)
-put_is_shown extents before left volumes new table number shows limits spelled of_version of_set changes is_of was_named =
+put_is_shown extents before left volumes new table number shows limits spelled of_version of_set changes is_of was_named clean =
     record {
       limits = limits;
       table = table;
@@ -160,6 +163,7 @@ put_is_shown extents before left volumes new table number shows limits spelled o
       of_set = of_set;
       shown = put_is_shown_by shows.table.records table.records shows.table.extents table.extents before left volumes.volumes new number shows.shown
           (distinct_names table.version table.records table.extents table.is_table) changes is_of was_named;
+      clean = clean;
     }
 
 removal_is_shown_by : {extents : ExtentLayout} (records new_records : List (Option Record)) (owners new_owners : List (Option Owned))
@@ -203,8 +207,9 @@ pub removal_is_shown : (extents : ExtentLayout) (before left : List Block) (volu
     → Spell left table → table.version ≡ volumes.version → IsOfSet extents table
     → ChangesOneRecord extents shows.table.records table.records shows.table.extents table.extents before left number
     → record_of shows.table.records number ≡ Some entry → record_of table.records number ≡ None
+    → AreClean extents table.dirty table.records table.extents left
     → Shows extents left (with_list (without entry.name.bytes.items volumes.volumes) volumes)
-removal_is_shown extents before left volumes table number entry shows limits spelled of_version of_set changes used free =
+removal_is_shown extents before left volumes table number entry shows limits spelled of_version of_set changes used free clean =
     record {
       limits = limits;
       table = table;
@@ -213,6 +218,7 @@ removal_is_shown extents before left volumes table number entry shows limits spe
       of_set = of_set;
       shown = removal_is_shown_by shows.table.records table.records shows.table.extents table.extents before left volumes.volumes number entry shows.shown
           (distinct_names shows.table.version shows.table.records shows.table.extents shows.table.is_table) changes used free;
+      clean = clean;
     }
 
 -- the commands
@@ -222,15 +228,15 @@ pub create_is_shown : (extents : ExtentLayout) (before left : List Block) (volum
     → Spell left table → table.version ≡ volumes.version → IsOfSet extents table
     → ChangesOneRecord extents shows.table.records table.records shows.table.extents table.extents before left number
     → IsRecordOf extents table.records table.extents left number (record { name = name; blocks = zero_blocks count })
-    → record_of shows.table.records number ≡ None
+    → record_of shows.table.records number ≡ None → AreClean extents table.dirty table.records table.extents left
     → Shows extents left (volumes_after extents (Create name count) volumes)
-create_is_shown extents before left volumes name count table number shows replied spelled of_version of_set changes is_of unused =
+create_is_shown extents before left volumes name count table number shows replied spelled of_version of_set changes is_of unused clean =
     let same = changed_if_done extents (Create name count) volumes (done_if_not_refused (refusal_of extents (Create name count) volumes) Done replied) in
     let limits = step_keeps extents (Create name count) volumes tt shows.limits in
     subst (Shows extents left) (sym same)
     (put_is_shown extents before left volumes (record { name = name; blocks = zero_blocks count }) table number shows (subst (AreVolumes extents) same limits)
     spelled of_version of_set changes is_of
-    (λ entry used. absurd (none-some entry (sym unused ∙ used))))
+    (λ entry used. absurd (none-some entry (sym unused ∙ used))) clean)
 
 pub extend_is_shown : (extents : ExtentLayout) (before left : List Block) (volumes : VolumeMap) (growth : ℕ) (table : VolumeTable) (number : ℕ) (entry : Record)
     (shows : Shows extents before volumes)
@@ -240,15 +246,16 @@ pub extend_is_shown : (extents : ExtentLayout) (before left : List Block) (volum
     → ChangesOneRecord extents shows.table.records table.records shows.table.extents table.extents before left number
     → IsRecordOf extents table.records table.extents left number
     (record { name = entry.name.bytes.items; blocks = blocks_in entry.name.bytes.items volumes.volumes ++ zero_blocks growth })
+    → AreClean extents table.dirty table.records table.extents left
     → Shows extents left (volumes_after extents (Extend entry.name.bytes.items growth) volumes)
-extend_is_shown extents before left volumes growth table number entry shows used replied spelled of_version of_set changes is_of =
+extend_is_shown extents before left volumes growth table number entry shows used replied spelled of_version of_set changes is_of clean =
     let name = entry.name.bytes.items in
     let same = changed_if_done extents (Extend name growth) volumes (done_if_not_refused (refusal_of extents (Extend name growth) volumes) Done replied) in
     let limits = step_keeps extents (Extend name growth) volumes tt shows.limits in
     subst (Shows extents left) (sym same)
     (put_is_shown extents before left volumes (record { name = name; blocks = blocks_in name volumes.volumes ++ zero_blocks growth }) table number shows
     (subst (AreVolumes extents) same limits) spelled of_version of_set changes is_of
-    (λ other other_used. ap (λ (r : Record). r.name.bytes.items) (same_Some other entry (sym other_used ∙ used))))
+    (λ other other_used. ap (λ (r : Record). r.name.bytes.items) (same_Some other entry (sym other_used ∙ used))) clean)
 
 pub remove_is_shown : (extents : ExtentLayout) (before left : List Block) (volumes : VolumeMap) (table : VolumeTable) (number : ℕ) (entry : Record)
     (shows : Shows extents before volumes)
@@ -256,15 +263,15 @@ pub remove_is_shown : (extents : ExtentLayout) (before left : List Block) (volum
     → reply_to extents (Remove entry.name.bytes.items) volumes ≡ Done
     → Spell left table → table.version ≡ volumes.version → IsOfSet extents table
     → ChangesOneRecord extents shows.table.records table.records shows.table.extents table.extents before left number
-    → record_of table.records number ≡ None
+    → record_of table.records number ≡ None → AreClean extents table.dirty table.records table.extents left
     → Shows extents left (volumes_after extents (Remove entry.name.bytes.items) volumes)
-remove_is_shown extents before left volumes table number entry shows used replied spelled of_version of_set changes free =
+remove_is_shown extents before left volumes table number entry shows used replied spelled of_version of_set changes free clean =
     let name = entry.name.bytes.items in
     let same = changed_if_done extents (Remove name) volumes (done_if_not_refused (refusal_of extents (Remove name) volumes) Done replied) in
     let limits = step_keeps extents (Remove name) volumes tt shows.limits in
     subst (Shows extents left) (sym same)
     (removal_is_shown extents before left volumes table number entry shows (subst (AreVolumes extents) same limits) spelled of_version of_set changes used
-    free)
+    free clean)
 
 -- ---- a rename
 
@@ -328,17 +335,19 @@ renaming_is_shown_by {extents} records new_records owners new_owners before left
       stand = λ j extent below at. same_sector extent j ∙ its.stand j extent below (sym (same_owner extent) ∙ at);
     }
 
--- a set that may have a table of one of the versions may have one of any
-pub any_version : (format : Format) (version other : ℕ) → is_version_of format version ≡ true → is_version_of format other ≡ true
-any_version One version other is = refl
-any_version Two version other is = is
+-- a table that tells the same extents as dirty tells none that the set doesn't have
+same_clean_beyond : (extents : ExtentLayout) (was table : VolumeTable) → table.dirty ≡ was.dirty → tells_dirty table.version ≡ tells_dirty was.version
+    → IsOfSet extents was → AreCleanBeyond table.version table.dirty extents.count
+same_clean_beyond extents was table same_dirty same_tells of_set tells extent beyond below =
+    ap (λ (dirty : List Bool). is_dirty dirty extent) same_dirty ∙ of_set.clean_beyond (sym same_tells ∙ tells) extent beyond below
 
 -- a table with the same owners, in which one record has another name, may be the set's too
 renamed_of_set : (extents : ExtentLayout) (was table : VolumeTable) (number : ℕ) (entry : Record) (name : List ℕ) → record_of was.records number ≡ Some entry
     → ChangesName was.records table.records number entry name → ((extent : ℕ) → owner_of table.extents extent ≡ owner_of was.extents extent)
-    → IsOfSet extents was → IsOfSet extents table
-renamed_of_set extents was table number entry name used changes same_owner of_set = record {
-  version = any_version extents.format was.version table.version of_set.version;
+    → table.version ≡ was.version → table.dirty ≡ was.dirty → IsOfSet extents was → IsOfSet extents table
+renamed_of_set extents was table number entry name used changes same_owner same_version same_dirty of_set = record {
+  version = ap (is_version_of extents.format) same_version ∙ of_set.version;
+  clean_beyond = same_clean_beyond extents was table same_dirty (ap tells_dirty same_version) of_set;
   free_beyond = λ extent above. same_owner extent ∙ of_set.free_beyond extent above;
   placed = ∥∥₁_elim of_set.placed (hlevel props) (λ placed. ∣ (λ volume.
       places_by_owner was.extents table.extents volume (extents_of extents.blocks (record_of table.records volume)) same_owner
@@ -353,16 +362,43 @@ renamed_of_set extents was table number entry name used changes same_owner of_se
       | inr apart ↦ ap (extents_of extents.blocks) (changes.others volume apart)
     ]
 
+-- and its clean extents stay so
+renamed_clean : (extents : ExtentLayout) (was table : VolumeTable) (number : ℕ) (entry : Record) (name : List ℕ) (before left : List Block)
+    → record_of was.records number ≡ Some entry
+    → ChangesName was.records table.records number entry name → ((extent : ℕ) → owner_of table.extents extent ≡ owner_of was.extents extent)
+    → table.dirty ≡ was.dirty
+    → ((extent j : ℕ) → get_or left (sector_of_block extents extent j) [] ≡ get_or before (sector_of_block extents extent j) [])
+    → AreClean extents was.dirty was.records was.extents before → AreClean extents table.dirty table.records table.extents left
+renamed_clean extents was table number entry name before left used changes same_owner same_dirty same_sector =
+    clean_moved extents was.dirty table.dirty was.records table.records was.extents table.extents before left
+    (λ extent clean. ap (λ (dirty : List Bool). is_dirty dirty extent) (sym same_dirty) ∙ clean)
+    (λ extent clean free. sym (same_owner extent) ∙ free)
+    (λ extent other place at. sym (same_owner extent) ∙ at)
+    (λ extent other place one at one_used. was_used other one one_used)
+    same_sector
+  where
+    was_used : (other : ℕ) (one : Record) → record_of table.records other ≡ Some one → WasUsed was.records other one
+    was_used other one one_used = elim (cases_eq other number) [
+      | inl same ↦
+          let is : one ≡ changes.entry = same_Some one changes.entry (sym one_used ∙ ap (record_of table.records) same ∙ changes.used) in
+          record {
+            before = entry;
+            used = ap (record_of was.records) same ∙ used;
+            fewer = omega (arith, changes.as_long, ap (λ (r : Record). r.blocks) is);
+          }
+      | inr apart ↦ record { before = one; used = sym (changes.others other apart) ∙ one_used; fewer = omega arith }
+    ]
+
 pub rename_is_shown : (extents : ExtentLayout) (before left : List Block) (volumes : VolumeMap) (name : List ℕ) (table : VolumeTable) (number : ℕ)
     (entry : Record)
     (shows : Shows extents before volumes)
     → record_of shows.table.records number ≡ Some entry
     → reply_to extents (Rename entry.name.bytes.items name) volumes ≡ Done
     → Spell left table → table.version ≡ volumes.version → ChangesName shows.table.records table.records number entry name
-    → ((extent : ℕ) → owner_of table.extents extent ≡ owner_of shows.table.extents extent)
+    → ((extent : ℕ) → owner_of table.extents extent ≡ owner_of shows.table.extents extent) → table.dirty ≡ shows.table.dirty
     → ((sector : ℕ) → table_length volumes.version ≤ sector → get_or left sector [] ≡ get_or before sector [])
     → Shows extents left (volumes_after extents (Rename entry.name.bytes.items name) volumes)
-rename_is_shown extents before left volumes name table number entry shows used replied spelled of_version changes same_owner beyond =
+rename_is_shown extents before left volumes name table number entry shows used replied spelled of_version changes same_owner same_dirty beyond =
     let old = entry.name.bytes.items in
     let was = shows.table in
     let same = changed_if_done extents (Rename old name) volumes (done_if_not_refused (refusal_of extents (Rename old name) volumes) Done replied) in
@@ -373,65 +409,60 @@ rename_is_shown extents before left volumes name table number entry shows used r
       table = table;
       of_version = of_version;
       spelled = spelled;
-      of_set = renamed_of_set extents was table number entry name used changes same_owner shows.of_set;
+      of_set = renamed_of_set extents was table number entry name used changes same_owner (of_version ∙ sym shows.of_version) same_dirty shows.of_set;
       shown = renaming_is_shown_by was.records table.records was.extents table.extents before left volumes.volumes number entry name shows.shown
           (distinct_names was.version was.records was.extents was.is_table) (distinct_names table.version table.records table.extents table.is_table) used
           changes same_owner
           (λ extent j. beyond (sector_of_block extents extent j) (omega (arith, table_short volumes.version, extents.limits.above)));
+      clean = renamed_clean extents was table number entry name before left used changes same_owner same_dirty
+          (λ extent j. beyond (sector_of_block extents extent j) (omega (arith, table_short volumes.version, extents.limits.above))) shows.clean;
     } in
     subst (Shows extents left) (sym same) after
 
 -- ---- an upgrade
 
--- what is good in a version is so in version 2
-good_later : (version : ℕ) (name : List ℕ) → IsTrue (is_good_name version name) → IsTrue (is_good_name 2 name)
-good_later version name good =
-    let both = (good_names version name).0 good in
-    (good_names 2 name).1 (both.0, omega (arith, both.1, longer_names version))
-
-volume_later : (version : ℕ) (volume : Volume) → IsVolume version volume → IsVolume 2 volume
-volume_later version volume is = record { good = good_later version volume.name is.good; least = is.least; most = is.most; whole = is.whole }
-
-limits_later : (extents : ExtentLayout) (volumes : VolumeMap) → AreVolumes extents volumes
-    → AreVolumes extents (record { version = 2; volumes = volumes.volumes })
-limits_later extents volumes limits = record {
-  is_version = (omega arith, omega arith);
-  few = omega (arith, limits.few, more_volumes volumes.version);
-  each = λ k d within. volume_later volumes.version (get_or volumes.volumes k d) (limits.each k d within);
-  rising = limits.rising;
-  within = limits.within;
-}
-
--- a table with the same records and owners may be the set's too
-pub same_of_set : (extents : ExtentLayout) (was table : VolumeTable) → table.records ≡ was.records → table.extents ≡ was.extents → IsOfSet extents was
-    → IsOfSet extents table
-same_of_set extents was table same_records same_extents of_set = record {
-  version = any_version extents.format was.version table.version of_set.version;
+-- an upgraded table with the same records and owners may be the set's too
+pub same_of_set : (extents : ExtentLayout) (was table : VolumeTable) → table.version ≡ upgraded_version was.version → table.records ≡ was.records
+    → table.extents ≡ was.extents → table.dirty ≡ was.dirty → IsOfSet extents was → IsOfSet extents table
+same_of_set extents was table upgraded same_records same_extents same_dirty of_set = record {
+  version = ap (is_version_of extents.format) upgraded ∙ upgraded_of_format extents.format was.version of_set.version;
   free_beyond = λ extent above. ap (λ (its : List (Option Owned)). owner_of its extent) same_extents ∙ of_set.free_beyond extent above;
+  clean_beyond = same_clean_beyond extents was table same_dirty (ap tells_dirty upgraded ∙ upgraded_tells was.version) of_set;
   placed = subst (λ (its : List (Option Record)). ∥ HaveTheirPlaces extents.blocks its table.extents ∥₁) (sym same_records)
       (subst (λ (its : List (Option Owned)). ∥ HaveTheirPlaces extents.blocks was.records its ∥₁) (sym same_extents) of_set.placed);
 }
 
 pub upgrade_is_shown : (extents : ExtentLayout) (before left : List Block) (volumes : VolumeMap) (table : VolumeTable) (shows : Shows extents before volumes)
-    → Spell left table → table.version ≡ LAST_VERSION → table.records ≡ shows.table.records → table.extents ≡ shows.table.extents
-    → ((sector : ℕ) → table_length LAST_VERSION ≤ sector → get_or left sector [] ≡ get_or before sector [])
+    → Spell left table → table.version ≡ upgraded_version shows.table.version → table.records ≡ shows.table.records → table.extents ≡ shows.table.extents
+    → table.dirty ≡ shows.table.dirty
+    → ((sector : ℕ) → table_length table.version ≤ sector → get_or left sector [] ≡ get_or before sector [])
     → Shows extents left (volumes_after extents Upgrade volumes)
-upgrade_is_shown extents before left volumes table shows spelled of_version same_records same_extents beyond =
+upgrade_is_shown extents before left volumes table shows spelled upgraded same_records same_extents same_dirty beyond =
     record {
-      limits = limits_later extents volumes shows.limits;
+      limits = upgrade_keeps extents volumes shows.limits;
       table = table;
-      of_version = of_version;
+      of_version = upgraded ∙ ap upgraded_version shows.of_version;
       spelled = spelled;
-      of_set = same_of_set extents shows.table table same_records same_extents shows.of_set;
+      of_set = same_of_set extents shows.table table upgraded same_records same_extents same_dirty shows.of_set;
       shown = subst (λ (records : List (Option Record)). AreShown extents records table.extents left volumes.volumes) (sym same_records)
           (subst (λ (owners : List (Option Owned)). AreShown extents shows.table.records owners left volumes.volumes) (sym same_extents) still_shown);
+      clean = subst (λ (records : List (Option Record)). AreClean extents table.dirty records table.extents left) (sym same_records)
+          (subst (λ (owners : List (Option Owned)). AreClean extents table.dirty shows.table.records owners left) (sym same_extents)
+          (subst (λ (dirty : List Bool). AreClean extents dirty shows.table.records shows.table.extents left) (sym same_dirty) still_clean));
     }
   where
     still_shown : AreShown extents shows.table.records shows.table.extents left volumes.volumes
     still_shown = record {
       used = λ number entry used.
           stands_still shows.table.extents before left volumes.volumes number entry
-          (λ j extent below at. beyond (sector_of_block extents extent j) (omega (arith, table_short LAST_VERSION, extents.limits.above)))
+          (λ j extent below at. beyond (sector_of_block extents extent j) (omega (arith, table_short table.version, extents.limits.above)))
           (shows.shown.used number entry used);
       all = shows.shown.all;
     }
+
+    still_clean : AreClean extents shows.table.dirty shows.table.records shows.table.extents left
+    still_clean =
+        clean_moved extents shows.table.dirty shows.table.dirty shows.table.records shows.table.records shows.table.extents shows.table.extents before left
+        (λ extent clean. clean) (λ extent clean free. free) (λ extent number place at. at)
+        (λ extent number place entry at used. record { before = entry; used = used; fewer = omega arith })
+        (λ extent j. beyond (sector_of_block extents extent j) (omega (arith, table_short table.version, extents.limits.above))) shows.clean

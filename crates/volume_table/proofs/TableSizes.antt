@@ -1,12 +1,15 @@
 -- What the limits of a version are at most, and what they grow to from version 1 to 2.
-use Rattle.std.proofs.Common.{◌≡◌, ℕ, ◌+◌, ◌-◌, ◌*◌, ◌<◌, ◌≤◌, ◌==◌, Bool, true, false, cond, List, [], length, take, get_or, sym, ◌∙◌, arith}
+use Rattle.std.proofs.Common.{◌≡◌, ℕ, ◌+◌, ◌-◌, ◌*◌, ◌<◌, ◌≤◌, ◌==◌, Bool, true, false, cond, List, [], length, take, get_or, ap, refl, sym, ◌∙◌, arith}
 use Rattle.std.proofs.lemmas.List.{same_lists, length-take, get_or-take, get_or_default}
 use Rattle.std.proofs.lemmas.Nat.{mul-le}
 use Rattle.layout_map.specs.declared.geometry.Geometry.{Geometry}
 use Rattle.layout_map.specs.Placement.{data_sectors_of, rows_of}
 use Rattle.layout_map.proofs.Places.{chunk_least, data_sectors_by_rows, extents_fit}
-use Rattle.extents.specs.SetExtents.{extents_in}
-use Rattle.extents.specs.Versions.{by_version, most_volumes, most_name_bytes, record_sectors, table_length}
+use Rattle.extents.specs.declared.volume_table.VolumeTable.{VolumeTable}
+use Rattle.extents.specs.SetExtents.{IsOfSet, extents_in}
+use Rattle.extents.specs.TableLaw.{IsOfFormat}
+use Rattle.layout_map.specs.declared.format.Format.{Format}
+use Rattle.extents.specs.Versions.{by_version, is_version_of, most_volumes, most_name_bytes, record_sectors, table_length}
 use Rattle.volume_table.specs.Volumes.{Block, VolumeMap}
 use Rattle.extents.specs.declared.name.TheConstants.{MOST_NAME_BYTES}
 use Rattle.extents.specs.declared.volume_table.TheConstants.{MOST_VOLUMES, TABLE_SECTORS}
@@ -51,6 +54,15 @@ room_for geometry count few =
       extents_fit geometry.limits,
       mul-le count (extents_in geometry).blocks (extents_in geometry).count (extents_in geometry).blocks few (omega arith),
     )
+
+-- the extents of a set are of its format
+pub format_in : (geometry : Geometry) → (extents_in geometry).format ≡ geometry.format
+unfolding extents_in
+format_in geometry = refl
+
+-- so a table of the set is
+pub of_format_in : (geometry : Geometry) (table : VolumeTable) → IsOfSet (extents_in geometry) table → IsOfFormat geometry.format table
+of_format_in geometry table of_set = ap (λ (format : Format). is_version_of format table.version) (sym (format_in geometry)) ∙ of_set.version
 
 -- a table has 11 sectors at least
 pub table_long : (version : ℕ) → 11 ≤ table_length version

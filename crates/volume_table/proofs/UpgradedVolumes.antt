@@ -9,7 +9,7 @@ use Rattle.extents.specs.SetExtents.{extents_in}
 use Rattle.extents.specs.declared.owned.Owned.{Owned}
 use Rattle.extents.specs.declared.volume_table.VolumeTable.{VolumeTable}
 use Rattle.extents.specs.TableSpelling.{Spell}
-use Rattle.extents.specs.Versions.{table_length}
+use Rattle.extents.specs.Versions.{table_length, upgraded_version}
 use Rattle.extents.proofs.TableLaws.{one_table}
 use Rattle.volume_table.specs.Volumes.{Block, VolumeMap}
 use Rattle.volume_table.specs.VolumeStep.{Done, Upgrade, done}
@@ -24,11 +24,11 @@ use Rattle.volume_table.specs.ListChanges.{ChangesList, IsSame}
 use Rattle.volume_table.proofs.ListChanges.{changes_none}
 use Rattle.volume_table.proofs.StoreSteps.{done_with_volumes, ended_with_volumes}
 use Rattle.volume_table.proofs.TableLemmas.{same_of_set, upgrade_is_shown}
-use Rattle.extents.specs.declared.version.TheConstants.{LAST_VERSION}
 
--- a table of the last version with the same records and extents
+-- an upgraded table with the same records and extents
 pub record IsUpgraded (old new : VolumeTable) : Type 0 where
-  pub version : new.version ≡ LAST_VERSION
+  pub version : new.version ≡ upgraded_version old.version
+  pub dirty : new.dirty ≡ old.dirty
   pub records : new.records ≡ old.records
   pub extents : new.extents ≡ old.extents
 
@@ -38,7 +38,7 @@ pub kept_upgraded : (geometry now : Geometry) (old new : VolumeTable) (owners : 
     → AreKept (extents_in now) new owners
 kept_upgraded geometry now old new owners same is kept = subst (λ (g : Geometry). AreKept (extents_in g) new owners) (sym same) record {
   same = kept.same ∙ ap (λ (those : List (Option Owned)). take (extents_in geometry).count those) (sym is.extents);
-  of_set = same_of_set (extents_in geometry) old new is.records is.extents kept.of_set;
+  of_set = same_of_set (extents_in geometry) old new is.version is.records is.extents is.dirty kept.of_set;
 }
 
 -- the list that has it shows the same volumes, with the new version
@@ -47,11 +47,14 @@ upgraded_is_shown : (extents : ExtentLayout) (old new : VolumeTable) (V W : List
     → HasTable new V W
     → ShowsBy extents new W (done Upgrade volumes)
 upgraded_is_shown extents old new V W volumes is by has =
+    let of_set = same_of_set extents by.shows.table new (is.version ∙ ap (λ (t : VolumeTable). upgraded_version t.version) (sym by.by))
+    (is.records ∙ ap (λ (t : VolumeTable). t.records) (sym by.by)) (is.extents ∙ ap (λ (t : VolumeTable). t.extents) (sym by.by))
+    (is.dirty ∙ ap (λ (t : VolumeTable). t.dirty) (sym by.by)) by.shows.of_set in
     let after : Shows extents W (done Upgrade volumes) =
-    upgrade_is_shown extents V W volumes new by.shows has.spelled is.version (is.records ∙ ap (λ (t : VolumeTable). t.records) (sym by.by))
-    (is.extents ∙ ap (λ (t : VolumeTable). t.extents) (sym by.by))
-    (λ sector past. has.beyond sector (subst (λ (v : ℕ). table_length v ≤ sector) (sym is.version) past)) in
-    record { shows = after; by = one_table W after.table new after.spelled has.spelled }
+    upgrade_is_shown extents V W volumes new by.shows has.spelled (is.version ∙ ap (λ (t : VolumeTable). upgraded_version t.version) (sym by.by))
+    (is.records ∙ ap (λ (t : VolumeTable). t.records) (sym by.by))
+    (is.extents ∙ ap (λ (t : VolumeTable). t.extents) (sym by.by)) (is.dirty ∙ ap (λ (t : VolumeTable). t.dirty) (sym by.by)) has.beyond in
+    record { shows = after; by = one_table extents.format W after.table new after.of_set.version of_set.version after.spelled has.spelled }
 
 -- An upgrade, by its one call.
 pub upgrade_applies : (honest : Type 0) (old new : StoreView) (result : Answer) → old.ended ≡ None → IsUpgraded old.keeps new.keeps
@@ -85,27 +88,29 @@ upgrade_applies honest old new result going is true_to changes goes ends = by_re
         (λ V W volumes shown passed. either V W volumes shown (passed (begins V volumes shown)))
 
 -- An upgrade that was done changed the version alone, by one entry.
-pub upgrade_kept : (old new : StoreView) (result : Answer) → old.keeps.version ≢ LAST_VERSION → IsUpgraded old.keeps new.keeps
+pub upgrade_kept : (old new : StoreView) (result : Answer) → upgraded_version old.keeps.version ≢ old.keeps.version → IsUpgraded old.keeps new.keeps
     → (result ≡ Ok tt → new.array.number ≡ old.array.number + 1) → OnOk result (UpgradesKept old new)
 upgrade_kept old new (Ok unit) differs is one_entry = record {
   version = is.version;
   records = is.records;
   extents = is.extents;
+  dirty = is.dirty;
   one_entry = λ apart. one_entry refl;
   nothing = λ same. absurd (differs same);
 }
 upgrade_kept old new (Err refusal) differs is one_entry = tt
 
--- a map of version 2 is as it was
-nothing_changes : (extents : ExtentLayout) (table : VolumeTable) (V : List Block) (volumes : VolumeMap) → table.version ≡ LAST_VERSION
+-- a map of such a version is as it was
+nothing_changes : (extents : ExtentLayout) (table : VolumeTable) (V : List Block) (volumes : VolumeMap) → upgraded_version table.version ≡ table.version
     → ShowsBy extents table V volumes
     → volumes ≡ done Upgrade volumes
 nothing_changes extents table V volumes is shown =
-    let version : volumes.version ≡ 2 = sym shown.shows.of_version ∙ ap (λ (t : VolumeTable). t.version) shown.by ∙ is in
+    let same : volumes.version ≡ table.version = sym shown.shows.of_version ∙ ap (λ (t : VolumeTable). t.version) shown.by in
+    let version : volumes.version ≡ upgraded_version volumes.version = same ∙ sym is ∙ ap upgraded_version (sym same) in
     λ i. record { version = version i; volumes = volumes.volumes }
 
--- An upgrade of a table of version 2 does nothing.
-pub upgraded_already : (honest : Type 0) (store : StoreView) → store.ended ≡ None → store.keeps.version ≡ LAST_VERSION
+-- An upgrade of a table of such a version does nothing.
+pub upgraded_already : (honest : Type 0) (store : StoreView) → store.ended ≡ None → upgraded_version store.keeps.version ≡ store.keeps.version
     → (honest → IsTrueTo store.array.panel store.array.history)
     → UpgradesTable honest store store (Ok tt)
 upgraded_already honest store going is true_to =

@@ -65,7 +65,7 @@ write_shows : (extents : ExtentLayout) (table : VolumeTable) (owners : List (Opt
     → ShowsBy extents table left (done (Write name at blocks) volumes)
 write_shows extents table owners name number at blocks before left volumes kept found whole shown admitted is = record {
   shows = after;
-  by = one_table left after.table table after.spelled (table_stays table.version owners number at blocks before left is
+  by = one_table extents.format left after.table table after.of_set.version kept.of_set.version after.spelled (table_stays table.version owners number at blocks before left is
       ∙ subst (Spell before) shown.by shown.shows.spelled);
 }
   where

@@ -1,5 +1,5 @@
 -- Blocks of a volume are made zero, some at a time.
-use Rattle.std.proofs.Common.{◌≡◌, ◌⊎◌, inl, inr, ℕ, ◌+◌, ◌-◌, ◌*◌, ◌/◌, ◌%◌, ◌<◌, ◌≤◌, List, [], length, get_or, replicate, Option, Some, None, refl, sym, ◌∙◌}
+use Rattle.std.proofs.Common.{◌≡◌, ◌⊎◌, inl, inr, ℕ, ◌+◌, ◌-◌, ◌*◌, ◌/◌, ◌%◌, ◌<◌, ◌≤◌, Bool, false, List, [], length, get_or, replicate, Option, Some, None, refl, sym, ◌∙◌}
 use Rattle.std.proofs.Common.{ap, subst, arith}
 use Rattle.std.specs.Prelude.{Ok, Err}
 use Rattle.std.proofs.lemmas.Bool.{cases_eq, cases_lt}
@@ -13,6 +13,8 @@ use Rattle.array_io.specs.Believed.Views.{ArrayView}
 use Rattle.extents.specs.declared.extent_layout.ExtentLayout.{ExtentLayout}
 use Rattle.extents.specs.ExtentMaps.{place_of, sector_of_block}
 use Rattle.extents.specs.declared.owned.Owned.{Owned}
+use Rattle.std.proofs.lemmas.Bool.{true≢false}
+use Rattle.volume_table.specs.Stretches.{IsDirtyBlock, IsStretch}
 use Rattle.extents.specs.Owners.{IsAt, owner_of}
 use Rattle.volume_table.specs.Volumes.{Block, zero_block}
 use Rattle.volume_table.specs.ListChanges.{ChangesList, IsSameOr}
@@ -97,8 +99,9 @@ abbrev pub AreZero : List Block → ℕ → Type 0
 AreZero blocks count = blocks ≡ replicate count zero_block
 
 -- zeros were written after those that are zero already
-module _ (extents : ExtentLayout) (owners : List (Option Owned)) (number first at count : ℕ) (blocks V U W : List Block) (zeros : AreZero blocks count)
-    (zeroed : IsZeroed extents owners number first at V U) (written : IsWrittenAt extents owners number at blocks U W) where
+module _ (extents : ExtentLayout) (dirty : List Bool) (owners : List (Option Owned)) (number first at count : ℕ) (blocks V U W : List Block)
+    (zeros : AreZero blocks count)
+    (zeroed : IsZeroed extents dirty owners number first at V U) (written : IsWrittenAt extents owners number at blocks U W) where
   as_many : length blocks ≡ count
   as_many = ap length zeros ∙ length-replicate {A = Block} count zero_block
 
@@ -148,12 +151,12 @@ module _ (extents : ExtentLayout) (owners : List (Option Owned)) (number first a
     ];
   }
 
-  pub zeroed_more : first ≤ at → IsZeroed extents owners number first (at + count) V W
+  pub zeroed_more : first ≤ at → IsZeroed extents dirty owners number first (at + count) V W
   zeroed_more order = record {
     partly = partly_more (at + count) (omega arith) order;
-    zero = λ sector is. elim (of_blocks_or_not extents owners number at (at + count) sector) [
+    zero = λ sector is is_dirty_extent. elim (of_blocks_or_not extents owners number at (at + count) sector) [
       | inl here ↦ zero_here sector here
-      | inr none ↦ same_elsewhere sector none ∙ zeroed.zero sector record {
+      | inr none ↦ same_elsewhere sector none ∙ zeroed.zero sector (record {
         block = is.block;
         extent = is.extent;
         least = is.least;
@@ -163,100 +166,126 @@ module _ (extents : ExtentLayout) (owners : List (Option Owned)) (number first a
         ];
         at = is.at;
         is = is.is;
-      }
+      }) is_dirty_extent
     ];
   }
 
 -- what is zero up to some block is partly zero up to a later one
 partly_later : {extents : ExtentLayout} (owners : List (Option Owned)) (number first at last : ℕ) (V U : List Block) → at ≤ last
-    → IsZeroed extents owners number first at V U
+    → IsPartlyZero extents owners number first at V U
     → IsPartlyZero extents owners number first last V U
-partly_later {extents} owners number first at last V U within zeroed = record {
-  as_long = zeroed.partly.as_long;
-  each = λ sector. elim (zeroed.partly.each sector) [
+partly_later {extents} owners number first at last V U within partly = record {
+  as_long = partly.as_long;
+  each = λ sector. elim (partly.each sector) [
     | inl same ↦ inl same
     | inr is ↦ inr (
       is.0,
-      record {
-        block = is.1.block;
-        extent = is.1.extent;
-        least = is.1.least;
-        most = omega (arith, is.1.most, within);
-        at = is.1.at;
-        is =
-            is.1.is;
-      },
+      record { block = is.1.block; extent = is.1.extent; least = is.1.least; most = omega (arith, is.1.most, within); at = is.1.at; is = is.1.is },
     )
   ];
 }
 
 -- none is zeroed yet
-none_zeroed : {extents : ExtentLayout} (owners : List (Option Owned)) (number first : ℕ) (V : List Block) → IsZeroed extents owners number first first V V
-none_zeroed {extents} owners number first V = record {
+none_zeroed : {extents : ExtentLayout} (dirty : List Bool) (owners : List (Option Owned)) (number first : ℕ) (V : List Block)
+    → IsZeroed extents dirty owners number first first V V
+none_zeroed {extents} dirty owners number first V = record {
   partly = record { as_long = refl; each = λ sector. inl refl };
-  zero = λ sector is. absurd (omega (arith, is.least, is.most));
+  zero = λ sector is is_dirty_extent. absurd (omega (arith, is.least, is.most));
+}
+
+-- blocks in clean extents need not be made zero
+zeroed_past_clean : (extents : ExtentLayout) (dirty : List Bool) (owners : List (Option Owned)) (number first at end : ℕ) (V U : List Block) → at ≤ end
+    → ((block : ℕ) → at ≤ block → block < end → IsDirtyBlock extents dirty owners number block false)
+    → IsZeroed extents dirty owners number first at V U → IsZeroed extents dirty owners number first end V U
+zeroed_past_clean extents dirty owners number first at end V U order clean zeroed = record {
+  partly = partly_later owners number first at end V U order zeroed.partly;
+  zero = λ sector is is_dirty_extent. elim (cases_lt is.block at) [
+    | inl below ↦ zeroed.zero sector
+        record { block = is.block; extent = is.extent; least = is.least; most = below; at = is.at; is = is.is } is_dirty_extent
+    | inr past ↦ absurd (true≢false (sym is_dirty_extent ∙ clean is.block past is.most is.extent is.at))
+  ];
 }
 
 -- Between the commits: the blocks below `at` are zero.
-pub record IsZeroing (extents : ExtentLayout) (honest still : Type 0) (owners : List (Option Owned)) (number first last at : ℕ) (old now : ArrayView) : Type 0
+pub record IsZeroing (extents : ExtentLayout) (honest still : Type 0) (dirty : List Bool) (owners : List (Option Owned)) (number first last at : ℕ)
+    (old now : ArrayView) : Type 0
   where
     pub forth : honest → still
     pub back : still → honest
     pub least : first ≤ at
     pub most : at ≤ last
-    pub changes : ChangesList honest (at - first) (IsPartlyZero extents owners number first last) (IsZeroed extents owners number first at) old now
+    pub changes : ChangesList honest (at - first) (IsPartlyZero extents owners number first last) (IsZeroed extents dirty owners number first at) old now
         (Ok tt)
 
-pub zeroing_begins : (extents : ExtentLayout) (honest : Type 0) (owners : List (Option Owned)) (number first last : ℕ) (old : ArrayView) → first ≤ last
-    → IsZeroing extents honest honest owners number first last first old old
-zeroing_begins extents honest owners number first last old order = record {
+pub zeroing_begins : (extents : ExtentLayout) (honest : Type 0) (dirty : List Bool) (owners : List (Option Owned)) (number first last : ℕ) (old : ArrayView)
+    → first ≤ last
+    → IsZeroing extents honest honest dirty owners number first last first old old
+zeroing_begins extents honest dirty owners number first last old order = record {
   forth = λ is. is;
   back = λ is. is;
   least = omega arith;
   most = order;
-  changes = changes_none honest (first - first) (IsPartlyZero extents owners number first last) (IsZeroed extents owners number first first) old
-      (λ V. record { as_long = refl; each = λ sector. inl refl }) (none_zeroed owners number first);
+  changes = changes_none honest (first - first) (IsPartlyZero extents owners number first last) (IsZeroed extents dirty owners number first first) old
+      (λ V. record { as_long = refl; each = λ sector. inl refl }) (none_zeroed dirty owners number first);
 }
 
-module _ (extents : ExtentLayout) (honest still : Type 0) (owners : List (Option Owned)) (number first last at count : ℕ) (blocks : List Block)
+-- blocks in clean extents are passed over
+pub zeroing_passes : (extents : ExtentLayout) (honest still : Type 0) (dirty : List Bool) (owners : List (Option Owned)) (number first last at end : ℕ)
+    (flag : Bool) (old now : ArrayView) → IsStretch extents dirty owners number at last end flag → flag ≡ false
+    → IsZeroing extents honest still dirty owners number first last at old now → IsZeroing extents honest still dirty owners number first last end old now
+zeroing_passes extents honest still dirty owners number first last at end flag old now stretch clean zeroing = record {
+  forth = zeroing.forth;
+  back = zeroing.back;
+  least = omega (arith, zeroing.least, stretch.least);
+  most = stretch.most;
+  changes = changes_more honest (at - first) (end - first) (IsPartlyZero extents owners number first last) (IsZeroed extents dirty owners number first at)
+      (IsPartlyZero extents owners number first last) (IsZeroed extents dirty owners number first end) old now (Ok tt)
+      (omega (arith, zeroing.least, stretch.least)) zeroing.changes (λ lost V W rests is. is)
+      (λ lost V W rests is. zeroed_past_clean extents dirty owners number first at end V W (omega (arith, stretch.least)) (stretch.clean clean) is);
+}
+
+module _ (extents : ExtentLayout) (honest still : Type 0) (dirty : List Bool) (owners : List (Option Owned)) (number first last at count : ℕ)
+    (blocks : List Block)
     (old mid new : ArrayView)
     (zeros : AreZero blocks count) (within : at + count ≤ last)
-    (some : 1 ≤ count) (zeroing : IsZeroing extents honest still owners number first last at old mid) (true_mid : still → IsTrueTo mid.panel mid.history) where
+    (some : 1 ≤ count) (zeroing : IsZeroing extents honest still dirty owners number first last at old mid)
+    (true_mid : still → IsTrueTo mid.panel mid.history) where
   both : (answer : Answer) → ChangesList still 1 (IsSameOr (IsWrittenAt extents owners number at blocks))
       (IsWrittenAt extents owners number at blocks) mid new answer
-      → ChangesList honest (at - first + 1) (IsPartlyZero extents owners number first last) (IsZeroed extents owners number first (at + count))
+      → ChangesList honest (at - first + 1) (IsPartlyZero extents owners number first last) (IsZeroed extents dirty owners number first (at + count))
       old new answer
   both answer writes = changes_both honest still zeroing.forth (at - first) 1 (IsPartlyZero extents owners number first last)
-      (IsZeroed extents owners number first at)
+      (IsZeroed extents dirty owners number first at)
       (IsSameOr (IsWrittenAt extents owners number at blocks)) (IsWrittenAt extents owners number at blocks)
-      (IsPartlyZero extents owners number first last) (IsZeroed extents owners number first (at + count))
+      (IsPartlyZero extents owners number first last) (IsZeroed extents dirty owners number first (at + count))
       old mid new answer (λ is. true_mid (zeroing.forth is)) zeroing.changes writes (λ V W partly. partly)
       (λ V U W zeroed either. elim either [
-        | inl same ↦ partly_later owners number first at last V W zeroing.most (subst (IsZeroed extents owners number first at V) (sym same) zeroed)
-        | inr written ↦ partly_more extents owners number first at count blocks V U W zeros zeroed written last within zeroing.least
+        | inl same ↦ partly_later owners number first at last V W zeroing.most
+            (subst (λ (l : List Block). IsPartlyZero extents owners number first at V l) (sym same) zeroed.partly)
+        | inr written ↦ partly_more extents dirty owners number first at count blocks V U W zeros zeroed written last within zeroing.least
       ])
-      (λ V U W zeroed written. zeroed_more extents owners number first at count blocks V U W zeros zeroed written zeroing.least)
+      (λ V U W zeroed written. zeroed_more extents dirty owners number first at count blocks V U W zeros zeroed written zeroing.least)
 
   pub zeroing_goes_on : (then : Type 0) → (still → then) → (then → still)
       → ChangesList still 1 (IsSameOr (IsWrittenAt extents owners number at blocks)) (IsWrittenAt extents owners number at blocks) mid new (Ok tt)
-      → IsZeroing extents honest then owners number first last (at + count) old new
+      → IsZeroing extents honest then dirty owners number first last (at + count) old new
   zeroing_goes_on then forth back writes = record {
     forth = λ is. forth (zeroing.forth is);
     back = λ is. zeroing.back (back is);
     least = omega (arith, zeroing.least);
     most = within;
     changes = changes_more honest (at - first + 1) (at + count - first) (IsPartlyZero extents owners number first last)
-        (IsZeroed extents owners number first (at + count))
-        (IsPartlyZero extents owners number first last) (IsZeroed extents owners number first (at + count)) old new (Ok tt)
+        (IsZeroed extents dirty owners number first (at + count))
+        (IsPartlyZero extents owners number first last) (IsZeroed extents dirty owners number first (at + count)) old new (Ok tt)
         (omega (arith, zeroing.least, some)) (both (Ok tt) writes)
         (λ lost V W rests is. is) (λ lost V W rests is. is);
   }
 
   pub zeroing_refused : (refusal : Refusal) → ChangesList still 1 (IsSameOr (IsWrittenAt extents owners number at blocks))
       (IsWrittenAt extents owners number at blocks) mid new (Err refusal)
-      → ChangesList honest (last - first) (IsPartlyZero extents owners number first last) (IsZeroed extents owners number first last) old new
+      → ChangesList honest (last - first) (IsPartlyZero extents owners number first last) (IsZeroed extents dirty owners number first last) old new
       (Err refusal)
   zeroing_refused refusal writes = changes_refused honest (at - first + 1) (last - first) (IsPartlyZero extents owners number first last)
-      (IsZeroed extents owners number first (at + count))
-      (IsPartlyZero extents owners number first last) (IsZeroed extents owners number first last) old new refusal
+      (IsZeroed extents dirty owners number first (at + count))
+      (IsPartlyZero extents owners number first last) (IsZeroed extents dirty owners number first last) old new refusal
       (omega (arith, zeroing.least, some, within)) (both (Err refusal) writes) (λ V W is. is)

@@ -7,7 +7,7 @@ use Rattle.extents.specs.declared.owned.Owned.{Owned}
 use Rattle.extents.specs.declared.record.Record.{Record}
 use Rattle.extents.specs.declared.volume_table.VolumeTable.{VolumeTable}
 use Rattle.extents.specs.ExtentMaps.{free_of}
-use Rattle.extents.specs.VolumeTables.{extents_for, record_of}
+use Rattle.extents.specs.VolumeTables.{extents_for, most_blocks, record_of}
 use Rattle.volume_table.specs.Volumes.{Block, VolumeMap}
 use Rattle.volume_table.specs.Shows.{Shows}
 use Rattle.extents.specs.Versions.{most_name_bytes, most_volumes}
@@ -65,6 +65,7 @@ pub record MayGrowTo (extents : ExtentLayout) (version : ℕ) (records : List (O
   pub short : length entry.name.bytes.items ≤ most_name_bytes version
   pub from : IsGrownFrom (record_of records number) first entry
   pub more : first < entry.blocks
+  pub most : entry.blocks ≤ most_blocks extents.blocks
   pub apart : (other : ℕ) (one : Record) → record_of records other ≡ Some one → one.name.bytes.items ≡ entry.name.bytes.items → other ≡ number
   pub fits : extents_for extents.blocks entry.blocks ≤ extents_for extents.blocks first + free_of owners
 

@@ -2,6 +2,7 @@
 use Rattle.std.specs.Prelude.{◌≡◌, ◌≢◌, ◌⊎◌, ℕ, ◌+◌, ◌≤◌, List, [], ◌∷◌, ◌++◌, length, Option, None}
 use Rattle.sector_model.specs.declared.refusal.Refusal.TheVariants.{TwoLost, Worn}
 use Rattle.sector_model.specs.Bank.{Panel}
+use Rattle.layout_map.specs.declared.format.Format.{Format}
 use Rattle.layout_map.specs.declared.geometry.Geometry.{Geometry}
 use Rattle.superblock.specs.Cases.{Lost}
 use Rattle.superblock.specs.Losses.{IsSingleFailure}
@@ -97,9 +98,9 @@ RunsKeep id extents devices slots before no_more = Unit {0}
 RunsKeep id extents devices slots before (next_run begun left panel begins same of_bank run runs) =
     RunKeeps id extents slots before run (λ then. RunsKeep id extents devices slots then runs)
 
--- no store was opened yet: there are no volumes
-abbrev pub nothing_before : Before
-nothing_before = record { volumes = no_volumes; events = []; acknowledged = 0 }
+-- no store of a set of this format was opened yet: there are no volumes
+abbrev pub nothing_before : Format → Before
+nothing_before format = record { volumes = no_volumes format; events = []; acknowledged = 0 }
 
 -- no slot is lost, and no device was replaced
 abbrev pub nothing_lost : Fate
@@ -111,5 +112,5 @@ Headline = (id : List ℕ) (geometry : Geometry) (bank : BankView) (array : Arra
     → Makes (Unit {0}) id geometry bank (recovery.Opened array) → IsQuietBeyond id (geometry.members + 2) bank
     → (session : Session (slots_of array.table) array nothing_lost left)
     → (runs : Runs array.table.id array.panel.devices (slots_of array.table) left)
-    → ∥ SessionKeeps (extents_in array.table.geometry) (slots_of array.table) nothing_before session
+    → ∥ SessionKeeps (extents_in array.table.geometry) (slots_of array.table) (nothing_before array.table.geometry.format) session
     (λ before. RunsKeep array.table.id (extents_in array.table.geometry) array.panel.devices (slots_of array.table) before runs) ∥₁

@@ -2,6 +2,7 @@
 use Rattle.std.specs.Prelude.{◌≡◌, ◌≢◌, ℕ, ◌+◌, ◌<◌, ◌≤◌, List, [], ◌∷◌, ◌++◌, length, map, take, drop, slice_index_or, All, Contains, Some, None}
 use Rattle.sector_model.specs.declared.refusal.Refusal.{Refusal}
 use Rattle.std.specs.List.Sorted.{IsStrictlySortedBy}
+use Rattle.extents.specs.Versions.{upgraded_version}
 use Rattle.volume_table.specs.Names.{name_order}
 use Rattle.volume_table.specs.Volumes.{Block, VolumeList, VolumeMap, blocks_of, AreVolumes}
 use Rattle.volume_table.specs.VolumeStep.{Command, Create, Extend, Remove, Read, Write, Rename, Names, Upgrade, Event, OnVolumes, OnSet, SetCommand, Done}
@@ -135,10 +136,10 @@ RenamedIsListed = (extents : ExtentLayout) (old new : List ℕ) (count : ℕ) (v
     → HasLength old count volumes.volumes
     → IsListed extents new count (volumes_after extents (Rename old new) volumes)
 
--- an upgrade is never refused: it leaves the volumes, and makes the table one of version 2
+-- an upgrade is never refused: it leaves the volumes, and makes a table of version 1 one of version 2
 abbrev pub UpgradeKeepsVolumes : Type 0
 UpgradeKeepsVolumes = (extents : ExtentLayout) (volumes : VolumeMap) → (reply_to extents Upgrade volumes ≡ Done)
-    × (volumes_after extents Upgrade volumes ≡ record { version = 2; volumes = volumes.volumes })
+    × (volumes_after extents Upgrade volumes ≡ record { version = upgraded_version volumes.version; volumes = volumes.volumes })
 
 -- no other command changes the version
 abbrev pub VersionStays : Type 0

@@ -22,5 +22,6 @@ pub mod Stands
 pub mod StoreCalls
 pub mod StoreChanges
 pub mod StoreFunctions
+pub mod Stretches
 pub mod VolumeStep
 pub mod Volumes

@@ -34,29 +34,29 @@ replies extents (command ∷ commands) volumes = reply_to extents command volume
 
 -- a set of 7 extents is full with 448 blocks
 abbrev pub FillThenNoSpace : Type 0
-FillThenNoSpace = replies seven (Create (codes "a") 448 ∷ Create (codes "b") 1 ∷ []) no_volumes ≡ Done ∷ Refused NoSpace ∷ []
+FillThenNoSpace = replies seven (Create (codes "a") 448 ∷ Create (codes "b") 1 ∷ []) (no_volumes One) ≡ Done ∷ Refused NoSpace ∷ []
 
 -- and 449 are one too many
 abbrev pub OneBlockTooMany : Type 0
-OneBlockTooMany = replies seven (Create (codes "a") 449 ∷ Names ∷ []) no_volumes ≡ Refused NoSpace ∷ Volumes [] ∷ []
+OneBlockTooMany = replies seven (Create (codes "a") 449 ∷ Names ∷ []) (no_volumes One) ≡ Refused NoSpace ∷ Volumes [] ∷ []
 
 -- 28 extents of 16 blocks are as many blocks, in more volumes
 abbrev pub SmallerExtents : Type 0
-SmallerExtents = (replies twenty_eight (Create (codes "a") 449 ∷ Create (codes "a") 448 ∷ Create (codes "b") 1 ∷ []) no_volumes
+SmallerExtents = (replies twenty_eight (Create (codes "a") 449 ∷ Create (codes "a") 448 ∷ Create (codes "b") 1 ∷ []) (no_volumes Two)
     ≡ Refused NoSpace ∷ Done ∷ Refused NoSpace ∷ [])
     × (replies twenty_eight (Create (codes "a") 17 ∷ Create (codes "b") 417 ∷ Create (codes "b") 416 ∷ Extend (codes "a") 15 ∷ Extend (codes "a") 1 ∷ [])
-    no_volumes
+    (no_volumes Two)
     ≡ Done ∷ Refused NoSpace ∷ Done ∷ Done ∷ Refused NoSpace ∷ [])
 
 abbrev pub ExtendIntoNewExtent : Type 0
-ExtendIntoNewExtent = replies seven (Create (codes "a") 64 ∷ Extend (codes "a") 1 ∷ Read (codes "a") 64 1 ∷ []) no_volumes ≡ Done ∷ Done
+ExtendIntoNewExtent = replies seven (Create (codes "a") 64 ∷ Extend (codes "a") 1 ∷ Read (codes "a") 64 1 ∷ []) (no_volumes One) ≡ Done ∷ Done
     ∷ Blocks (zero_block ∷ [])
     ∷ []
 
 -- growth keeps the last block and appends zeros
 abbrev pub ExtendKeepsAndZeroes : Type 0
 ExtendKeepsAndZeroes = (block : Block) → replies seven (Create (codes "a") 10 ∷ Write (codes "a") 9 (block ∷ []) ∷ Extend (codes "a") 10 ∷ Read (codes "a") 9 2
-    ∷ []) no_volumes
+    ∷ []) (no_volumes One)
     ≡ Done ∷ Done ∷ Done ∷ Blocks (block ∷ zero_block ∷ []) ∷ []
 
 -- blocks of a volume that is gone are zero in the next
@@ -64,42 +64,43 @@ abbrev pub ReusedIsZero : Type 0
 ReusedIsZero = (block : Block) → replies seven
     (Create (codes "a") 128 ∷ Write (codes "a") 0 (replicate 32 block) ∷ Write (codes "a") 32 (replicate 32 block) ∷ Write (codes "a") 64 (replicate 32 block)
     ∷ Remove (codes "a") ∷ Create (codes "b") 10 ∷ Extend (codes "b") 118 ∷ Read (codes "b") 0 1 ∷ Read (codes "b") 10 1 ∷ Read (codes "b") 64 1 ∷ [])
-    no_volumes
+    (no_volumes One)
     ≡ replicate 7 Done ++ replicate 3 (Blocks (zero_block ∷ []))
 
 -- 32 blocks are written at most, and 1 at least
 abbrev pub ThirtyTwoBlocks : Type 0
 ThirtyTwoBlocks = (block : Block) → replies seven (Create (codes "a") 128 ∷ Write (codes "a") 48 (replicate 32 block)
     ∷ Write (codes "a") 48 (replicate 33 block)
-    ∷ Write (codes "a") 48 [] ∷ []) no_volumes
+    ∷ Write (codes "a") 48 [] ∷ []) (no_volumes One)
     ≡ Done ∷ Done ∷ Refused BadCount ∷ Refused BadCount ∷ []
 
 -- a write past the end writes nothing
 abbrev pub WriteOutOfRange : Type 0
 WriteOutOfRange = (first second : Block) → replies seven (Create (codes "a") 64 ∷ Write (codes "a") 63 (first ∷ second ∷ []) ∷ Read (codes "a") 63 1 ∷ [])
-    no_volumes
+    (no_volumes One)
     ≡ Done ∷ Refused OutOfRange ∷ Blocks (zero_block ∷ []) ∷ []
 
 abbrev pub RefusedCommands : Type 0
 RefusedCommands = replies seven (Create (codes "A") 0 ∷ Create (codes "a") 0 ∷ Create (codes "a") 65537 ∷ Read (codes "b") 0 0 ∷ Extend (codes "b") 0
-    ∷ Remove (codes "b") ∷ []) no_volumes
+    ∷ Remove (codes "b") ∷ []) (no_volumes One)
     ≡ Refused BadName ∷ Refused BadSize ∷ Refused BadSize ∷ Refused NoVolume ∷ Refused NoVolume ∷ Refused NoVolume ∷ []
 
--- 65,536 blocks are a volume that needs 1,024 extents
+-- 65,536 blocks are a volume that needs 1,024 extents; where an extent has 16, no volume has more than 16,384
 abbrev pub LargestVolume : Type 0
-LargestVolume = (reply_to (of_64 1024 (omega arith)) (Create (codes "a") 65536) no_volumes ≡ Done)
-    × (reply_to (of_64 1023 (omega arith)) (Create (codes "a") 65536) no_volumes ≡ Refused NoSpace)
+LargestVolume = (reply_to (of_64 1024 (omega arith)) (Create (codes "a") 65536) (no_volumes One) ≡ Done)
+    × (reply_to (of_64 1023 (omega arith)) (Create (codes "a") 65536) (no_volumes One) ≡ Refused NoSpace)
+    × (replies twenty_eight (Create (codes "a") 16384 ∷ Create (codes "a") 16385 ∷ []) (no_volumes Two) ≡ Refused NoSpace ∷ Refused BadSize ∷ [])
 
 -- 32 blocks are read at most, and 1 at least; the name is looked at first, then the number, then the range
 abbrev pub ReadsAtTheLimits : Type 0
 ReadsAtTheLimits = replies seven (Create (codes "a") 40 ∷ Read (codes "a") 8 32 ∷ Read (codes "a") 9 32 ∷ Read (codes "a") 0 33 ∷ Read (codes "a") 0 0
-    ∷ Read (codes "a") 99 33 ∷ Read (codes "b") 99 33 ∷ []) no_volumes
+    ∷ Read (codes "a") 99 33 ∷ Read (codes "b") 99 33 ∷ []) (no_volumes One)
     ≡ Done ∷ Blocks (replicate 32 zero_block) ∷ Refused OutOfRange ∷ Refused BadCount ∷ Refused BadCount ∷ Refused BadCount ∷ Refused NoVolume ∷ []
 
 -- names of 24 bytes, and of 25; a name begins with a letter
 abbrev pub NamesAtTheLimits : Type 0
 NamesAtTheLimits = replies seven (Create (codes "a23456789-123456789_1234") 1 ∷ Create (codes "a23456789-123456789_12345") 1 ∷ Create (codes "1a") 1
-    ∷ Create (codes "-a") 1 ∷ Create (codes "aB") 1 ∷ Create [] 1 ∷ []) no_volumes
+    ∷ Create (codes "-a") 1 ∷ Create (codes "aB") 1 ∷ Create [] 1 ∷ []) (no_volumes One)
     ≡ Done ∷ replicate 5 (Refused BadName)
 
 -- 'v' and two digits
@@ -109,31 +110,31 @@ numbered_name n = 118 ∷ (48 + n / 10) ∷ (48 + n % 10) ∷ []
 -- 32 volumes of a block each need 32 of 33 extents, and there may be no 33rd volume
 abbrev pub ThirtyTwoVolumes : Type 0
 ThirtyTwoVolumes = replies (of_64 33 (omega arith)) (map (λ n. Create (numbered_name n) 1) (range_with_len 0 32) ++ Create (codes "w") 1 ∷ [])
-    no_volumes ≡ replicate 32 Done
+    (no_volumes One) ≡ replicate 32 Done
     ++ Refused TooManyVolumes ∷ []
 
 -- with a table of version 2 there may be 64
 abbrev pub SixtyFourVolumes : Type 0
 SixtyFourVolumes = replies (of_64 64 (omega arith)) (map (λ n. Create (numbered_name n) 1) (range_with_len 0 32) ++ Create (codes "w") 1 ∷ Upgrade
-    ∷ map (λ n. Create (numbered_name n) 1) (range_with_len 32 32) ++ Create (codes "w") 1 ∷ []) no_volumes
+    ∷ map (λ n. Create (numbered_name n) 1) (range_with_len 32 32) ++ Create (codes "w") 1 ∷ []) (no_volumes One)
     ≡ replicate 32 Done ++ Refused TooManyVolumes ∷ replicate 33 Done ++ Refused TooManyVolumes ∷ []
 
 -- and names of 63 bytes
 abbrev pub LongNames : Type 0
 LongNames = replies seven (Create (replicate 25 97) 1 ∷ Upgrade ∷ Create (replicate 25 97) 1 ∷ Create (replicate 63 98) 1 ∷ Create (replicate 64 99) 1 ∷ Upgrade
-    ∷ []) no_volumes
+    ∷ []) (no_volumes One)
     ≡ Refused BadName ∷ Done ∷ Done ∷ Done ∷ Refused BadName ∷ Done ∷ []
 
 -- the list is in rising byte order, whatever the order of creation
 abbrev pub ListRises : Type 0
-ListRises = replies seven (Create (codes "b") 3 ∷ Create (codes "a-") 2 ∷ Create (codes "a") 1 ∷ Names ∷ []) no_volumes
+ListRises = replies seven (Create (codes "b") 3 ∷ Create (codes "a-") 2 ∷ Create (codes "a") 1 ∷ Names ∷ []) (no_volumes One)
     ≡ Done ∷ Done ∷ Done ∷ Volumes ((codes "a", 1) ∷ (codes "a-", 2) ∷ (codes "b", 3) ∷ []) ∷ []
 
 -- a volume that is renamed has its blocks and its length still; the old name is looked at first, then the new one, and a name that is kept is taken
 abbrev pub RenameScript : Type 0
 RenameScript = (block : Block) → replies seven
     (Create (codes "a") 10 ∷ Write (codes "a") 0 (block ∷ []) ∷ Rename (codes "a") (codes "b") ∷ Read (codes "b") 0 1 ∷ Read (codes "a") 0 1
-    ∷ Rename (codes "b") (codes "b") ∷ Rename (codes "a") (codes "B") ∷ Rename (codes "b") (codes "B") ∷ Names ∷ []) no_volumes
+    ∷ Rename (codes "b") (codes "b") ∷ Rename (codes "a") (codes "B") ∷ Rename (codes "b") (codes "B") ∷ Names ∷ []) (no_volumes One)
     ≡ Done ∷ Done ∷ Done ∷ Blocks (block ∷ []) ∷ Refused NoVolume ∷ Refused Exists ∷ Refused NoVolume ∷ Refused BadName ∷ Volumes ((codes "b", 10) ∷ []) ∷ []
 
 -- three members of 256 rows and two journals of a set of format 1, where no device fails and each row is sound

@@ -1,15 +1,15 @@
 -- Which volumes a logical list shows: its first sectors are a table of them, and their blocks stand in the extents that the table gives them.
-use Rattle.std.specs.Prelude.{◌≡◌, ◌≢◌, ℕ, ◌+◌, ◌<◌, List, [], ◌∷◌, length, slice_index_or, Option, Some, None}
+use Rattle.std.specs.Prelude.{◌≡◌, ◌≢◌, ℕ, ◌+◌, ◌<◌, ◌≤◌, Bool, false, List, [], ◌∷◌, length, slice_index_or, Option, Some, None}
 use Rattle.extents.specs.declared.extent_layout.ExtentLayout.{ExtentLayout}
 use Rattle.extents.specs.declared.owned.Owned.{Owned}
 use Rattle.extents.specs.declared.record.Record.{Record}
 use Rattle.extents.specs.declared.volume_table.VolumeTable.{VolumeTable}
-use Rattle.extents.specs.ExtentMaps.{place_of, sector_of_block}
-use Rattle.extents.specs.Owners.{IsAt}
+use Rattle.extents.specs.ExtentMaps.{is_dirty, place_of, sector_of_block}
+use Rattle.extents.specs.Owners.{IsAt, owner_of}
 use Rattle.extents.specs.SetExtents.{IsOfSet}
 use Rattle.extents.specs.VolumeTables.{HasRecord, extents_of, record_of}
 use Rattle.extents.specs.TableSpelling.{Spell}
-use Rattle.volume_table.specs.Volumes.{Block, Volume, VolumeList, VolumeMap, blocks_of, AreVolumes}
+use Rattle.volume_table.specs.Volumes.{Block, zero_block, Volume, VolumeList, VolumeMap, blocks_of, AreVolumes}
 
 -- a volume's blocks stand in its extents, in order
 abbrev pub AreBlocksIn : (extents : ExtentLayout) → List Block → List (Option Owned) → ℕ → List Block → Type 0
@@ -30,6 +30,14 @@ pub record AreShown (extents : ExtentLayout) (records : List (Option Record)) (o
   pub used : (number : ℕ) (entry : Record) → record_of records number ≡ Some entry → IsOfVolume extents owners sectors volumes number entry
   pub all : (name : List ℕ) (blocks : List Block) → blocks_of name volumes ≡ Some blocks → HasRecord records name
 
+-- A clean extent has zeros where no volume has a block: all of a free one, and what is after a volume's end in one that it has.
+pub record AreClean (extents : ExtentLayout) (dirty : List Bool) (records : List (Option Record)) (owners : List (Option Owned)) (sectors : List Block) : Type 0
+  where
+    pub free : (extent block : ℕ) → extent < extents.count → is_dirty dirty extent ≡ false → owner_of owners extent ≡ None
+        → slice_index_or sectors (sector_of_block extents extent block) [] ≡ zero_block
+    pub after_end : (extent number block : ℕ) (entry : Record) → is_dirty dirty extent ≡ false → IsAt owners extent number (place_of extents block)
+        → record_of records number ≡ Some entry → entry.blocks ≤ block → slice_index_or sectors (sector_of_block extents extent block) [] ≡ zero_block
+
 -- a logical list of a set with these extents shows these volumes, by a table of the set and of their version
 pub record Shows (extents : ExtentLayout) (sectors : List Block) (volumes : VolumeMap) : Type 0 where
   pub limits : AreVolumes extents volumes
@@ -38,6 +46,7 @@ pub record Shows (extents : ExtentLayout) (sectors : List Block) (volumes : Volu
   pub spelled : Spell sectors table
   pub of_set : IsOfSet extents table
   pub shown : AreShown extents table.records table.extents sectors volumes.volumes
+  pub clean : AreClean extents table.dirty table.records table.extents sectors
 
 -- `left` is the list with these blocks in place of those of record `number`'s volume from `at` on
 pub record HasWritten (extents : ExtentLayout) (owners : List (Option Owned)) (number at : ℕ) (written : List Block) (before left : List Block) : Type 0 where

@@ -1,6 +1,6 @@
 -- What a logical list shows.
 use Rattle.std.specs.Prelude.{◌≡◌, ◌≢◌, ◌↔◌, ℕ, ◌+◌, ◌<◌, ◌≤◌, IsTrue, List, [], ◌++◌, length, take, slice_index_or, All, Option, Some, None}
-use Rattle.layout_map.specs.declared.format.Format.TheVariants.{One}
+use Rattle.layout_map.specs.declared.format.Format.{Format}
 use Rattle.extents.specs.declared.extent_layout.ExtentLayout.{ExtentLayout}
 use Rattle.extents.specs.SetExtents.{IsOfSet}
 use Rattle.extents.specs.declared.owned.Owned.{Owned}
@@ -10,15 +10,15 @@ use Rattle.extents.specs.ExtentMaps.{IsExtentMap, free_of, place_of, sector_of_b
 use Rattle.extents.specs.Names.{IsGoodName}
 use Rattle.extents.specs.Owners.{owner_of, IsAt}
 use Rattle.extents.specs.TableSpelling.{Spell}
-use Rattle.extents.specs.Versions.{most_name_bytes, table_length}
+use Rattle.extents.specs.Versions.{most_name_bytes, table_length, upgraded_version}
 use Rattle.extents.specs.VolumeTables.{record_of, HaveTheirPlaces, IsVolumeTable}
 use Rattle.volume_table.specs.Names.{is_good_name}
 use Rattle.volume_table.specs.Volumes.{Block, IsBlock, VolumeMap, no_volumes, blocks_of, need, AreVolumes}
 use Rattle.volume_table.specs.VolumeStep.{Create, Extend, Remove, Read, Rename, Write, Upgrade, Done, Blocks, zero_blocks, blocks_in, reply_to, volumes_after}
 use Rattle.volume_table.specs.Law.{HasLength}
-use Rattle.volume_table.specs.Shows.{AreShown, Shows, HasWritten, HaveSameBlocks, ChangesName, ChangesOneRecord, IsRecordOf, records_need}
+use Rattle.volume_table.specs.Shows.{AreClean, AreShown, Shows, HasWritten, HaveSameBlocks, ChangesName, ChangesOneRecord, IsRecordOf, records_need}
 use Rattle.volume_table.specs.Shows.{used_records}
-use Rattle.extents.specs.declared.version.TheConstants.{FIRST_VERSION, LAST_VERSION}
+use Rattle.extents.specs.TableLaw.{IsEmpty, IsOfFormat}
 
 -- the test of a name is the table's rule
 abbrev pub GoodNamesAreTheTables : Type 0
@@ -40,12 +40,13 @@ WriteIsShown = (extents : ExtentLayout) (before left : List Block) (volumes : Vo
     → length left ≡ length before → HasWritten extents shows.table.extents number at written before left
     → Shows extents left (volumes_after extents (Write entry.name.bytes.items at written) volumes)
 
--- a list that has another block only where no volume has one shows the same volumes
+-- a list that has another block only where no volume has one, and zeros there in clean extents, shows the same volumes
 abbrev pub UnusedMayChange : Type 0
 UnusedMayChange = (extents : ExtentLayout) (before left : List Block) (volumes : VolumeMap) (shows : Shows extents before volumes)
     → take (table_length volumes.version) left ≡ take (table_length volumes.version) before
     → ((number : ℕ) (entry : Record) → record_of shows.table.records number ≡ Some entry
-    → HaveSameBlocks extents shows.table.extents number entry before left) → Shows extents left volumes
+    → HaveSameBlocks extents shows.table.extents number entry before left)
+    → AreClean extents shows.table.dirty shows.table.records shows.table.extents left → Shows extents left volumes
 
 -- where a create is done, a list whose new table has a record of the volume, and zeros in its extents, shows the volumes after it
 abbrev pub CreateIsShown : Type 0
@@ -55,7 +56,7 @@ CreateIsShown = (extents : ExtentLayout) (before left : List Block) (volumes : V
     → Spell left table → table.version ≡ volumes.version → IsOfSet extents table
     → ChangesOneRecord extents shows.table.records table.records shows.table.extents table.extents before left number
     → IsRecordOf extents table.records table.extents left number (record { name = name; blocks = zero_blocks count })
-    → record_of shows.table.records number ≡ None
+    → record_of shows.table.records number ≡ None → AreClean extents table.dirty table.records table.extents left
     → Shows extents left (volumes_after extents (Create name count) volumes)
 
 -- the same of an extend, whose record was used before
@@ -68,6 +69,7 @@ ExtendIsShown = (extents : ExtentLayout) (before left : List Block) (volumes : V
     → ChangesOneRecord extents shows.table.records table.records shows.table.extents table.extents before left number
     → IsRecordOf extents table.records table.extents left number
     (record { name = entry.name.bytes.items; blocks = blocks_in entry.name.bytes.items volumes.volumes ++ zero_blocks growth })
+    → AreClean extents table.dirty table.records table.extents left
     → Shows extents left (volumes_after extents (Extend entry.name.bytes.items growth) volumes)
 
 -- the same of a removal, whose record is not used any more
@@ -78,7 +80,7 @@ RemoveIsShown = (extents : ExtentLayout) (before left : List Block) (volumes : V
     → reply_to extents (Remove entry.name.bytes.items) volumes ≡ Done
     → Spell left table → table.version ≡ volumes.version → IsOfSet extents table
     → ChangesOneRecord extents shows.table.records table.records shows.table.extents table.extents before left number
-    → record_of table.records number ≡ None
+    → record_of table.records number ≡ None → AreClean extents table.dirty table.records table.extents left
     → Shows extents left (volumes_after extents (Remove entry.name.bytes.items) volumes)
 
 -- a list whose new table has another name in one used record, and is else as it was, shows the volumes after the rename
@@ -88,7 +90,7 @@ RenameIsShown = (extents : ExtentLayout) (before left : List Block) (volumes : V
     → record_of shows.table.records number ≡ Some entry
     → reply_to extents (Rename entry.name.bytes.items name) volumes ≡ Done
     → Spell left table → table.version ≡ volumes.version → ChangesName shows.table.records table.records number entry name
-    → ((extent : ℕ) → owner_of table.extents extent ≡ owner_of shows.table.extents extent)
+    → ((extent : ℕ) → owner_of table.extents extent ≡ owner_of shows.table.extents extent) → table.dirty ≡ shows.table.dirty
     → ((sector : ℕ) → table_length volumes.version ≤ sector → slice_index_or left sector [] ≡ slice_index_or before sector [])
     → Shows extents left (volumes_after extents (Rename entry.name.bytes.items name) volumes)
 
@@ -109,9 +111,10 @@ abbrev pub FreeIsNotNeeded : Type 0
 FreeIsNotNeeded = (extents : ExtentLayout) (sectors : List Block) (volumes : VolumeMap) (shows : Shows extents sectors volumes)
     → free_of (take extents.count shows.table.extents) + need extents.blocks volumes.volumes ≡ extents.count
 
--- no sectors begin with the spellings of two tables
+-- in a set of a format no sectors begin with the spellings of two tables
 abbrev pub TablesHaveOneSpelling : Type 0
-TablesHaveOneSpelling = (sectors : List Block) (first second : VolumeTable) → Spell sectors first → Spell sectors second → first ≡ second
+TablesHaveOneSpelling = (format : Format) (sectors : List Block) (first second : VolumeTable) → IsOfFormat format first → IsOfFormat format second
+    → Spell sectors first → Spell sectors second → first ≡ second
 
 -- then a list shows one map of volumes
 abbrev pub ListShowsOne : Type 0
@@ -138,14 +141,15 @@ ReadIsShown = (extents : ExtentLayout) (sectors : List Block) (volumes : VolumeM
     × ((j extent : ℕ) → j < count → IsAt shows.table.extents extent number (place_of extents (at + j))
     → slice_index_or blocks j [] ≡ slice_index_or sectors (sector_of_block extents extent (at + j)) [])
 
--- a list whose table is replaced by one of version 2 with the same records and extents shows the same volumes after the upgrade
+-- a list whose table is replaced by an upgraded one with the same records and extents shows the same volumes after the upgrade
 abbrev pub UpgradeIsShown : Type 0
 UpgradeIsShown = (extents : ExtentLayout) (before left : List Block) (volumes : VolumeMap) (table : VolumeTable) (shows : Shows extents before volumes)
-    → Spell left table → table.version ≡ LAST_VERSION → table.records ≡ shows.table.records → table.extents ≡ shows.table.extents
-    → ((sector : ℕ) → table_length LAST_VERSION ≤ sector → slice_index_or left sector [] ≡ slice_index_or before sector [])
+    → Spell left table → table.version ≡ upgraded_version shows.table.version → table.records ≡ shows.table.records → table.extents ≡ shows.table.extents
+    → table.dirty ≡ shows.table.dirty
+    → ((sector : ℕ) → table_length table.version ≤ sector → slice_index_or left sector [] ≡ slice_index_or before sector [])
     → Shows extents left (volumes_after extents Upgrade volumes)
 
--- a list of a set of format 1 whose table is empty, and of version 1, shows no volume
+-- a list whose table is the empty one of the set's format, and whose clean extents are zero, shows no volume
 abbrev pub EmptyIsShown : Type 0
-EmptyIsShown = (extents : ExtentLayout) (sectors : List Block) (table : VolumeTable) → extents.format ≡ One → Spell sectors table → table.version ≡ FIRST_VERSION
-    → ((number : ℕ) → record_of table.records number ≡ None) → ((extent : ℕ) → owner_of table.extents extent ≡ None) → Shows extents sectors no_volumes
+EmptyIsShown = (extents : ExtentLayout) (sectors : List Block) (table : VolumeTable) → Spell sectors table → IsEmpty extents.format table
+    → AreClean extents table.dirty table.records table.extents sectors → Shows extents sectors (no_volumes extents.format)

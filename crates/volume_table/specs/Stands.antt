@@ -1,6 +1,5 @@
 -- Which volumes a case stands for, and on which volumes a store is settled.
 use Rattle.std.specs.Prelude.{◌≡◌, ℕ, List, [], ◌∷◌, Contains, Option, None}
-use Rattle.layout_map.specs.declared.format.Format.TheVariants.{One}
 use Rattle.sector_model.specs.declared.refusal.Refusal.{Refusal}
 use Rattle.sector_model.specs.History.{Bytes, History, MayLeave, Slots}
 use Rattle.sector_model.specs.Moments.{Throughout}
@@ -16,6 +15,7 @@ use Rattle.array_io.specs.Believed.Fresh.{IsFresh, zeros_of}
 use Rattle.array_io.specs.Believed.Views.{ArrayView, RestsOn}
 use Rattle.extents.specs.SetExtents.{extents_in}
 use Rattle.extents.specs.declared.volume_table.VolumeTable.{VolumeTable}
+use Rattle.extents.specs.TableLaw.{IsOfFormat}
 use Rattle.extents.specs.TableSpelling.{Spell}
 use Rattle.volume_table.specs.Volumes.{VolumeMap, no_volumes}
 use Rattle.volume_table.specs.Shows.{Shows}
@@ -52,12 +52,13 @@ abbrev pub store_of : ArrayView → VolumeTable → Option Refusal → StoreView
 store_of array keeps ended = record { array = array; keeps = keeps; ended = ended }
 
 -- A store is settled on a map of volumes: its array is settled on a logical list that shows it, whose first sectors spell the table
--- that the store keeps, and no refusal ended it.
+-- that the store keeps, which is of the format of its set, and no refusal ended it.
 pub record IsSettledOn (store : StoreView) (lost : Option Lost) (volumes : VolumeMap) : Type 0 where
   pub logical : List Bytes
   pub rests : RestsOn store.array lost logical
   pub shown : Shows (extents_in store.array.table.geometry) logical volumes
   pub spelled : Spell logical store.keeps
+  pub of_format : IsOfFormat (extents_in store.array.table.geometry).format store.keeps
   pub going : store.ended ≡ None
 
 -- after a call the store is settled on these volumes, with the slot lost that its table then lacks
@@ -74,9 +75,9 @@ StandsAfterAStart = (base : Table) (devices : ℕ) (table : Table) (old new : Ca
 
 -- a set that was just made shows no volume
 abbrev pub FreshSetShowsNone : Type 0
-FreshSetShowsNone = (geometry : Geometry) → geometry.format ≡ One → ∥ Shows (extents_in geometry) (zeros_of geometry) no_volumes ∥₁
+FreshSetShowsNone = (geometry : Geometry) → ∥ Shows (extents_in geometry) (zeros_of geometry) (no_volumes geometry.format) ∥₁
 
 -- and stands for none
 abbrev pub FreshSetStandsForNone : Type 0
-FreshSetStandsForNone = (devices : ℕ) (table : Table) (image : Slots) → table.geometry.format ≡ One → IsFresh devices table image
-    → ∥ Stands table devices record { image = image; lost = None } (no_volumes ∷ []) ∥₁
+FreshSetStandsForNone = (devices : ℕ) (table : Table) (image : Slots) → IsFresh devices table image
+    → ∥ Stands table devices record { image = image; lost = None } (no_volumes table.geometry.format ∷ []) ∥₁

@@ -23,8 +23,7 @@ use Rattle.volume_table.specs.SetReplies.{AnswersSet, Devices, SetState, set_aft
 use Rattle.volume_table.specs.Stands.{IsSettledAfter, IsSettledOn, StandsThroughout, StoreView}
 use Rattle.extents.specs.declared.extent_layout.ExtentLayout.{ExtentLayout}
 use Rattle.extents.specs.SetExtents.{extents_in}
-use Rattle.extents.specs.Versions.{most_blocks}
-use Rattle.extents.specs.declared.version.TheConstants.{LAST_VERSION}
+use Rattle.extents.specs.VolumeTables.{most_blocks}
 use Rattle.sector_model.specs.declared.calls.TheConstants.{GREATEST_COUNT}
 
 -- the states and the position of a table's set
@@ -73,10 +72,11 @@ pub record LacksMemory (command : Command) (reply : Reply) : Type 0 where
   pub listing : command ≡ Names
   pub refused : reply ≡ Refused Memory
 
--- The counter that an event would raise, besides the generation, stands at 2^62. A command on volumes has an entry for each block of the largest volume at
--- most, and one for the table.
+-- The counter that an event would raise, besides the generation, stands at 2^62. A command on volumes has an entry for each block of the largest volume
+-- that the set may have, and one for the table, at most.
 abbrev pub IsCounterFull : Event → (old new : ArrayView) → Type 0
-IsCounterFull (OnVolumes command) old new = (GREATEST_COUNT ≤ old.number + (most_blocks LAST_VERSION + 1)) × (GREATEST_COUNT ≤ new.number)
+IsCounterFull (OnVolumes command) old new = (GREATEST_COUNT ≤ old.number + (most_blocks (extents_in old.table.geometry).blocks + 1))
+    × (GREATEST_COUNT ≤ new.number)
 IsCounterFull (OnSet (Replace slot)) old new = GREATEST_COUNT ≤ incarnation_at old.table.incarnations slot
 IsCounterFull (OnSet command) old new = ⊥
 

@@ -1,9 +1,9 @@
 -- How the commands of a store change the logical list, by its table of volumes and its map of extents.
-use Rattle.std.specs.Prelude.{◌≡◌, ◌≢◌, ◌⊎◌, ℕ, ◌+◌, ◌<◌, ◌≤◌, List, [], length, slice_index_or, Option}
+use Rattle.std.specs.Prelude.{◌≡◌, ◌≢◌, ◌⊎◌, ℕ, ◌+◌, ◌<◌, ◌≤◌, Bool, true, List, [], length, slice_index_or, Option}
 use Rattle.extents.specs.declared.extent_layout.ExtentLayout.{ExtentLayout}
 use Rattle.extents.specs.declared.owned.Owned.{Owned}
 use Rattle.extents.specs.declared.volume_table.VolumeTable.{VolumeTable}
-use Rattle.extents.specs.ExtentMaps.{HasPlace, IsWhere, place_of, sector_of_block}
+use Rattle.extents.specs.ExtentMaps.{HasPlace, IsWhere, is_dirty, place_of, sector_of_block}
 use Rattle.extents.specs.Owners.{IsAt}
 use Rattle.extents.specs.TableSpelling.{Spell}
 use Rattle.extents.specs.Versions.{table_length}
@@ -35,10 +35,11 @@ pub record IsPartlyZero (extents : ExtentLayout) (owners : List (Option Owned)) 
   pub each : (sector : ℕ) → (slice_index_or now sector [] ≡ slice_index_or before sector [])
       ⊎ ((slice_index_or now sector [] ≡ zero_block) × IsOfBlocks extents owners number first last sector)
 
--- all of them are zero
-pub record IsZeroed (extents : ExtentLayout) (owners : List (Option Owned)) (number first last : ℕ) (before now : List Block) : Type 0 where
+-- all of them that lie in dirty extents are zero
+pub record IsZeroed (extents : ExtentLayout) (dirty : List Bool) (owners : List (Option Owned)) (number first last : ℕ) (before now : List Block) : Type 0 where
   pub partly : IsPartlyZero extents owners number first last before now
-  pub zero : (sector : ℕ) → IsOfBlocks extents owners number first last sector → slice_index_or now sector [] ≡ zero_block
+  pub zero : (sector : ℕ) (is : IsOfBlocks extents owners number first last sector) → is_dirty dirty is.extent ≡ true
+      → slice_index_or now sector [] ≡ zero_block
 
 -- the first sectors spell this table, and no other sector is changed
 pub record HasTable (table : VolumeTable) (before now : List Block) : Type 0 where
@@ -58,10 +59,10 @@ PutsTable first table = From first (HasTable table)
 abbrev pub MayPutTable : (first : VolumeTable) → VolumeTable → Change
 MayPutTable first table = From first (IsSameOr (HasTable table))
 
--- a list with a new table, and with zeros in the blocks `first` to `last` - 1 of one volume
+-- a list with a new table, and with zeros in the blocks `first` to `last` - 1 of one volume that lie in dirty extents
 pub record IsGrown (extents : ExtentLayout) (table : VolumeTable) (number first last : ℕ) (before now : List Block) : Type 0 where
   pub mid : List Block
-  pub zeroed : IsZeroed extents table.extents number first last before mid
+  pub zeroed : IsZeroed extents table.dirty table.extents number first last before mid
   pub put : HasTable table mid now
 
 -- what may be on the way there: some of these blocks are zero, or all, and the new table is there

@@ -2,6 +2,7 @@
 use Rattle.std.specs.Prelude.{◌≡◌, ℕ, ◌-◌, ◌<◌, List, [], ◌∷◌, ◌++◌, map, length, Option, Some, None, Result, Ok, Err}
 use Rattle.sector_model.specs.declared.refusal.Refusal.{Refusal}
 use Rattle.sector_model.specs.declared.refusal.Refusal.TheVariants.{Memory}
+use Rattle.layout_map.specs.declared.format.Format.{Format}
 use Rattle.superblock.specs.declared.state.State.{State}
 use Rattle.superblock.specs.Tables.{incarnation_at, state_at}
 use Rattle.superblock.specs.Cases.{Lost}
@@ -101,12 +102,14 @@ ScrubsSet honest old new result = Applies honest (OnSet Scrub) old new (scrub_re
 -- what a store tells of its set
 pub record StatusView : Type 0 where
   pub id : List ℕ
+  pub format : Format
   pub members : ℕ
   pub chunk : ℕ
   pub stripes : ℕ
   pub rows : ℕ
   pub generation : ℕ
   pub position : ℕ
+  pub extent_blocks : ℕ
   pub extents : ℕ
   pub free : ℕ
   pub volumes : ℕ
@@ -117,6 +120,7 @@ pub record StatusView : Type 0 where
 -- a status tells of the array's table, and of the volumes on which the store is settled
 pub record IsStatusOf (store : StoreView) (status : StatusView) : Type 0 where
   pub id : status.id ≡ store.array.table.id
+  pub format : status.format ≡ store.array.table.geometry.format
   pub members : status.members ≡ store.array.table.geometry.members
   pub chunk : status.chunk ≡ store.array.table.geometry.chunk
   pub stripes : status.stripes ≡ store.array.table.geometry.stripes
@@ -126,6 +130,7 @@ pub record IsStatusOf (store : StoreView) (status : StatusView) : Type 0 where
   pub states : (slot : ℕ) → slot < slots_of store.array.table → state_at status.states slot ≡ state_at store.array.table.states slot
   pub incarnations : (slot : ℕ) → slot < slots_of store.array.table
       → incarnation_at status.incarnations slot ≡ incarnation_at store.array.table.incarnations slot
+  pub extent_blocks : status.extent_blocks ≡ (extents_for_store store).blocks
   pub extents : status.extents ≡ (extents_for_store store).count
   pub free : (lost : Option Lost) (those : VolumeMap) → IsSettledOn store lost those
       → status.free ≡ (extents_for_store store).count - need (extents_for_store store).blocks those.volumes
@@ -136,12 +141,14 @@ pub record IsStatusOf (store : StoreView) (status : StatusView) : Type 0 where
 abbrev pub status_view : Status → StatusView
 status_view status = record {
   id = status.id;
+  format = status.format;
   members = status.members;
   chunk = status.chunk;
   stripes = status.stripes;
   rows = status.rows;
   generation = status.generation;
   position = status.position;
+  extent_blocks = status.extent_blocks;
   extents = status.extents;
   free = status.free;
   volumes = status.volumes;

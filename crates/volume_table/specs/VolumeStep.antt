@@ -6,10 +6,9 @@ use Rattle.sector_model.specs.declared.refusal.Refusal.TheVariants.{BadName, Bad
 use Rattle.rebuild.specs.Rebuilding.{Progress}
 use Rattle.volume_table.specs.Names.{is_good_name}
 use Rattle.extents.specs.declared.extent_layout.ExtentLayout.{ExtentLayout}
-use Rattle.extents.specs.VolumeTables.{extents_for}
+use Rattle.extents.specs.VolumeTables.{extents_for, most_blocks}
 use Rattle.volume_table.specs.Volumes.{Block, IsBlock, zero_block, VolumeList, VolumeMap, blocks_of, with_volume, without, need}
-use Rattle.extents.specs.Versions.{most_blocks, most_volumes}
-use Rattle.extents.specs.declared.version.TheConstants.{LAST_VERSION}
+use Rattle.extents.specs.Versions.{most_volumes, upgraded_version}
 use Rattle.volume_table.specs.declared.event.TheConstants.{MOST_BLOCKS_AT_ONCE}
 
 pub data Command : Type 0 where
@@ -22,7 +21,7 @@ pub data Command : Type 0 where
   Rename : (old new : List ℕ) → Command
   -- the names of all volumes with their numbers of blocks
   Names : Command
-  -- the table gets the last version
+  -- the table gets the last version of those that it may have
   Upgrade : Command
 
 -- a command on the set itself, which leaves all volumes as they are
@@ -82,7 +81,7 @@ changed Upgrade volumes = volumes
 
 -- the version of the table after it
 abbrev pub version_after : Command → ℕ → ℕ
-version_after Upgrade version = LAST_VERSION
+version_after Upgrade version = upgraded_version version
 version_after command version = version
 
 -- the reply to a command that is not refused
@@ -123,14 +122,14 @@ checks_within name at count volumes =
 abbrev pub checks : (extents : ExtentLayout) (version : ℕ) → Command → VolumeList → List Check
 checks extents version (Create name count) volumes =
     (not (is_good_name version name), BadName)
-    ∷ (is_bad_size (most_blocks version) count, BadSize)
+    ∷ (is_bad_size (most_blocks extents.blocks) count, BadSize)
     ∷ (is_some (blocks_of name volumes), Exists)
     ∷ (nat_le (most_volumes version) (length volumes), TooManyVolumes)
     ∷ (nat_lt extents.count (need extents.blocks volumes + extents_for extents.blocks count), NoSpace)
     ∷ []
 checks extents version (Extend name growth) volumes =
     (has_no_volume name volumes, NoVolume)
-    ∷ (growth == 0 || nat_lt (most_blocks version) (length (blocks_in name volumes) + growth), BadSize)
+    ∷ (growth == 0 || nat_lt (most_blocks extents.blocks) (length (blocks_in name volumes) + growth), BadSize)
     ∷ (nat_lt extents.count (need extents.blocks (changed (Extend name growth) volumes)), NoSpace)
     ∷ []
 checks extents version (Remove name) volumes = (has_no_volume name volumes, NoVolume) ∷ []

@@ -3,10 +3,10 @@ use Rattle.std.specs.Prelude.{◌≡◌, ℕ, ◌+◌, ◌≤◌, IsTrue, if◌t
 use Rattle.std.specs.List.Sorted.{IsStrictlySortedBy}
 use Rattle.std.specs.Ordering.{match_ordering}
 use Rattle.extents.specs.declared.extent_layout.ExtentLayout.{ExtentLayout}
-use Rattle.extents.specs.VolumeTables.{extents_for}
+use Rattle.extents.specs.VolumeTables.{extents_for, most_blocks}
 use Rattle.volume_table.specs.Names.{name_order, is_same_name, is_good_name}
-use Rattle.extents.specs.Versions.{IsVersion, most_blocks, most_volumes}
-use Rattle.extents.specs.declared.version.TheConstants.{FIRST_VERSION}
+use Rattle.extents.specs.Versions.{IsVersionIn, fresh_version, most_volumes}
+use Rattle.layout_map.specs.declared.format.Format.{Format}
 
 -- the bytes of a block
 abbrev pub Block : Type 0
@@ -33,9 +33,9 @@ pub record VolumeMap : Type 0 where
   pub version : ℕ
   pub volumes : VolumeList
 
--- those of a set that was just made
-abbrev pub no_volumes : VolumeMap
-no_volumes = record { version = FIRST_VERSION; volumes = [] }
+-- those of a set of this format that was just made
+abbrev pub no_volumes : Format → VolumeMap
+no_volumes format = record { version = fresh_version format; volumes = [] }
 
 abbrev pub names : VolumeList → List (List ℕ)
 names volumes = map (λ volume. volume.name) volumes
@@ -60,17 +60,17 @@ abbrev pub need : (each : ℕ) → VolumeList → ℕ
 need each [] = 0
 need each (volume ∷ volumes) = extents_for each (length volume.blocks) + need each volumes
 
--- a volume within the limits of a version
-pub record IsVolume (version : ℕ) (volume : Volume) : Type 0 where
+-- a volume within the limits of a version, of this many blocks at most
+pub record IsVolume (most_of_set version : ℕ) (volume : Volume) : Type 0 where
   pub good : IsTrue (is_good_name version volume.name)
   pub least : 1 ≤ length volume.blocks
-  pub most : length volume.blocks ≤ most_blocks version
+  pub most : length volume.blocks ≤ most_of_set
   pub whole : All IsBlock volume.blocks
 
 -- volumes that a set with these extents may have
 pub record AreVolumes (extents : ExtentLayout) (volumes : VolumeMap) : Type 0 where
-  pub is_version : IsVersion volumes.version
+  pub is_version : IsVersionIn extents.format volumes.version
   pub few : length volumes.volumes ≤ most_volumes volumes.version
-  pub each : All (IsVolume volumes.version) volumes.volumes
+  pub each : All (IsVolume (most_blocks extents.blocks) volumes.version) volumes.volumes
   pub rising : IsStrictlySortedBy name_order (names volumes.volumes)
   pub within : need extents.blocks volumes.volumes ≤ extents.count

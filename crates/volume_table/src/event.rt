@@ -56,7 +56,7 @@ pub enum Event<'a> {
     Replace {
         slot: u8,
     },
-    /// So many rows more of the rebuilding member, 64 at most.
+    /// So many rows more of the rebuilding member: 64 at most, or 4,096 in a set of format 2.
     RebuildStep {
         rows: u64,
     },

@@ -7,6 +7,6 @@ use extents::Name;
 pub struct Listed {
     /// The name.
     pub name: Name,
-    /// The number of blocks, 1 to 65,536.
+    /// The number of blocks, from 1 to the most blocks of the set (65,536 in a set of format 1).
     pub blocks: u32,
 }

@@ -2,6 +2,7 @@
 ghost use Rattle.std.specs.Prelude.{◌≤◌};
 ghost use Rattle.layout_map.specs.declared.sizes.TheConstants.{MOST_MEMBERS};
 
+use layout_map::Format;
 use superblock::State;
 
 /// A set's shape, how much of it is in use, and the state of each slot. Slots 0 to members - 1 are members, the next
@@ -10,6 +11,8 @@ use superblock::State;
 pub struct Status {
     /// The set's id.
     pub id: [u8; 16],
+    /// The format of the set.
+    pub format: Format,
     /// How many members there are, at most 8.
     pub members: u8,
     /// The sectors of a chunk.
@@ -22,13 +25,15 @@ pub struct Status {
     pub generation: u64,
     /// The rows of the rebuilding member that count; 0 where no member is rebuilding.
     pub position: u64,
+    /// The blocks of an extent.
+    pub extent_blocks: u64,
     /// The extents for volumes, those in use and those free.
     pub extents: u32,
     /// The extents that no volume has.
     pub free: u32,
     /// How many volumes there are.
     pub volumes: u32,
-    /// The version of the table of volumes, 1 or 2.
+    /// The version of the table of volumes: 1 or 2, in format 2 always 3.
     pub version: u8,
     /// The state of each slot; after the second journal nothing is read.
     pub states: [State; 10],

@@ -32,6 +32,9 @@ returns-in-OtherSet g c = rw c.in-OtherSet.is (record {
   kind = c.write_slot_line-in-OtherSet.ensures.kind;
 })
 
+pub returns-in-SetThere : goal.returns-in-SetThere
+returns-in-SetThere g c = rw c.in-SetThere.is c.write_set_there.ensures
+
 pub returns-in-NotSynced : goal.returns-in-NotSynced
 returns-in-NotSynced g c = rw c.in-NotSynced.is c.write_unsynced.ensures
 

@@ -58,7 +58,68 @@ fn blocks_in_order_not_aligned(rt: HostRuntime) {
         run(700, 68, 0x11),
     ];
     let builder = built(&rt, &runs);
-    same(&rt, builder.end(), 768);
+    same(&rt, (builder.end(), builder.count()), (768, 640));
+    let entry = finished(&rt, builder);
+    same(&rt, entry.list.as_slice(), &runs);
+    same(&rt, entry.held(), 2_688);
+}
+
+// Checks how many runs, rows and held sectors a builder has.
+fn check_numbers(rt: &impl Abort, builder: &RunsBuilder, (runs, rows, held): (usize, usize, u32)) {
+    let entry = builder.to_runs().expect(rt, "the builder has rows");
+    let got = (entry.list.len(), builder.count(), entry.held());
+    same(rt, got, (runs, rows, held));
+}
+
+// Of 5 members with chunks of 128 sectors, blocks 512 to 639 lie on member 4 from row 128 on, and their parity on
+// member 3: these are blocks 512, 514 .. 626. With block 628 there would be 59 runs.
+#[test]
+fn blocks_58_with_gaps(rt: HostRuntime) {
+    let mut builder = RunsBuilder::new();
+    for number in 0..58 {
+        assert!(rt; add(&rt, &mut builder, 128 + 2 * number, 0x18));
+    }
+    check_numbers(&rt, &builder, (58, 58, 116));
+    assert!(rt; !add(&rt, &mut builder, 244, 0x18));
+    check_numbers(&rt, &builder, (58, 58, 116));
+}
+
+// With block 513 the first three of the 59 are one run.
+#[test]
+fn blocks_59_with_gaps_and_one_between(rt: HostRuntime) {
+    let mut builder = built(&rt, &[run(128, 3, 0x18)]);
+    for number in 2..59 {
+        assert!(rt; add(&rt, &mut builder, 128 + 2 * number, 0x18));
+    }
+    check_numbers(&rt, &builder, (58, 60, 120));
+    same(&rt, builder.end(), 245);
+}
+
+// The first 128 blocks of each of 16 stripes, from block 512 on: each time on another member, with the parity on the
+// one below it. No row fits beside these.
+#[test]
+fn a_chunk_of_each_of_16_stripes(rt: HostRuntime) {
+    let runs = [
+        run(128, 128, 0x18),
+        run(256, 128, 0x0c),
+        run(384, 128, 0x06),
+        run(512, 128, 0x03),
+        run(640, 128, 0x11),
+        run(768, 128, 0x18),
+        run(896, 128, 0x0c),
+        run(1_024, 128, 0x06),
+        run(1_152, 128, 0x03),
+        run(1_280, 128, 0x11),
+        run(1_408, 128, 0x18),
+        run(1_536, 128, 0x0c),
+        run(1_664, 128, 0x06),
+        run(1_792, 128, 0x03),
+        run(1_920, 128, 0x11),
+        run(2_048, 128, 0x18),
+    ];
+    let mut builder = built(&rt, &runs);
+    check_numbers(&rt, &builder, (16, 2_048, 4_096));
+    assert!(rt; !add(&rt, &mut builder, 2_176, 0x0c));
     same(&rt, finished(&rt, builder).list.as_slice(), &runs);
 }
 

@@ -16,10 +16,13 @@ fn free_map<const N: usize>() -> ExtentMap
     ExtentMap::new(&[None; N])
 }
 
-// Appends so many extents to a volume.
-fn take(rt: &impl Abort, map: &mut ExtentMap, volume: u8, n: u32) {
+// The flags of 1,024 extents that are dirty.
+const ALL_DIRTY: &[bool] = &[true; 1024];
+
+// Appends so many extents to a volume, where these are dirty.
+fn take(rt: &impl Abort, map: &mut ExtentMap, dirty: &[bool], volume: u8, n: u32) {
     assert!(rt; volume < 64 && n <= map.free_count());
-    map.take(volume, n);
+    map.take(dirty, volume, n);
 }
 
 // Checks that a block of a volume lies in this extent, at this logical sector, where extents lie so.
@@ -53,8 +56,10 @@ fn check_extents(rt: &impl Abort, map: &ExtentMap, volume: u8, extents: &[u16]) 
 // What is done with a map, and what it then shows.
 #[derive(Clone, Copy)]
 enum Step {
-    /// The volume gets so many extents.
+    /// The volume gets so many extents, where all are dirty.
     Takes(u8, u32),
+    /// The volume gets so many extents, where these are dirty.
+    TakesOf(&'static [bool], u8, u32),
     /// The volume gives back its extents.
     GivesBack(u8),
     /// The volume has these extents.
@@ -67,11 +72,12 @@ enum Step {
     Free(u32),
 }
 
-use Step::{Free, GivesBack, Has, IsFree, Lies, Takes};
+use Step::{Free, GivesBack, Has, IsFree, Lies, Takes, TakesOf};
 
 fn take_step(rt: &impl Abort, map: &mut ExtentMap, step: Step) {
     match step {
-        Takes(volume, n) => take(rt, map, volume, n),
+        Takes(volume, n) => take(rt, map, ALL_DIRTY, volume, n),
+        TakesOf(dirty, volume, n) => take(rt, map, dirty, volume, n),
         GivesBack(volume) => map.give_back(volume),
         Has(volume, extents) => check_extents(rt, map, volume, extents),
         Lies(volume, block, extent, sector) => check_block(rt, map, volume, block, extent, sector),
@@ -174,7 +180,66 @@ fn extents_reused(rt: HostRuntime) {
     play(&rt, &mut free_map::<7>(), STEPS)
 }
 
-// The first extent with this owner, or the first free one, found by looking at each.
+#[test]
+fn clean_before_dirty(rt: HostRuntime) {
+    // Of seven extents the third, the fifth and the sixth are clean.
+    const DIRTY: &[bool] = &[true, true, false, true, false, false, true];
+    const STEPS: &[Step] = &[
+        // Both are clean, and lie above two dirty ones.
+        TakesOf(DIRTY, 0, 2),
+        Has(0, &[2, 4]),
+        // The last clean one, and then the lowest dirty ones.
+        TakesOf(DIRTY, 1, 3),
+        Has(1, &[5, 0, 1]),
+        Lies(1, 0, 5, 384),
+        Lies(1, 64, 0, 64),
+        // Only dirty ones are left.
+        TakesOf(DIRTY, 0, 1),
+        Has(0, &[2, 4, 3]),
+        IsFree(6),
+        Free(1),
+        // A clean one that was given back comes first again.
+        GivesBack(1),
+        TakesOf(DIRTY, 2, 4),
+        Has(2, &[5, 0, 1, 6]),
+    ];
+    play(&rt, &mut free_map::<7>(), STEPS)
+}
+
+#[test]
+fn extents_without_flags_are_dirty(rt: HostRuntime) {
+    const TWO: &[bool] = &[true, false];
+    const STEPS: &[Step] = &[
+        TakesOf(TWO, 0, 3),
+        Has(0, &[1, 0, 2]),
+        TakesOf(&[], 1, 1),
+        Has(1, &[3]),
+        Free(1),
+    ];
+    play(&rt, &mut free_map::<5>(), STEPS)
+}
+
+#[test]
+fn all_of_one_kind(rt: HostRuntime) {
+    const STEPS: &[Step] = &[
+        TakesOf(&[false; 5], 0, 1),
+        TakesOf(&[false; 5], 1, 2),
+        GivesBack(0),
+        TakesOf(&[false; 5], 2, 2),
+        Has(1, &[1, 2]),
+        Has(2, &[0, 3]),
+        GivesBack(2),
+        TakesOf(&[true; 5], 2, 2),
+        Has(2, &[0, 3]),
+        Free(1),
+        // More flags than extents.
+        TakesOf(&[false; 9], 0, 1),
+        Has(0, &[4]),
+    ];
+    play(&rt, &mut free_map::<5>(), STEPS)
+}
+
+// The first extent with this owner, found by looking at each.
 fn found(owners: &[Option<Owned>; 1024], wanted: Option<Owned>) -> Option<usize> {
     for (extent, owner) in owners.iter().enumerate() {
         if *owner == wanted {
@@ -184,13 +249,31 @@ fn found(owners: &[Option<Owned>; 1024], wanted: Option<Owned>) -> Option<usize>
     None
 }
 
-// Appends the lowest free extents to a volume, each found by looking at all.
-fn take_plainly(rt: &impl Abort, owners: &mut [Option<Owned>; 1024], volume: u8, n: u32) {
+// The first free extent whose flag is this one, found by looking at each.
+fn free_of_kind(owners: &[Option<Owned>; 1024], dirty: &[bool; 1024], kind: bool) -> Option<usize> {
+    for (extent, owner) in owners.iter().enumerate() {
+        if owner.is_none() && dirty[extent] == kind {
+            return Some(extent);
+        }
+    }
+    None
+}
+
+// Appends free extents to a volume, each found by looking at all: the first clean one, or where there is none the
+// first dirty one.
+fn take_plainly(
+    rt: &impl Abort,
+    owners: &mut [Option<Owned>; 1024],
+    dirty: &[bool; 1024],
+    volume: u8,
+    n: u32,
+) {
     let mut left = n;
     for place in 0..1024 {
         let owner = Some(Owned { volume, place });
         if left > 0 && found(owners, owner).is_none() {
-            let free = found(owners, None).unwrap_or(1024);
+            let clean = free_of_kind(owners, dirty, false);
+            let free = clean.or(free_of_kind(owners, dirty, true)).unwrap_or(1024);
             assert!(rt; free < 1024);
             owners[free] = owner;
             left -= 1;
@@ -239,8 +322,8 @@ fn change_both(
     rt: &impl Abort,
     map: &mut ExtentMap,
     owners: &mut [Option<Owned>; 1024],
-    given: u8,
-    taking: u8,
+    dirty: &[bool; 1024],
+    (given, taking): (u8, u8),
     n: u32,
 ) {
     map.give_back(given);
@@ -249,14 +332,20 @@ fn change_both(
             *owner = None;
         }
     }
-    take(rt, map, taking, n);
-    take_plainly(rt, owners, taking, n);
+    take(rt, map, dirty, taking, n);
+    take_plainly(rt, owners, dirty, taking, n);
 }
 
 #[test]
 fn as_a_plain_search(rt: HostRuntime) {
     let mut map = free_map::<1024>();
     let mut owners = [None; 1024];
+
+    // Every third extent is clean, and those from 700 to 799 too.
+    let mut dirty = [true; 1024];
+    for (extent, flag) in dirty.iter_mut().enumerate() {
+        *flag = extent % 3 != 0 && (extent < 700 || 800 <= extent);
+    }
 
     // Each volume has 16 extents, in two parts.
     for step in 0u32..128 {
@@ -266,7 +355,7 @@ fn as_a_plain_search(rt: HostRuntime) {
         } else {
             16 - (step - 64) % 17
         };
-        change_both(&rt, &mut map, &mut owners, 255, volume, n);
+        change_both(&rt, &mut map, &mut owners, &dirty, (255, volume), n);
     }
     same(&rt, map.free_count(), 0);
     check_all(&rt, &map, &owners);
@@ -276,7 +365,7 @@ fn as_a_plain_search(rt: HostRuntime) {
         let given = ((step * 13 + 3) % 64) as u8;
         let taking = (step * 5 % 64) as u8;
         let n = map.free_count() / 2;
-        change_both(&rt, &mut map, &mut owners, given, taking, n);
+        change_both(&rt, &mut map, &mut owners, &dirty, (given, taking), n);
         check_all(&rt, &map, &owners);
     }
 }

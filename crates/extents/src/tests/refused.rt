@@ -166,19 +166,3 @@ fn extents_of_the_set_in_the_second(rt: HostRuntime) {
     put(&mut sectors[24], 508, &[1, 0, 1, 0]);
     check_extents(&rt, &two_second_volumes(), &sectors);
 }
-
-// In a set of format 2 no sectors are a table's: its tables have no version that there is.
-#[test]
-fn no_table_in_format_2(rt: HostRuntime) {
-    let small = extents_of_64(7);
-    let large = ExtentLayout {
-        format: Format::Two,
-        first: 64,
-        blocks: 64,
-        count: 7,
-    };
-    for sectors in [two_volumes(), two_second_volumes(), [[0; 512]; 25]] {
-        assert!(rt; VolumeTable::decode(&sectors, &small).is_some());
-        assert!(rt; VolumeTable::decode(&sectors, &large).is_none());
-    }
-}

@@ -27,6 +27,8 @@ const FIVE: Set = ("the set of five", 5, 128, 2_049);
 
 const GREATEST: Set = ("the greatest set", 8, 8, 536_870_910);
 
+const BROAD: Set = ("the broad set", 8, 1_024, 4_194_303);
+
 // The sizes of the set, or why there is none.
 fn sizes_of(set: Set) -> Result<Sizes, Refusal> {
     let (_, members, chunk, stripes) = set;
@@ -152,7 +154,16 @@ fn rows_and_extents(rt: HostRuntime) {
             1_023,
         ),
         (
-            ("the broad set", 8, 1_024, 4_194_303),
+            ("greatest, chunk 128", 8, 128, 33_554_431),
+            4_294_967_168,
+            30_064_770_176,
+            896,
+            15,
+            29_360_128,
+            1_023,
+        ),
+        (
+            BROAD,
             4_294_966_272,
             30_064_763_904,
             7_168,
@@ -180,6 +191,7 @@ fn refused_sets(rt: HostRuntime) {
         ("no extent, of 112 data sectors", 8, 8, 2),
         ("rows up to 2^32", 3, 8, 536_870_911),
         ("rows up to 2^32, chunk 16", 8, 16, 268_435_456),
+        ("rows up to 2^32, chunk 128", 8, 128, 33_554_432),
         ("rows up to 2^32, chunk 1,024", 3, 1_024, 4_194_304),
         ("most stripes that a number says", 3, 8, 4_294_967_295),
     ];
@@ -196,15 +208,17 @@ fn refused_sets(rt: HostRuntime) {
 // member, and the member with the parity of the row.
 type Block = (Set, u64, u64, u64, (u8, u64), u64, u8);
 
-// Checks where a block lies.
-fn check_block(rt: &impl Abort, block: Block) {
-    let ((name, members, chunk, stripes), extent, number, logical, (member, row), sector, parity) =
-        block;
+// Checks where a logical sector lies: on which member in which row, and on the member in which sector; and which member
+// has the parity of the row.
+fn check_sector(
+    rt: &impl Abort,
+    (name, members, chunk, stripes): Set,
+    logical: u64,
+    (member, row): (u8, u64),
+    sector: u64,
+    parity: u8,
+) {
     let geometry = Geometry::large(members, chunk, stripes).expect(rt, "it is made");
-    let begins = geometry
-        .first_extent()
-        .wrapping_add(extent.wrapping_mul(geometry.extent_blocks()));
-    same(rt, (name, begins.wrapping_add(number)), (name, logical));
     assert!(rt; logical < geometry.data_sectors());
     same(
         rt,
@@ -222,6 +236,18 @@ fn check_block(rt: &impl Abort, block: Block) {
         geometry.logical_of(member, row),
     );
     same(rt, (name, got), (name, (parity, Some(logical))));
+}
+
+// Checks where a block lies.
+fn check_block(rt: &impl Abort, block: Block) {
+    let (set, extent, number, logical, place, sector, parity) = block;
+    let (name, members, chunk, stripes) = set;
+    let geometry = Geometry::large(members, chunk, stripes).expect(rt, "it is made");
+    let begins = geometry
+        .first_extent()
+        .wrapping_add(extent.wrapping_mul(geometry.extent_blocks()));
+    same(rt, (name, begins.wrapping_add(number)), (name, logical));
+    check_sector(rt, set, logical, place, sector, parity);
 }
 
 #[test]
@@ -248,8 +274,149 @@ fn far_blocks(rt: HostRuntime) {
             613_566_767,
             3,
         ),
+        (
+            GREATEST,
+            146,
+            8_388_496,
+            4_294_967_296,
+            (0, 613_566_752),
+            613_566_760,
+            3,
+        ),
+        (
+            GREATEST,
+            1_022,
+            0,
+            30_006_050_928,
+            (6, 4_286_578_704),
+            4_286_578_712,
+            5,
+        ),
+        (
+            GREATEST,
+            1_022,
+            29_360_127,
+            30_035_411_055,
+            (5, 4_290_773_007),
+            4_290_773_015,
+            6,
+        ),
+        (
+            BROAD,
+            1_022,
+            0,
+            30_006_057_984,
+            (7, 4_286_579_712),
+            4_286_579_720,
+            6,
+        ),
+        (
+            BROAD,
+            1_022,
+            29_360_127,
+            30_035_418_111,
+            (6, 4_290_774_015),
+            4_290_774_023,
+            7,
+        ),
     ];
     for block in BLOCKS {
         check_block(&rt, *block);
+    }
+}
+
+// Checks where the last logical sector of a set lies, which no extent has.
+fn check_last(rt: &impl Abort, set: Set, logical: u64, place: (u8, u64), sector: u64, parity: u8) {
+    let (name, members, chunk, stripes) = set;
+    let geometry = Geometry::large(members, chunk, stripes).expect(rt, "it is made");
+    let extents = u64::from(geometry.extents());
+    let end = geometry
+        .first_extent()
+        .wrapping_add(extents.wrapping_mul(geometry.extent_blocks()));
+    let is_last = logical.wrapping_add(1) == geometry.data_sectors();
+    same(rt, (name, is_last, end <= logical), (name, true, true));
+    check_sector(rt, set, logical, place, sector, parity);
+}
+
+#[test]
+fn last_sectors(rt: HostRuntime) {
+    let greatest = (1, 4_294_967_279);
+    let broad = (0, 4_294_966_271);
+    check_last(&rt, GREATEST, 30_064_770_959, greatest, 4_294_967_287, 2);
+    check_last(&rt, BROAD, 30_064_763_903, broad, 4_294_966_279, 1);
+}
+
+// Where a logical sector of a set lies, and the member with the parity of its row, in numbers of 128 bits: the parity
+// of stripe 0 is on the last member, and moves one down from stripe to stripe; the chunks of a stripe lie on the members
+// after it.
+fn place_in_128_bits(geometry: &Geometry, logical: u64) -> (Place, u8) {
+    let members = u128::from(geometry.members.max(2));
+    let sectors = u128::from(geometry.chunk.max(1));
+    let data = members.wrapping_sub(1).max(1);
+    let chunk = u128::from(logical) / sectors;
+    let stripe = chunk / data;
+    let parity = data.wrapping_sub(stripe % members);
+    let after = parity.wrapping_add(1).wrapping_add(chunk % data);
+    let row = stripe.wrapping_mul(sectors);
+    let place = Place {
+        member: (after % members) as u8,
+        row: row.wrapping_add(u128::from(logical) % sectors) as u64,
+    };
+    (place, parity as u8)
+}
+
+// Checks where a logical sector lies, both ways.
+fn check_place(rt: &impl Abort, name: &'static str, geometry: &Geometry, logical: u64) {
+    assert!(rt; logical < geometry.data_sectors());
+    let place = geometry.place(logical);
+    let parity = geometry.parity_member(place.row);
+    let wanted = place_in_128_bits(geometry, logical);
+    same(
+        rt,
+        (name, logical, (place, parity)),
+        (name, logical, wanted),
+    );
+    let found = geometry.logical_of(place.member, place.row);
+    same(rt, (name, found), (name, Some(logical)));
+    let none = geometry.logical_of(parity, place.row);
+    same(rt, (name, logical, none), (name, logical, None));
+}
+
+// The next number of a sequence that looks random.
+fn next_of(number: u64) -> u64 {
+    number
+        .wrapping_mul(6_364_136_223_846_793_005)
+        .wrapping_add(1_442_695_040_888_963_407)
+}
+
+// Checks a set: its first and its last sectors, and a hundred others.
+fn check_places(rt: &impl Abort, set: Set) {
+    let (name, members, chunk, stripes) = set;
+    let geometry = Geometry::large(members, chunk, stripes).expect(rt, "it is made");
+    let sectors = geometry.data_sectors();
+    for from_end in 1..10u64 {
+        check_place(rt, name, &geometry, from_end);
+        check_place(rt, name, &geometry, sectors.wrapping_sub(from_end));
+    }
+    let mut number = sectors;
+    for _ in 0..100 {
+        number = next_of(number);
+        check_place(rt, name, &geometry, number / 2 % sectors.max(1));
+    }
+}
+
+#[test]
+fn places_in_128_bits(rt: HostRuntime) {
+    const SETS: &[Set] = &[
+        EXAMPLE,
+        FIVE,
+        GREATEST,
+        ("greatest of 3", 3, 8, 536_870_910),
+        ("greatest, chunk 128", 8, 128, 33_554_431),
+        BROAD,
+        ("a terabyte a member", 4, 128, 15_261_915),
+    ];
+    for set in SETS {
+        check_places(&rt, *set);
     }
 }

@@ -402,7 +402,7 @@ fn errors_that_cannot_be_told(rt: HostRuntime) {
     over_folder(&rt, rt.process(), "untold", ERRORS_THAT_CANNOT_BE_TOLD);
 }
 
-const NAME_AND_VERSION: &str = "raidtool 0.4.0\n";
+const NAME_AND_VERSION: &str = "raidtool 0.5.0\n";
 
 static LINES_OF_THE_PROGRAM: &[Step] = &[
     Line("run|/nowhere|--id|00", UNREAD, 2, BAD_ID),

@@ -1,8 +1,10 @@
 //! A set of 3 members, chunk 8 and 32 stripes that is assembled on devices with sectors that were forged.
 use super::tests::check_table;
 use crate::testing::{
-    BLANK, ID, ROOM, SET_A, answer, assembled, fresh, put_sector, refusal_of, same, sector_of,
+    AssemblySize, BLANK, ID, ROOM, SET_A, answer, assembled, devices, fresh, put_sector,
+    refusal_of, same, sector_of, superblock,
 };
+use layout_map::Format;
 use sector_model::{Bank, Image, Plan, Refusal, Sector};
 use std::process::Abort;
 
@@ -73,4 +75,77 @@ fn forged_seal(rt: HostRuntime) {
     check_seal(&rt, &held_seal(256), false);
     check_seal(&rt, &whole_seal(255), true);
     check_seal(&rt, &held_seal(255), true);
+}
+
+// The superblock of this generation of the set in the slot of this role, with the marks of this format.
+fn superblock_of(format: u8, generation: u8, role: u8) -> Sector {
+    let mut sector = superblock(generation, 32, role);
+    sector[7] = format;
+    sector[504] = format;
+    sector
+}
+
+// Puts superblocks of generation 9 with the marks of this format on the first slots of a set, so many.
+fn forge(rt: &impl Abort, image: &mut Image, format: u8, slots: u8) {
+    for slot in 0..slots {
+        put_sector(
+            rt,
+            image,
+            usize::from(slot),
+            1,
+            &superblock_of(format, 9, slot),
+        );
+    }
+}
+
+// The devices of the set in format 2, as it was made.
+fn fresh_of_format_2(rt: &(impl Abort + AllocGlobal)) -> Image {
+    let mut image = devices(rt, &[264, 264, 264, 8_200, 8_200], 0);
+    for slot in 0..5u8 {
+        put_sector(
+            rt,
+            &mut image,
+            usize::from(slot),
+            1,
+            &superblock_of(b'2', 1, slot),
+        );
+    }
+    image
+}
+
+// The table with the greatest generation is chosen, whatever its format. That of format 2 asks for longer journals than
+// the 520 sectors of a set of format 1, so that both are lost: each slot is read twice, and nothing is written.
+#[test]
+fn forged_superblock_of_the_other_format(rt: HostRuntime) {
+    for slots in [1u8, 5] {
+        let mut image = fresh(&rt, SET_A);
+        forge(&rt, &mut image, b'2', slots);
+        let refusal = refusal_of(&rt, answer(&rt, image, Plan::NONE, ID));
+        same(&rt, (slots, refusal), (slots, (Refusal::TwoLost, 2 * 5)));
+    }
+    forged_superblock_of_format_1(&rt);
+}
+
+// A journal of format 2 is long enough for format 1, and the incarnations are those of the forged table: every slot is
+// live, and the set is assembled in format 1. Slots 1 to 4 get its superblock, by a write and a flush each.
+fn forged_superblock_of_format_1(rt: &(impl Abort + AllocGlobal)) {
+    let mut image = fresh_of_format_2(rt);
+    forge(rt, &mut image, b'1', 1);
+    let array = assembled(rt, image);
+    same(rt, array.table.geometry.format, Format::One);
+    let calls = AssemblySize::whole(3).calls_again(5) + 2 * 4;
+    check_table(rt, &array, 9, 9, calls);
+}
+
+// Superblocks with a mark of each format are none.
+#[test]
+fn forged_superblock_of_both_formats(rt: HostRuntime) {
+    let mut image = fresh_of_format_2(&rt);
+    for slot in 0..5u8 {
+        let mut sector = superblock_of(b'2', 1, slot);
+        sector[504] = b'1';
+        put_sector(&rt, &mut image, usize::from(slot), 1, &sector);
+    }
+    let refusal = refusal_of(&rt, answer(&rt, image, Plan::NONE, ID));
+    same(&rt, refusal, (Refusal::NoSet, 2 * 5));
 }

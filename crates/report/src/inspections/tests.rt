@@ -5,11 +5,17 @@ use recovery::{Examined, ExaminedSlot, Outlook, Presence, Standing};
 use std::process::Abort;
 use superblock::{Table, decode};
 
-// The table of a set of 3 members, chunk 8 and 32 stripes at generation 2, of which slot 2 is in the state of this
-// byte, and so many rows of it count.
+// The table of a set of format 1 of 3 members, chunk 8 and 32 stripes at generation 2, of which slot 2 is in the state
+// of this byte, and so many rows of it count.
 fn table(rt: &impl Abort, state: u8, position: u8) -> Table {
+    table_of(rt, b'1', state, position)
+}
+
+// The same of the format with this digit.
+fn table_of(rt: &impl Abort, format: u8, state: u8, position: u8) -> Table {
     let mut sector = [0; 512];
     sector[..8].copy_from_slice(b"RAID5JV1");
+    sector[7] = format;
     for byte in 0..16u8 {
         sector[8 + byte as usize] = byte;
     }
@@ -25,6 +31,7 @@ fn table(rt: &impl Abort, state: u8, position: u8) -> Table {
     sector[200] = position;
     sector[208] = 1;
     sector[504..].copy_from_slice(b"1VJ5DIAR");
+    sector[504] = format;
     decode(&sector).expect(rt, "it is a superblock").table
 }
 
@@ -79,6 +86,28 @@ fn an_inspection_of_a_set_without_a_member(rt: HostRuntime) {
     let value = examined_to_json(rt.alloc(), &found).expect(&rt, "memory");
     let json = value.to_string(rt.alloc()).expect(&rt, "memory");
     same(&rt, json.as_str(), MEMBER_AWAY_JSON);
+}
+
+// How the text and the JSON of an inspection of a set of format 2 begin.
+const LARGE_BEGIN: &str = "\
+set 000102030405060708090a0b0c0d0e0f
+members 3 chunk 8 stripes 32 rows 256 format 2
+generation 2 position 0 left 0
+";
+
+const LARGE_JSON: &str =
+    r#"{"chunk":8,"extent_blocks":16,"format":2,"generation":2,"id":"000102030405060708090a0b0c0d0e0f","left":0,"members":3,"#;
+
+#[test]
+fn an_inspection_of_format_2(rt: HostRuntime) {
+    let table = table_of(&rt, b'2', 0, 0);
+    let away = Standing::CalledMissing;
+    let found = inspection(table, Presence::Absent, away, Outlook::Missing(2));
+    let text = examined_text(rt.alloc(), &found).expect(&rt, "memory");
+    same(&rt, text.as_str().starts_with(LARGE_BEGIN), true);
+    let value = examined_to_json(rt.alloc(), &found).expect(&rt, "memory");
+    let json = value.to_string(rt.alloc()).expect(&rt, "memory");
+    same(&rt, json.as_str().starts_with(LARGE_JSON), true);
 }
 
 // How the text of an inspection of such a set ends, in whose slot 2 this is found: from the line of slot 2 on.

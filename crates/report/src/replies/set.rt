@@ -12,33 +12,43 @@ ghost use Rattle.report.specs.Written.{AppendsPart, WritesText};
 use super::{append, write_text};
 use arrayvec::ArrayVec;
 use itoa::Buffer;
+use layout_map::Format;
 use rebuild::{Progress, steps_left};
 use scrub::ScrubReport;
 use sector_model::Refusal;
 use std::io::Write;
 
 /// Writes `position 64 of 256, 3 left` and a newline, with the position, the number of a member's rows and how many
-/// steps of 64 rows are left, or `complete` and a newline. The only refusal is `Refusal::WriteFault`, as for a reply.
+/// steps of 64 rows are left, in format 2 of 4,096; or `complete` and a newline. The only refusal is
+/// `Refusal::WriteFault`, as for a reply.
 pub fn write_progress<W: Write>(
     writer: &mut W,
     progress: &Progress,
+    format: Format,
     rows: u64,
 ) -> Result<(), Refusal>
     ensures ok { OnOk result
-        (Appends (W.contents writer.old) (W.contents writer.new) (progress_line rows (progress_by progress.now))) }
+        (Appends (W.contents writer.old) (W.contents writer.new)
+        (progress_line format rows (progress_by progress.now))) }
     ensures part { OnErr result
-        (AppendsPart (W.contents writer.old) (W.contents writer.new) (progress_line rows (progress_by progress.now))) }
+        (AppendsPart (W.contents writer.old) (W.contents writer.new)
+        (progress_line format rows (progress_by progress.now))) }
     ensures kind { IfErr result (λ refusal. refusal ≡ Refusal.WriteFault) }
 {
     match progress {
-        Progress::Position(position) => write_position(writer, *position, rows),
+        Progress::Position(position) => write_position(writer, *position, format, rows),
         Progress::Complete => write_text(writer, b"complete\n"),
     }
 }
 
-fn write_position<W: Write>(writer: &mut W, position: u64, rows: u64) -> Result<(), Refusal>
+fn write_position<W: Write>(
+    writer: &mut W,
+    position: u64,
+    format: Format,
+    rows: u64,
+) -> Result<(), Refusal>
     ensures { WritesText (W.contents writer.old) (W.contents writer.new)
-        (progress_line rows (Position position)) result }
+        (progress_line format rows (Position position)) result }
 {
     let mut number = Buffer::new();
     let mut line = ArrayVec::<u8, 96>::new();
@@ -46,20 +56,20 @@ fn write_position<W: Write>(writer: &mut W, position: u64, rows: u64) -> Result<
     append(&mut line, number.format(position).as_bytes());
     append(&mut line, b" of ");
     append(&mut line, number.format(rows).as_bytes());
-    append_left(&mut line, position, rows);
+    append_left(&mut line, steps_left(format, position, rows));
     line.push(b'\n');
     write_text(writer, line.as_slice())
 }
 
 // Appends how many steps are left.
-fn append_left(line: &mut ArrayVec<u8, 96>, position: u64, rows: u64)
+fn append_left(line: &mut ArrayVec<u8, 96>, steps: u64)
     requires { array_vec_len line.old ≤ 53 }
-    ensures items { line.new.items ≡ line.old.items ++ left_text position rows }
+    ensures items { line.new.items ≡ line.old.items ++ left_text steps }
     ensures len { array_vec_len line.new ≤ 80 }
 {
     let mut number = Buffer::new();
     append(line, b", ");
-    append(line, number.format(steps_left(position, rows)).as_bytes());
+    append(line, number.format(steps).as_bytes());
     append(line, b" left");
 }
 

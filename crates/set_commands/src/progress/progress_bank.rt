@@ -1,10 +1,12 @@
 //! A bank of devices that shows how far a command over it is.
-ghost use Rattle.std.specs.Prelude.{◌≡◌, ◌≢◌, ◌≤◌, ◌<◌, ◌+◌, ◌*◌, ◌-◌, ◌^◌, IsNone, IsSomeAnd, None, Some, min};
+ghost use Rattle.std.specs.Prelude.{◌≡◌, ◌≢◌, ◌≤◌, ◌<◌, ◌+◌, ◌*◌, ◌-◌, ◌^◌, IfSome, IsNone, IsSomeAnd, None, Some, min};
 ghost use Rattle.std.specs.Option.{option_map};
 ghost use Rattle.layout_map.specs.Placement.{rows_of};
-ghost use Rattle.set_commands.specs.Progress.{left_of, most_rows_of};
+ghost use Rattle.superblock.specs.Spelling.{superblock_sector};
+ghost use Rattle.superblock.specs.declared.table.Superblock.{Superblock};
+ghost use Rattle.set_commands.specs.Progress.{left_of, sectors_of};
 
-use super::{Left, Meter, in_words, percent, time_left};
+use super::{Left, Meter, average_speed, in_words, percent, time_left};
 use crate::serving::most_rows;
 use layout_map::{FIRST_ROW, Geometry, SUPERBLOCK_PLACES};
 use sector_model::{Bank, Down, Sector};
@@ -20,7 +22,8 @@ const PAUSE: u64 = 200;
 #[derive(Clone, Copy)]
 struct Sought {
     id: [u8; 16],
-    most_rows: u64,
+    // The steps of a rebuild that the command makes; all rows are gone over where none are given.
+    steps: Option<u64>,
     // Of the superblock that told the shape so far; 0 where none did.
     generation: u64,
 }
@@ -84,11 +87,11 @@ impl<'a, B: Bank + Drop, M: Meter> ProgressBank<'a, B, M> {
     pub(crate) fn of_scrub(bank: B, meter: &'a M, id: [u8; 16]) -> ProgressBank<'a, B, M>
         ensures bank { result.bank ≡ bank }
         ensures sought { IsSomeAnd result.sought
-            (λ sought. (sought.id ≡ id) × (sought.most_rows ≡ 2 ^ 64 - 1) × (sought.generation ≡ 0)) }
+            (λ sought. (sought.id ≡ id) × (sought.steps ≡ None) × (sought.generation ≡ 0)) }
         ensures uncounted { (result.work.members ≡ 0) × (result.work.done ≡ 0) × (result.work.total ≡ 0) }
         ensures unshown { IsNone result.shown }
     {
-        ProgressBank::of_set(bank, meter, id, u64::MAX)
+        ProgressBank::of_set(bank, meter, id, None)
     }
 
     /// Watches a command that assembles the set of this id and makes so many steps of its rebuild, or as many as it
@@ -101,20 +104,20 @@ impl<'a, B: Bank + Drop, M: Meter> ProgressBank<'a, B, M> {
     ) -> ProgressBank<'a, B, M>
         ensures bank { result.bank ≡ bank }
         ensures sought { IsSomeAnd result.sought
-            (λ sought. (sought.id ≡ id) × (sought.most_rows ≡ most_rows_of steps) × (sought.generation ≡ 0)) }
+            (λ sought. (sought.id ≡ id) × (sought.steps ≡ steps) × (sought.generation ≡ 0)) }
         ensures uncounted { (result.work.members ≡ 0) × (result.work.done ≡ 0) × (result.work.total ≡ 0) }
         ensures unshown { IsNone result.shown }
     {
-        ProgressBank::of_set(bank, meter, id, most_rows(steps))
+        ProgressBank::of_set(bank, meter, id, steps)
     }
 
     // Watches a command that assembles the set of this id and goes over its members' rows once, from the position that
-    // the set is rebuilt to and so many at most. The shape of the set is told by its superblocks, as the command reads
-    // them.
-    fn of_set(bank: B, meter: &'a M, id: [u8; 16], most_rows: u64) -> ProgressBank<'a, B, M>
+    // the set is rebuilt to and in so many steps at most. The shape of the set is told by its superblocks, as the
+    // command reads them.
+    fn of_set(bank: B, meter: &'a M, id: [u8; 16], steps: Option<u64>) -> ProgressBank<'a, B, M>
         ensures bank { result.bank ≡ bank }
         ensures sought { IsSomeAnd result.sought
-            (λ sought. (sought.id ≡ id) × (sought.most_rows ≡ most_rows) × (sought.generation ≡ 0)) }
+            (λ sought. (sought.id ≡ id) × (sought.steps ≡ steps) × (sought.generation ≡ 0)) }
         ensures uncounted { (result.work.members ≡ 0) × (result.work.done ≡ 0) × (result.work.total ≡ 0) }
         ensures unshown { IsNone result.shown }
     {
@@ -123,7 +126,7 @@ impl<'a, B: Bank + Drop, M: Meter> ProgressBank<'a, B, M> {
             meter,
             sought: Some(Sought {
                 id,
-                most_rows,
+                steps,
                 generation: 0,
             }),
             work: Work {
@@ -175,13 +178,19 @@ impl<'a, B: Bank + Drop, M: Meter> ProgressBank<'a, B, M> {
             return;
         }
         self.shown = Some(now);
-        let left = time_left(now.saturating_sub(began), done, total);
-        self.meter.show(percent(done, total), told(left));
+        let elapsed = now.saturating_sub(began);
+        let speed = average_speed(elapsed, done);
+        let left = time_left(elapsed, done, total);
+        self.meter.show(percent(done, total), speed, told(left));
     }
 
     // Learns the shape of the set from the newest superblock of it that was read.
     fn learn(&mut self, sector: &Sector)
-        ensures { self.new.bank ≡ self.old.bank }
+        ensures bank { self.new.bank ≡ self.old.bank }
+        ensures total { IfSome self.old.sought (λ sought. (superblock : Superblock)
+            → sector.now ≡ superblock_sector superblock → superblock.table.id ≡ sought.id
+            → sought.generation < superblock.table.generation
+            → self.new.work.total ≡ sectors_of superblock.table sought.steps) }
     {
         let Some(sought) = self.sought else {
             return;
@@ -198,7 +207,8 @@ impl<'a, B: Bank + Drop, M: Meter> ProgressBank<'a, B, M> {
             ..sought
         });
         self.work.members = table.geometry.members;
-        self.work.total = calls_of(table.geometry.members, rows_left(table, sought.most_rows));
+        let most = most_rows(table.geometry.format, sought.steps);
+        self.work.total = calls_of(table.geometry.members, rows_left(table, most));
     }
 }
 

@@ -1,6 +1,6 @@
 //! How far a command is, on a terminal.
 
-use super::{Left, Meter};
+use super::{Left, Meter, Speed};
 use std::io::{self, IsTerminal, Write};
 use std::rt::Clock;
 
@@ -19,8 +19,8 @@ impl Meter for HostRuntime {
         u64::try_from(since_start.as_millis()).ok()
     }
 
-    fn show(&self, percent: u8, left: Option<Left>) {
-        let _ = write_line(&mut self.stderr(), percent, left);
+    fn show(&self, percent: u8, speed: Option<Speed>, left: Option<Left>) {
+        let _ = write_line(&mut self.stderr(), percent, speed, left);
     }
 
     fn clear(&self) {
@@ -28,13 +28,40 @@ impl Meter for HostRuntime {
     }
 }
 
-// Writes over the line what is done and left. The text is as long as any other of less than 1,000 hours.
-fn write_line<E: Write>(err: &mut E, percent: u8, left: Option<Left>) -> io::Result<()> {
+// Writes over the line what is done, how fast, and what is left. The text is as long as any other of less than 10,000
+// MB a second and 1,000 hours.
+fn write_line<E: Write>(
+    err: &mut E,
+    percent: u8,
+    speed: Option<Speed>,
+    left: Option<Left>,
+) -> io::Result<()> {
+    write!(err, "\r{percent:3} %")?;
+    write_speed(err, speed)?;
+    write_left(err, left)?;
+    // What is missing to ", 9999 MB/s".
+    let blanks = match speed {
+        None => 11,
+        Some(Speed::Whole(1_000..)) => 0,
+        Some(_) => 1,
+    };
+    write!(err, "{:blanks$}", "")
+}
+
+fn write_speed<E: Write>(err: &mut E, speed: Option<Speed>) -> io::Result<()> {
+    match speed {
+        None => Ok(()),
+        Some(Speed::Tenths(count)) => write!(err, ", {}.{} MB/s", count / 10, count % 10),
+        Some(Speed::Whole(count)) => write!(err, ", {count:3} MB/s"),
+    }
+}
+
+fn write_left<E: Write>(err: &mut E, left: Option<Left>) -> io::Result<()> {
     match left {
-        None => write!(err, "\r{percent:3} %{:14}", ""),
-        Some(Left::Seconds(count)) => write!(err, "\r{percent:3} %, {count:3} s left  "),
-        Some(Left::Minutes(count)) => write!(err, "\r{percent:3} %, {count:3} min left"),
-        Some(Left::Hours(count)) => write!(err, "\r{percent:3} %, {count:3} h left  "),
+        None => write!(err, "{:14}", ""),
+        Some(Left::Seconds(count)) => write!(err, ", {count:3} s left  "),
+        Some(Left::Minutes(count)) => write!(err, ", {count:3} min left"),
+        Some(Left::Hours(count)) => write!(err, ", {count:3} h left  "),
     }
 }
 

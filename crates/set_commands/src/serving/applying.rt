@@ -10,6 +10,7 @@ ghost use Rattle.set_commands.specs.Serving.{AppliesOn, IsEventEnd, IsNotOpened,
 
 use super::open_on;
 use crate::{Meter, ProgressBank};
+use layout_map::Geometry;
 use report::replies::{Answer, write_progress, write_reply, write_scrubbed};
 use sector_model::{Bank, Refusal};
 use std::alloc::Global;
@@ -45,7 +46,7 @@ pub fn apply_on<W: Write, B: Bank + Drop>(
 {
     let mut store = open_on(bank, entry, id)?;
     let reply = done(store.apply(alloc, event))?;
-    write_event(out, &reply, store.array.table.geometry.rows())
+    write_event(out, &reply, &store.array.table.geometry)
 }
 
 /// Looks at the rows of the members of the set of this id, as `apply_on` does, and shows on a meter how far that is: of
@@ -85,19 +86,24 @@ fn done(reply: Reply) -> Result<Reply, Refusal>
     }
 }
 
-// Writes what an event is answered.
-fn write_event<W: Write>(out: &mut W, reply: &Reply, rows: u64) -> Result<(), Refusal>
+// Writes what an event is answered on a set of this geometry.
+fn write_event<W: Write>(out: &mut W, reply: &Reply, geometry: &Geometry) -> Result<(), Refusal>
     ensures ok { OnOk result (Appends (W.contents out.old) (W.contents out.new)
-        (event_text rows (reply_of reply.now))) }
+        (event_text geometry.now (reply_of reply.now))) }
     ensures part { OnErr result (AppendsPart (W.contents out.old) (W.contents out.new)
-        (event_text rows (reply_of reply.now))) }
+        (event_text geometry.now (reply_of reply.now))) }
     ensures kind { IfErr result (λ refusal. refusal ≡ Refusal.WriteFault) }
 {
     match reply {
         Reply::Done => write_reply(out, &Answer::Done),
         Reply::Blocks(blocks) => write_reply(out, &Answer::Blocks(blocks.as_slice())),
         Reply::Volumes(volumes) => write_reply(out, &Answer::Volumes(volumes)),
-        Reply::Progress(progress) => write_progress(out, progress, rows),
+        Reply::Progress(progress) => write_progress(
+            out,
+            progress,
+            geometry.format,
+            geometry.rows(),
+        ),
         Reply::Scrubbed(report) => write_scrubbed(out, report),
         Reply::Refused(refusal) => write_reply(out, &Answer::Refused(*refusal)),
     }

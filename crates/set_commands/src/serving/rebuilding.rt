@@ -13,7 +13,7 @@ ghost use Rattle.set_commands.specs.Steps.{Rebuilds};
 
 use super::open_on;
 use crate::{Meter, ProgressBank};
-use layout_map::REBUILD_ROWS;
+use layout_map::Format;
 use rebuild::Progress;
 use report::replies::write_progress;
 use sector_model::{Bank, Refusal};
@@ -46,7 +46,8 @@ pub fn rebuild_on<W: Write, B: Bank + Drop>(
 {
     let mut store = open_on(bank, entry, id)?;
     let progress = rebuild_rows(&mut store, steps)?;
-    write_progress(out, &progress, store.array.table.geometry.rows())
+    let geometry = store.array.table.geometry;
+    write_progress(out, &progress, geometry.format, geometry.rows())
 }
 
 /// Makes steps of the rebuild of the set of this id, as `rebuild_on` does, and shows on a meter how far that is: of the
@@ -92,12 +93,12 @@ fn rebuild_rows<B: Bank>(store: &mut Store<B>, steps: Option<u64>) -> Result<Pro
     store.rebuild_step(rows)
 }
 
-/// The most rows that so many steps of a rebuild of a set of format 1 do; where no number is given, 2^64 - 1.
-pub fn most_rows(steps: Option<u64>) -> u64
-    ensures { result ≡ most_rows_of steps }
+/// The most rows that so many steps of a rebuild of a set of this format do; where no number is given, 2^64 - 1.
+pub fn most_rows(format: Format, steps: Option<u64>) -> u64
+    ensures { result ≡ most_rows_of format steps }
 {
     match steps {
-        Some(steps) => steps.max(1).saturating_mul(REBUILD_ROWS),
+        Some(steps) => steps.max(1).saturating_mul(format.rebuild_rows()),
         None => u64::MAX,
     }
 }

@@ -1,9 +1,12 @@
 //! Commands over a bank that shows how far they are.
-use super::{SET_A, bank_of, fresh_store, image_now};
+use super::{SET_A, bank_of, fresh_store, fresh_store_on, image_now};
 use crate::testing::streams::{Full, Script, WHOLE};
 use crate::testing::{ID, same};
-use crate::{Left, Meter, ProgressBank, in_words, open_on, percent, run_script, time_left};
-use layout_map::Geometry;
+use crate::{
+    Left, Meter, ProgressBank, Speed, average_speed, in_words, open_on, percent, run_script,
+    time_left,
+};
+use layout_map::{Format, Geometry};
 use recovery::make;
 use sector_model::{Bank, Choice, Image, MemBank};
 use std::cell::Cell;
@@ -21,6 +24,7 @@ struct Screen {
     tick: Option<u64>,
     millis: Cell<u64>,
     percents: Cell<[u8; MOST]>,
+    speeds: Cell<[Option<Speed>; MOST]>,
     lefts: Cell<[Option<Left>; MOST]>,
     shows: Cell<usize>,
     clears: Cell<u64>,
@@ -32,6 +36,7 @@ impl Screen {
             tick,
             millis: Cell::new(7),
             percents: Cell::new([0; MOST]),
+            speeds: Cell::new([None; MOST]),
             lefts: Cell::new([None; MOST]),
             shows: Cell::new(0),
             clears: Cell::new(0),
@@ -58,12 +63,15 @@ impl Meter for Screen {
         Some(self.millis.get())
     }
 
-    fn show(&self, percent: u8, left: Option<Left>) {
+    fn show(&self, percent: u8, speed: Option<Speed>, left: Option<Left>) {
         let place = self.shows.get();
         if place < MOST {
             let mut percents = self.percents.get();
             percents[place] = percent;
             self.percents.set(percents);
+            let mut speeds = self.speeds.get();
+            speeds[place] = speed;
+            self.speeds.set(speeds);
             let mut lefts = self.lefts.get();
             lefts[place] = left;
             self.lefts.set(lefts);
@@ -100,25 +108,31 @@ fn made_on(rt: &(impl Abort + AllocGlobal), screen: &Screen, byte: u8, calls: u6
     same(rt, (array.bank.now(), screen.clears.get()), (calls, 0));
 }
 
-// On devices that are in use each row is read and written, and counts once.
+// On devices that are in use each row is read and written, and counts once: 128 sectors in 200 milliseconds, and so on.
 #[test]
 fn a_set_that_is_made(rt: HostRuntime) {
     for (byte, calls) in [(0, 797), (0xee, 797 + 782)] {
         let screen = Screen::new(Some(100));
         made_on(&rt, &screen, byte, calls);
         screen.check(&rt, &[16, 33, 50, 66, 83, 100], 1);
+        let speeds = screen.speeds.get();
+        same(&rt, &speeds[..6], &[Some(Speed::Tenths(3)); 6]);
         let lefts = screen.lefts.get();
         same(&rt, lefts[0], Some(Left::Seconds(1)));
         same(&rt, lefts[5], Some(Left::Seconds(0)));
     }
 }
 
-// What takes less than the least time between two shows is shown once it is done.
+// What takes less than the least time between two shows is shown once it is done, with no speed where no time has
+// passed.
 #[test]
 fn a_set_that_is_made_at_once(rt: HostRuntime) {
-    let screen = Screen::new(Some(0));
-    made_on(&rt, &screen, 0, 797);
-    screen.check(&rt, &[100], 1);
+    for (tick, speed) in [(0, None), (1, Some(Speed::Whole(32)))] {
+        let screen = Screen::new(Some(tick));
+        made_on(&rt, &screen, 0, 797);
+        screen.check(&rt, &[100], 1);
+        same(&rt, screen.speeds.get()[0], speed);
+    }
 }
 
 #[test]
@@ -158,6 +172,23 @@ fn steps_of_a_rebuild(rt: HostRuntime) {
         store.rebuild_step(64).expect(&rt, "a step");
     }
     screen.check(&rt, &[33, 66, 100], 1);
+}
+
+// A step of a rebuild of format 2 has up to 4,096 rows, so it does all 256.
+#[test]
+fn a_step_of_a_rebuild_of_format_2(rt: HostRuntime) {
+    let screen = Screen::new(Some(100));
+    let geometry = Geometry::of_format(Format::Two, 3, 8, SET_A).expect(&rt, "a geometry");
+    let mut store = fresh_store_on(&rt, ID, geometry);
+    store.fail(2).expect(&rt, "a slot given up");
+    store.replace(2).expect(&rt, "a slot replaced");
+    let (bank, entry) = bank_of(&rt, image_now(&rt, &store));
+    let bank = ProgressBank::of_rebuild(bank, &screen, ID, Some(1));
+    {
+        let mut store = open_on(bank, entry, ID).expect(&rt, "a store");
+        store.rebuild_step(4_096).expect(&rt, "a step");
+    }
+    screen.check(&rt, &[16, 33, 50, 66, 83, 100], 1);
 }
 
 // The set of another id is not this one, and nothing is known of how far a command over it is.
@@ -267,4 +298,22 @@ fn times_that_are_left(rt: HostRuntime) {
     same(&rt, in_words(120_000), Left::Minutes(2));
     same(&rt, in_words(7_199_999), Left::Minutes(119));
     same(&rt, in_words(7_200_000), Left::Hours(2));
+}
+
+// 15,625 sectors are 8,000,000 bytes.
+#[test]
+fn speeds(rt: HostRuntime) {
+    for (elapsed, done, found) in [
+        (0, 5, None),
+        (5, 0, None),
+        (800, 15_625, Some(Speed::Whole(10))),
+        (801, 15_625, Some(Speed::Tenths(99))),
+        (1_904, 15_625, Some(Speed::Tenths(42))),
+        (1_905, 15_625, Some(Speed::Tenths(41))),
+        (8, 15_625, Some(Speed::Whole(1_000))),
+        (u64::MAX, 1, Some(Speed::Tenths(0))),
+        (1, u64::MAX, Some(Speed::Whole(9_444_732_965_739_290_426))),
+    ] {
+        same(&rt, average_speed(elapsed, done), found);
+    }
 }

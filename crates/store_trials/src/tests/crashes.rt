@@ -3,53 +3,64 @@
 use super::Answer::Done;
 use super::Call::{Create, Extend, Remove, Rename, Upgrade, Write};
 use super::Step::{Do, Holds, Shows};
-use super::calls::{SEAL_CALLS, member_calls};
+use super::calls::SEAL_CALLS;
 use super::{
-    Call, SET_A, SMALL, Shape, Step, TestStore, Volumes, again, check, opened_after, unlike,
+    Call, NO_SLOT, SET_A, SMALL, Shape, Step, TestStore, Volumes, again, check, opened_after,
+    unlike,
 };
 use crate::testing::same;
 use sector_model::{Bank, Choice, MemBank};
 use std::process::Abort;
 
-// A call on a set of 3 members, what was done before it, and the volumes before it and after it. Its last commit, which
-// is of the table or the write itself, has so many rows, of each of which one sector is given: all of these are of one
-// member, and all parity of another.
+/// A call on a set of 3 members, what was done before it, and the volumes before it and after it. Its last commit, which
+/// is of the table or the write itself, has so many rows, of each of which one sector is given, and writes to so many
+/// members: two where all of these sectors are of one, and all parity of another.
 #[derive(Clone, Copy)]
-struct Case<'a> {
-    shape: Shape,
-    before: &'a [Step<'a>],
-    call: Call<'a>,
-    old: Volumes<'a>,
-    new: Volumes<'a>,
-    rows: u8,
+pub(crate) struct Case<'a> {
+    pub(crate) shape: Shape,
+    pub(crate) before: &'a [Step<'a>],
+    pub(crate) call: Call<'a>,
+    pub(crate) old: Volumes<'a>,
+    pub(crate) new: Volumes<'a>,
+    pub(crate) rows: u8,
+    pub(crate) members: u8,
 }
 
 // Whether a store that is opened after a crash, with a slot absent if it is one of the set's, shows the volumes after
-// the call, and else those before it, as has to be.
+// the call, and else those before it, as has to be. Where it does, it takes these steps.
 fn shows_new(
     rt: &(impl Abort + AllocGlobal),
     bank: &MemBank,
     call: u64,
-    choice: Choice,
-    absent: usize,
+    (choice, absent): (Choice, usize),
     case: &Case,
+    then: &[Step],
 ) -> bool {
     let mut store = again(rt, bank, call, choice, absent);
     let is_new = unlike(rt, &mut store, case.new).is_none();
-    if !is_new {
+    if is_new {
+        check(rt, &mut store, then);
+    } else {
         let place = unlike(rt, &mut store, case.old);
         same(rt, (call, absent, place), (call, absent, None));
     }
     is_new
 }
 
-// The store of a case after its call, and the numbers of device calls before it and after it.
-fn called(rt: &(impl Abort + AllocGlobal), case: &Case) -> (TestStore, u64, u64) {
+// The store of a case after its call, with these steps before it and after it, and the numbers of device calls before
+// the call and after it.
+fn called(
+    rt: &(impl Abort + AllocGlobal),
+    case: &Case,
+    before: &[Step],
+    after: &[Step],
+) -> (TestStore, u64, u64) {
     let mut store = opened_after(rt, case.shape, case.before);
-    check(rt, &mut store, &[Shows(case.old), Holds(case.old)]);
+    check(rt, &mut store, before);
     let from = store.bank().now();
-    check(rt, &mut store, &[Do(case.call, Done), Shows(case.new)]);
+    check(rt, &mut store, &[Do(case.call, Done)]);
     let end = store.bank().now();
+    check(rt, &mut store, after);
     (store, from, end)
 }
 
@@ -62,30 +73,70 @@ pub(crate) fn each_in_turn(call: u64, absent: usize) -> Choice {
     }
 }
 
-// Each one slot of a set of five absent, and none.
-const ABSENT: &[usize] = &[0, 1, 2, 3, 4, 5];
+/// Each one slot of a set of five absent, and none.
+pub(crate) const ABSENT: &[usize] = &[0, 1, 2, 3, 4, 5];
 
-// Checks the crashes at each device call of a case, with each one of these slots absent, by this choice or by each in
-// turn. The last commit ends with the calls of its seals, and then those of its members: no seal is written before, and
-// both are safe after that.
-fn check_crashes(
+// The numbers of the device calls before the seals of a case's last commit, and after them: it ends with the calls of
+// its seals, and then those of its members.
+fn seals_of(case: &Case, end: u64) -> (u64, u64) {
+    let put = (2 * u64::from(case.rows)).saturating_add(u64::from(case.members));
+    let sealed = end.saturating_sub(put);
+    (sealed.saturating_sub(SEAL_CALLS), sealed)
+}
+
+// Checks the crashes at each device call of a case, from one to another, with each one of these slots absent, by this
+// choice or by each in turn: no seal is written before the calls of the seals, and both are safe after them. Each store
+// that shows the volumes after the call takes these steps.
+fn check_each(
+    rt: &(impl Abort + AllocGlobal),
+    bank: &MemBank,
+    (from, end): (u64, u64),
+    case: &Case,
+    choice: Option<Choice>,
+    slots: &[usize],
+    then: &[Step],
+) {
+    let (unsealed, sealed) = seals_of(case, end);
+    for call in from..end.saturating_add(1) {
+        for absent in slots {
+            let choice = choice.unwrap_or(each_in_turn(call, *absent));
+            let is_new = shows_new(rt, bank, call, (choice, *absent), case, then);
+            let want = call >= sealed || (call > unsealed && is_new);
+            same(rt, (call, *absent, is_new), (call, *absent, want));
+        }
+    }
+}
+
+/// Checks the crashes at each device call of a case, with each one of these slots absent, by this choice or by each in
+/// turn.
+pub(crate) fn check_crashes(
     rt: &(impl Abort + AllocGlobal),
     case: &Case,
     choice: Option<Choice>,
     slots: &[usize],
 ) {
-    let (store, from, end) = called(rt, case);
-    let sealed = end.saturating_sub(member_calls(case.rows));
-    let unsealed = sealed.saturating_sub(SEAL_CALLS);
+    let before = [Shows(case.old), Holds(case.old)];
+    let (store, from, end) = called(rt, case, &before, &[Shows(case.new)]);
+    let (unsealed, _) = seals_of(case, end);
     assert!(rt; from < unsealed);
-    for call in from..end.saturating_add(1) {
-        for absent in slots {
-            let choice = choice.unwrap_or(each_in_turn(call, *absent));
-            let is_new = shows_new(rt, store.bank(), call, choice, *absent, case);
-            let want = call >= sealed || (call > unsealed && is_new);
-            same(rt, (call, *absent, is_new), (call, *absent, want));
-        }
-    }
+    check_each(rt, store.bank(), (from, end), case, choice, slots, &[]);
+}
+
+/// Checks the crashes at each device call from the seals of a case's last commit on, with no slot absent, by each
+/// choice in turn, and takes these steps on each store that shows the volumes after the call.
+pub(crate) fn check_crashes_then(rt: &(impl Abort + AllocGlobal), case: &Case, then: &[Step]) {
+    let (store, from, end) = called(rt, case, &[Holds(case.old)], &[Holds(case.new)]);
+    let (unsealed, _) = seals_of(case, end);
+    assert!(rt; from < unsealed);
+    check_each(
+        rt,
+        store.bank(),
+        (unsealed, end),
+        case,
+        None,
+        &[NO_SLOT],
+        then,
+    );
 }
 
 // The blocks of the new volume had other bytes before.
@@ -102,6 +153,7 @@ static CREATE: Case = Case {
     old: &[(b"b", &[0x11])],
     new: &[(b"a", &[0; 3]), (b"b", &[0x11])],
     rows: 2,
+    members: 2,
 };
 
 #[test]
@@ -133,6 +185,7 @@ static EXTEND: Case = Case {
     old: &[(b"a", &[0x11, 0x22])],
     new: &[(b"a", &[0x11, 0x22, 0, 0])],
     rows: 1,
+    members: 2,
 };
 
 #[test]
@@ -173,6 +226,7 @@ static EXTEND_BEYOND: Case = Case {
         ],
     )],
     rows: 2,
+    members: 2,
 };
 
 #[test]
@@ -191,6 +245,7 @@ static WRITE: Case = Case {
     old: &[(b"a", &[0x11, 0x22, 0x33, 0x44, 0x55])],
     new: &[(b"a", &[0x11, 0xaa, 0xbb, 0xcc, 0x55])],
     rows: 3,
+    members: 2,
 };
 
 #[test]
@@ -210,6 +265,7 @@ static REMOVE: Case = Case {
     old: &[(b"a", &[0x11, 0x22, 0x33]), (b"b", &[0x44, 0x55])],
     new: &[(b"b", &[0x44, 0x55])],
     rows: 2,
+    members: 2,
 };
 
 #[test]
@@ -233,6 +289,7 @@ static KEEPS_AND_ZEROES: Case = Case {
         ],
     )],
     rows: 1,
+    members: 2,
 };
 
 #[test]
@@ -254,6 +311,7 @@ static RENAME: Case = Case {
     old: &[(b"a", &[0xab, 0, 0, 0, 0, 0, 0, 0, 0, 0])],
     new: &[(b"b", &[0xab, 0, 0, 0, 0, 0, 0, 0, 0, 0])],
     rows: 1,
+    members: 2,
 };
 
 #[test]
@@ -295,6 +353,7 @@ static LONG_RENAME: Case = Case {
         (b"d", &[0]),
     ],
     rows: 1,
+    members: 2,
 };
 
 #[test]

@@ -5,9 +5,9 @@
 //! its body begins with sector 8, at byte 4,096. Row r is sector 8 + r of a member, at byte 4,096 + 512 r.
 mod recorded;
 
-use super::{ID, SET_A, Shape};
+use super::{ID, SET_A, Shape, geometry_of};
 use crate::testing::{all, same};
-use layout_map::Geometry;
+use layout_map::{Format, Geometry};
 use recorded::FileCall::{Read, Sync, Write};
 use recorded::{FileCall, Recorded, RecordedBank, bank_over};
 use recovery::{assemble, make};
@@ -98,7 +98,7 @@ fn check_write(
     counts: (usize, usize),
     wanted: &[&[FileCall]],
 ) {
-    let geometry = Geometry::new(shape.0, shape.1, shape.2).expect(rt, "a shape");
+    let geometry = geometry_of(rt, shape);
     let record = blank_files(rt, &geometry);
     made_on(rt, &record, geometry);
     let mut store = opened_on(rt, &record);
@@ -124,7 +124,7 @@ fn files_of_a_whole_stripe_on_5_members(rt: HostRuntime) {
     const ROWS: &[FileCall] = &[Write(12_288, 4_096), Sync];
     let journal = sealed(20_480);
     let wanted: [&[FileCall]; 7] = [ROWS, ROWS, ROWS, ROWS, ROWS, &journal, &journal];
-    check_write(&rt, (5, 8, 12), 32, (9, 9), &wanted)
+    check_write(&rt, (Format::One, 5, 8, 12), 32, (9, 9), &wanted)
 }
 
 // Logical sectors 64 to 71 are chunk 8, the last of stripe 2: rows 16 to 23, on member 0, with the parity on 1. These
@@ -139,7 +139,7 @@ fn files_of_a_chunk_on_4_members(rt: HostRuntime) {
     ];
     let journal = sealed(8_192);
     let wanted: [&[FileCall]; 6] = [ROWS, ROWS, &[], &[], &journal, &journal];
-    check_write(&rt, (4, 8, 12), 8, (10, 6), &wanted)
+    check_write(&rt, (Format::One, 4, 8, 12), 8, (10, 6), &wanted)
 }
 
 // Logical sectors 64 to 95 are chunks 8 to 11: rows 32 to 39 on member 2, then on 0, rows 40 to 47 on 1, then on 2. The
@@ -153,7 +153,7 @@ fn files_of_a_read_of_32_blocks(rt: HostRuntime) {
         &[],
         &[],
     ];
-    let geometry = Geometry::new(SET_A.0, SET_A.1, SET_A.2).expect(&rt, "a shape");
+    let geometry = geometry_of(&rt, SET_A);
     let record = blank_files(&rt, &geometry);
     made_on(&rt, &record, geometry);
     let mut store = opened_on(&rt, &record);

@@ -1,10 +1,9 @@
 //! Which calls take memory. One that is refused for want of it is made again, and has to be answered then, as each
 //! other one has. `.ci/refused_allocations` runs these tests with each allocation refused in turn, and compares how
 //! many there are in them.
-use super::{ID, SET_A, TestStore, Volumes, is_list, opened, unlike_block};
+use super::{ID, SET_A, TestStore, Volumes, geometry_of, is_list, opened, unlike_block};
 use crate::testing::same;
 use array_io::Array;
-use layout_map::Geometry;
 use recovery::{assemble, make};
 use sector_model::{Bank, Image, MemBank, Plan, Refusal};
 use std::alloc::{AllocError, Global};
@@ -53,7 +52,7 @@ fn some_entry(rt: &(impl Abort + AllocGlobal)) -> Entry {
 
 // A store over set A, which was just made.
 fn made(rt: &(impl Abort + AllocGlobal)) -> TestStore {
-    let geometry = Geometry::new(SET_A.0, SET_A.1, SET_A.2).expect(rt, "a shape");
+    let geometry = geometry_of(rt, SET_A);
     let array = make(some_bank(rt), some_entry(rt), ID, geometry);
     opened(rt, array.ok().expect(rt, "the set is made"))
 }

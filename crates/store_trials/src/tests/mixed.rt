@@ -7,6 +7,7 @@ use super::{
     next_run, opened_after,
 };
 use crate::testing::same;
+use layout_map::Format;
 use sector_model::Refusal;
 use std::process::Abort;
 
@@ -357,7 +358,7 @@ static FEW: Pool = Pool {
 };
 
 // 2,080 rows, 4,160 data sectors and 64 extents.
-const LARGE: Shape = (3, 8, 260);
+const LARGE: Shape = (Format::One, 3, 8, 260);
 
 // Mostly short volumes, and more names than a set may have volumes.
 static MANY: Pool = Pool {

@@ -2,7 +2,7 @@
 use super::Answer::Done;
 use super::Call::{Create, Extend, Remove};
 use super::Step::{Do, Holds, Table};
-use super::{SET_A, Step, assembled, check_new, fresh_store, image_now};
+use super::{SET_A, Shape, Step, assembled, check_new, fresh_store, image_now};
 use crate::testing::same;
 use sector_model::{Bank, Image, Refusal};
 use std::process::Abort;
@@ -64,10 +64,16 @@ fn damage(rt: &impl Abort, image: &mut Image, logical: usize, by: u8) {
     }
 }
 
-// Opens a set of which the first byte of a sector of the table is changed: it reads so many sectors, and writes
-// nothing.
-fn check_damaged(rt: &(impl Abort + AllocGlobal), logical: usize, by: u8, sectors: u64) {
-    let mut image = image_now(rt, fresh_store(rt, SET_A).bank());
+/// Opens a set of this shape, of 3 members and chunks of 8 sectors, of which the first byte of a sector of the table is
+/// changed: it reads so many sectors, and writes nothing.
+pub(crate) fn check_damaged(
+    rt: &(impl Abort + AllocGlobal),
+    shape: Shape,
+    logical: usize,
+    by: u8,
+    sectors: u64,
+) {
+    let mut image = image_now(rt, fresh_store(rt, shape).bank());
     damage(rt, &mut image, logical, by);
     let array = assembled(rt, image);
     let (now, room) = (array.bank.now(), array.bank.room);
@@ -81,8 +87,8 @@ fn check_damaged(rt: &(impl Abort + AllocGlobal), logical: usize, by: u8, sector
 // that is not good, and sectors 3 and 7 an owner without a record.
 #[test]
 fn bad_table(rt: HostRuntime) {
-    check_damaged(&rt, 0, 2, 1);
+    check_damaged(&rt, SET_A, 0, 2, 1);
     for logical in [1usize, 2, 3, 7] {
-        check_damaged(&rt, logical, 1, 11);
+        check_damaged(&rt, SET_A, logical, 1, 11);
     }
 }

@@ -4,11 +4,11 @@ use super::Call::{Create, Read, Remove, Upgrade, Write};
 use super::Step::{Apply, Do, Ended, Holds, Makes, Shows, Status, Version};
 use super::calls::SEAL_CALLS;
 use super::{
-    Answer, ID, SET_A, Step, TestStore, Volumes, check, check_new, fresh_store, image_now,
-    logical_list, next_run,
+    Answer, ID, SET_A, Step, TestStore, Volumes, check, check_new, fresh_store, geometry_of,
+    image_now, logical_list, next_run,
 };
 use crate::testing::{front, same};
-use layout_map::{ENTRY_ROWS, Geometry};
+use layout_map::ENTRY_ROWS;
 use sector_model::{Bank, Image, MemBank, Refusal};
 use std::process::Abort;
 use stripe_journal::Form;
@@ -99,7 +99,7 @@ static ROWS: [u32; 16] = [0, 1, 2, 3, 4, 5, 6, 7, 8, 9, 10, 11, 12, 13, 14, 15];
 // Asks that the last entry of a journal has these rows, and of them those sectors.
 fn check_entry(rt: &impl Abort, image: &Image, slot: usize) {
     assert!(rt; slot < image.slots.len());
-    let geometry = Geometry::new(SET_A.0, SET_A.1, SET_A.2).expect(rt, "a shape");
+    let geometry = geometry_of(rt, SET_A);
     let seal = last_sealed_in(&image.slots[slot], &ID, &geometry).expect(rt, "an entry is sealed");
     same(
         rt,

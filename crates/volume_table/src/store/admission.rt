@@ -16,8 +16,7 @@ use super::growing::Growth;
 use super::renaming::Renaming;
 use crate::event::MOST_BLOCKS_AT_ONCE;
 use extents::{
-    ExtentLayout, ExtentMap, MOST_VOLUMES, Name, Record, VolumeTable, most_blocks, most_name_bytes,
-    most_volumes,
+    ExtentLayout, ExtentMap, MOST_VOLUMES, Name, Record, VolumeTable, most_name_bytes, most_volumes,
 };
 use sector_model::Refusal;
 
@@ -88,8 +87,9 @@ pub fn admit_rename(table: &VolumeTable, old: &[u8], new: &[u8]) -> Result<Renam
 
 /// The new volume that a `create` makes in a set whose extents lie so. Its record is the lowest one that is not used.
 ///
-/// Refused, in this order, with `BadName`, `BadSize` where the blocks are 0 or above 65,536, `Exists`, `TooManyVolumes`
-/// where each record of the table's version is used, and `NoSpace` where too few extents are free.
+/// Refused, in this order, with `BadName`, `BadSize` where the blocks are 0 or above the most blocks of the set (65,536
+/// in a set of format 1), `Exists`, `TooManyVolumes` where each record of the table's version is used, and `NoSpace`
+/// where too few extents are free.
 pub fn admit_creation(
     table: &VolumeTable,
     map: &ExtentMap,
@@ -114,7 +114,7 @@ pub fn admit_creation(
     if name.bytes().len() > most_name_bytes(table.version) {
         return Err(Refusal::BadName);
     }
-    let most = most_blocks(table.version);
+    let most = extents.most_blocks();
     if blocks == 0 || blocks > most {
         return Err(Refusal::BadSize);
     }
@@ -136,8 +136,8 @@ pub fn admit_creation(
 
 /// The new blocks that an `extend` gives a volume of a set whose extents lie so.
 ///
-/// Refused, in this order, with `NoVolume`, `BadSize` where the growth is 0 or the volume would have more than 65,536
-/// blocks, and `NoSpace` where too few extents are free.
+/// Refused, in this order, with `NoVolume`, `BadSize` where the growth is 0 or the volume would have more than the most
+/// blocks of the set (65,536 in a set of format 1), and `NoSpace` where too few extents are free.
 pub fn admit_extension(
     table: &VolumeTable,
     map: &ExtentMap,
@@ -156,8 +156,9 @@ pub fn admit_extension(
         → refusal_in result ≡ refusal_of extents.now (Extend name.now by) volumes }
 {
     let found = table.record_named(name).ok_or(Refusal::NoVolume)?;
-    let room = most_blocks(table.version) - found.count;
-    if by == 0 || by > room {
+    let most = u64::from(extents.most_blocks());
+    let grown = u64::from(found.count) + u64::from(by);
+    if by == 0 || grown > most {
         return Err(Refusal::BadSize);
     }
     let blocks = found.count + by;

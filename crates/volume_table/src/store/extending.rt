@@ -16,8 +16,8 @@ impl<B: Bank> Store<B> {
     /// a crash leaves the volume as it was, or extended.
     ///
     /// Refused, in this order, with `NoVolume` where no volume has the name; `BadSize` where the growth is 0, or the
-    /// volume would have more than 65,536 blocks; and `NoSpace` where the volumes would need more extents than the set
-    /// has. Nothing was then done. `TwoLost` and `Worn` end the store.
+    /// volume would have more than the most blocks of the set (65,536 in a set of format 1); and `NoSpace` where the
+    /// volumes would need more extents than the set has. Nothing was then done. `TwoLost` and `Worn` end the store.
     pub fn extend(&mut self, name: &[u8], by: u32) -> Result<(), Refusal>
         ensures honest { IsHonest self.old.array ↔ IsHonest self.new.array }
         ensures extends { ExtendsVolume (IsHonest self.old.array) name.now by (store_view self.old)

@@ -25,8 +25,8 @@ pub struct Growth {
     pub entry: Record,
 }
 
-/// Gives a volume new blocks: takes the extents that it lacks, makes the new blocks zero while no volume shows them,
-/// and puts the table that says of them, by one commit. Refused as a commit is; the map and the table in memory then
+/// Gives a volume new blocks: takes the extents that it lacks, makes those of the new blocks zero that lie in dirty
+/// extents, while no volume shows them, and puts the table that says of them, by one commit. Refused as a commit is; the map and the table in memory then
 /// have the new blocks.
 pub fn grow<B: Bank>(
     array: &mut Array<B>,
@@ -41,7 +41,8 @@ pub fn grow<B: Bank>(
     ensures kept { AreKept (extents_in array.new.table.geometry) table.new map.new }
     ensures version { table.new.version ≡ table.old.version }
     ensures records { table.new.records ≡ slice_set table.old.records growth.volume (Some growth.entry) }
-    ensures taken { IsTaken map.old map.new growth.volume (let each = (extents_in array.old.table.geometry).blocks in
+    ensures dirty { table.new.dirty ≡ table.old.dirty }
+    ensures taken { IsTaken table.old.dirty map.old map.new growth.volume (let each = (extents_in array.old.table.geometry).blocks in
         extents_for each growth.entry.blocks - extents_for each growth.first) }
     ensures changes { ChangesList (IsHonest array.old) (growth.entry.blocks - growth.first + 1)
         (MayGrow (extents_in array.old.table.geometry) table.old table.new growth.volume growth.first
@@ -58,10 +59,11 @@ pub fn grow<B: Bank>(
     let last = entry.blocks;
     let extents = ExtentLayout::of(&array.table.geometry);
     map.take(
+        &table.dirty,
         volume,
         extents.extents_for(last) - extents.extents_for(first),
     );
     table.set(volume, Some(entry), map);
-    zero_blocks(array, map, volume, first, last)?;
+    zero_blocks(array, map, &table.dirty, volume, first, last)?;
     put_table(array, &before, table)
 }

@@ -6,6 +6,7 @@ ghost use Rattle.sector_model.specs.History.{Bytes};
 ghost use Rattle.superblock.specs.Cases.{Lost};
 ghost use Rattle.array_io.specs.Believed.Views.{IsEndOf, RestsOn};
 ghost use Rattle.extents.specs.declared.volume_table.VolumeTable.{VolumeTable};
+ghost use Rattle.extents.specs.TableLaw.{IsOfFormat};
 ghost use Rattle.extents.specs.TableSpelling.{Spell};
 ghost use Rattle.array_io.specs.Believed.ReadWhole.{NoDeviceFailed, list_read};
 ghost use Rattle.array_io.specs.Believed.OpenArray.{IsHonest, array_view};
@@ -56,7 +57,8 @@ impl<B: Bank> Store<B> {
     }
 }
 
-// Reads the first logical sectors of a set, as many as a table of the version has that the first of them begins.
+// Reads the first logical sectors of a set, as many as a table of the version has that the first of them begins, of
+// those of the set's format.
 // Refused as a read of the array is.
 fn read_table<B: Bank>(
     array: &mut Array<B>,
@@ -68,12 +70,15 @@ fn read_table<B: Bank>(
     ensures cause { (refusal : Refusal) → result ≡ Err refusal
         → IsEndOf (array_view array.old) (array_view array.new) ⊥ refusal }
     ensures gives { IsHonest array.old → OnOk result ((lost : Option Lost) (V : List Bytes) (table : VolumeTable)
+        → IsOfFormat array.old.table.geometry.format table
         → RestsOn (array_view array.old) lost V → Spell sectors.new table ↔ Spell V table) }
     ensures spelled { IsHonest array.old → OnOk result (NoDeviceFailed (B.panel array.old.bank) (B.panel array.new.bank)
-        → (table : VolumeTable) → Spell (list_read (array_view array.old)) table → Spell sectors.new table) }
+        → (table : VolumeTable) → IsOfFormat array.old.table.geometry.format table
+        → Spell (list_read (array_view array.old)) table → Spell sectors.new table) }
 {
+    let format = array.table.geometry.format;
     array.read(0, &mut sectors[0])?;
-    let Some(version) = version_of(&sectors[0]) else {
+    let Some(version) = version_of(format, &sectors[0]) else {
         return Ok(());
     };
     read_from(array, 1, &mut sectors[1..table_length(version)])

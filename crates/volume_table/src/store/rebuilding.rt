@@ -10,8 +10,8 @@ use rebuild::{Progress, rebuild_step};
 use sector_model::{Bank, Refusal};
 
 impl<B: Bank> Store<B> {
-    /// Rebuilds the next rows of the member that is rebuilding: so many, 64 at most, and none past the last. A step of
-    /// 0 rows changes nothing.
+    /// Rebuilds the next rows of the member that is rebuilding: so many, at most the rows of a step (64, or 4,096 in
+    /// format 2), and none past the last. A step of 0 rows changes nothing.
     ///
     /// Refused with `NothingToRebuild` where no member is rebuilding, or the one that is goes down in the call and is
     /// then missing. `TwoLost` and `Worn` end the store.

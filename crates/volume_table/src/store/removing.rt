@@ -2,6 +2,7 @@
 ghost use Rattle.std.specs.Prelude.{◌≡◌, ◌≢◌, ◌↔◌, ◌<◌, None, slice_set};
 ghost use Rattle.array_io.specs.Believed.OpenArray.{IsHonest, array_view};
 ghost use Rattle.extents.specs.ExtentMaps.{IsGivenBack};
+ghost use Rattle.extents.specs.VolumeTables.{IsMarked};
 ghost use Rattle.volume_table.specs.Admission.{AreKept};
 ghost use Rattle.volume_table.specs.ListChanges.{ChangesList};
 ghost use Rattle.extents.specs.SetExtents.{extents_in};
@@ -18,7 +19,8 @@ use extents::{ExtentMap, VolumeTable};
 use sector_model::{Bank, Refusal};
 
 impl<B: Bank> Store<B> {
-    /// Removes the volume of this name, by one commit: its blocks are gone, and its extents are free.
+    /// Removes the volume of this name, by one commit: its blocks are gone, and its extents are free, and
+    /// dirty.
     ///
     /// Refused with `NoVolume` where no volume has the name; nothing was then done. `TwoLost` and `Worn` end the store.
     pub fn remove(&mut self, name: &[u8]) -> Result<(), Refusal>
@@ -49,12 +51,14 @@ fn shrink<B: Bank>(
     ensures kept { AreKept (extents_in array.new.table.geometry) table.new map.new }
     ensures version { table.new.version ≡ table.old.version }
     ensures records { table.new.records ≡ slice_set table.old.records volume None }
+    ensures marked { IsMarked table.old.extents volume table.old.dirty table.new.dirty }
     ensures given_back { IsGivenBack map.old map.new volume }
     ensures changes { ChangesList (IsHonest array.old) 1 (MayPutTable table.old table.new)
         (PutsTable table.old table.new)
         (array_view array.old) (array_view array.new) result }
 {
     let before = spelled(table);
+    table.mark_dirty(volume);
     map.give_back(volume);
     table.set(volume, None, map);
     put_table(array, &before, table)

@@ -61,6 +61,7 @@ fn put_name<B: Bank>(
     ensures kept { AreKept (extents_in array.new.table.geometry) table.new map.now }
     ensures version { table.new.version ≡ table.old.version }
     ensures records { table.new.records ≡ slice_set table.old.records renaming.volume (Some renaming.entry) }
+    ensures dirty { table.new.dirty ≡ table.old.dirty }
     ensures changes { ChangesList (IsHonest array.old) 1 (MayPutTable table.old table.new)
         (PutsTable table.old table.new)
         (array_view array.old) (array_view array.new) result }

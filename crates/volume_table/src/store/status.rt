@@ -21,12 +21,14 @@ impl<B: Bank> Store<B> {
         let table = &self.array.table;
         Ok(Status {
             id: table.id,
+            format: table.geometry.format,
             members: table.geometry.members,
             chunk: table.geometry.chunk,
             stripes: table.geometry.stripes,
             rows: table.geometry.rows(),
             generation: table.generation,
             position: table.position,
+            extent_blocks: table.geometry.extent_blocks(),
             extents: table.geometry.extents(),
             free: self.map.free_count(),
             volumes: used(&self.table.records),

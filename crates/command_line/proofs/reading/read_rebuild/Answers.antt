@@ -7,4 +7,4 @@ pub returns-clause-ok : goal.returns-clause-ok
 returns-clause-ok c =
     let read = c.get_one-steps in
     let steps = count_value (found_of c.args.matches.now) (codes "steps") read.result c.requires.steps read.ensures.none read.ensures.value in
-    (refl, c.in_ok-folder.ensures.ok, steps)
+    rw c.asks.ensures (refl, c.in_ok-set.ensures.ok, steps)

@@ -11,4 +11,4 @@ pub returns-clause-ok : goal.returns-clause-ok
 returns-clause-ok c =
     let found = found_of c.args.matches.now in
     let slot = number_value 8 255 found (codes "slot") c.get_one.result c.requires.slot c.get_one.ensures.value (omega arith) _ c.unwrap-slot.ensures in
-    (refl, c.in_ok-folder.ensures.ok, slot)
+    rw c.asks.ensures (refl, c.in_ok-set.ensures.ok, slot)

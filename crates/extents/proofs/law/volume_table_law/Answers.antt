@@ -2,4 +2,9 @@ use Rattle.extents.proofs.TableLaws.{fills, one_table, empty_is_zeros, zeros_are
 use Rattle.extents.proofs.law.volume_table_law.Goals as goal
 
 pub returns : goal.returns
-returns c = record { filled = fills; one = one_table; zeros = λ table. (empty_is_zeros table, zeros_are_empty table); empty = empty_exists }
+returns c = record {
+  filled = fills;
+  one = one_table;
+  zeros = λ format table of_format. (empty_is_zeros format table, zeros_are_empty format table of_format);
+  empty = empty_exists;
+}

@@ -1,4 +1,4 @@
-use Rattle.std.proofs.Common.{◌≡◌, None, Some, ap, ◌∙◌, ⊎_elim, arith}
+use Rattle.std.proofs.Common.{◌≡◌, None, Some, ap, ◌∙◌, arith}
 use Rattle.extents.proofs.Same.{made_name, same_record}
 use Rattle.extents.proofs.Spelled.{length_read, name_read, blocks_read_at}
 use Rattle.extents.proofs.Versions.{numbers_fit}
@@ -42,8 +42,7 @@ returns-then-blocks-lt1-clause-exact c = λ r short is. absurd (
     let read : c.read_u32-blocks.result ≡ r.blocks = c.read_u32-blocks.ensures
     ∙ blocks_read_at c.args.version c.args.from.now r c.blocks_at-at.result short c.blocks_at-at.ensures.number is in
     let some = r.some in
-    let most = r.most in
-    ⊎_elim (λ h. omega arith) (λ h. omega arith) c.then-blocks-lt1.either)
+    omega (arith, c.if-blocks-lt1.true))
 
 pub returns-clause-exact : goal.returns-clause-exact
 returns-clause-exact c = λ r short is.

@@ -6,8 +6,8 @@ use sector_model::Refusal;
 // The map of 1,024 extents of which volume 0 has those below this one, and volume 1 has this one at its place 0.
 fn map_with(rt: &impl Abort, extent: u32) -> ExtentMap {
     let mut map = free_map::<1024>();
-    take(rt, &mut map, 0, extent);
-    take(rt, &mut map, 1, 1);
+    take(rt, &mut map, ALL_DIRTY, 0, extent);
+    take(rt, &mut map, ALL_DIRTY, 1, 1);
     map
 }
 
@@ -40,14 +40,15 @@ fn blocks_at_the_far_end(rt: HostRuntime) {
     check_far(&rt, broad(), 1_022, 29_360_127, 30_035_418_111);
 }
 
-// A volume of 4,294,967,295 blocks in the extents 0 to 146 of the greatest set.
+// A volume of 4,294,967,295 blocks in the extents 0 to 146 of the greatest set, which has 1,023.
 #[test]
 fn last_block_of_the_largest_volume(rt: HostRuntime) {
     let set = Geometry::large(8, 8, 536_870_910).expect(&rt, "the greatest set");
     let extents = ExtentLayout::of(&set);
-    let mut map = free_map::<1024>();
-    take(&rt, &mut map, 0, extents.extents_for(4_294_967_295));
-    same(&rt, map.count(0), 147);
+    let mut map = free_map::<1023>();
+    let n = extents.extents_for(4_294_967_295);
+    take(&rt, &mut map, ALL_DIRTY, 0, n);
+    same(&rt, (map.count(0), map.free_count()), (147, 876));
     check_block_in(&rt, &extents, &map, (0, 4_294_967_294), 146, 4_294_967_406);
 }
 
@@ -57,7 +58,7 @@ fn ends_of_1024_extents(rt: HostRuntime) {
     let set = Geometry::large(3, 8, 1_028).expect(&rt, "a set of 1,024 extents");
     let extents = ExtentLayout::of(&set);
     let mut map = free_map::<1024>();
-    take(&rt, &mut map, 0, 1_024);
+    take(&rt, &mut map, ALL_DIRTY, 0, 1_024);
     check_block_in(&rt, &extents, &map, (0, 0), 0, 64);
     check_block_in(&rt, &extents, &map, (0, 16_383), 1_023, 16_447);
 }

@@ -7,7 +7,7 @@ returns-in_err-make_in-clause-cause g c =
     let from = err_from_is_err_and c.from_residual.result c.from_residual.ensures.1 in
     rw (from.1, from.2) (c.in_err-make_in.ensures.cause)
 
-pub returns-in_err-write_made-clause-cause : goal.returns-in_err-write_made-clause-cause
-returns-in_err-write_made-clause-cause g c =
-    let from = err_from_is_err_and c.from_residual-in_err-write_made.result c.from_residual-in_err-write_made.ensures.1 in
-    rw (from.1, from.2) (by_refusal _ _ (λ other. absurd (not_cut _ other c.in_err-write_made.ensures.kind)))
+pub returns-in_err-write_made_set-clause-cause : goal.returns-in_err-write_made_set-clause-cause
+returns-in_err-write_made_set-clause-cause g c =
+    let from = err_from_is_err_and c.from_residual-in_err-write_made_set.result c.from_residual-in_err-write_made_set.ensures.1 in
+    rw (from.1, from.2) (by_refusal _ _ (λ other. absurd (not_cut _ other c.in_err-write_made_set.ensures.kind)))

@@ -10,6 +10,7 @@ use Rattle.raidtool.specs.Causes.{folder_text, id_text}
 use Rattle.raidtool.specs.DoneOver.{DoesOver}
 use Rattle.device_files.specs.Faults.{IsOpenFault}
 use Rattle.raidtool.proofs.Causes.{by_memory, by_refusal, no_table_opened, not_memory}
+use Rattle.raidtool.proofs.Statuses.{cut_refused}
 use Rattle.raidtool.proofs.Taken.{taken_over}
 use Rattle.raidtool.proofs.tool.serve_folder.Goals as goal
 
@@ -48,6 +49,11 @@ returns-clause-served g c =
 
 pub returns-clause-passed : goal.returns-clause-passed
 returns-clause-passed g c = (c.in_ok-files.files.barred, c.in_ok-pass_over.ensures.told)
+
+pub returns-in_err-do_on-clause-cut : goal.returns-in_err-do_on-clause-cut
+returns-in_err-do_on-clause-cut g c = λ beside.
+    let from = err_from_is_err_and c.from_residual-in_err-do_on.result c.from_residual-in_err-do_on.ensures.1 in
+    rw (from.1, from.2) (cut_refused _ _ (c.in_err-do_on.ensures.cut beside))
 
 -- ---- why it was refused
 

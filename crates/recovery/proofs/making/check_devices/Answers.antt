@@ -5,7 +5,7 @@ use Rattle.recovery.proofs.making.check_devices.Goals.{then-is_down-via-then-is_
 use Rattle.recovery.proofs.making.check_devices.Goals as goal
 
 pub returns-then-devices-slots-clause-cause : goal.returns-then-devices-slots-clause-cause
-returns-then-devices-slots-clause-cause g c = inr (omega (arith, c.devices.ensures.count, c.if-devices-slots.true))
+returns-then-devices-slots-clause-cause g c = omega (arith, c.devices.ensures.count, c.if-devices-slots.true)
 
 pub loop-slot-init : goal.loop-slot-init
 loop-slot-init g c = record {

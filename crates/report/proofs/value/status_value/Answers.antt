@@ -1,11 +1,15 @@
 -- The object is its members, put one after another.
-use Rattle.std.proofs.Common.{◌≡◌, ℕ, List, Bor, codes, fold, string_bytes, sym, ap, ◌∙◌, rules}
+use Rattle.std.proofs.Common.{◌≡◌, ℕ, ◌+◌, List, [], ◌∷◌, Bor, codes, fold, string_bytes, refl, sym, ap, ◌∙◌, rules}
 use Rattle.std.proofs.lemmas.List.Folds.{fold-map}
 use Rattle.serde_json.specs.Data.{Members, array, no_members, object, put, string}
 use Rattle.serde_json.specs.View.{items_of, view, members_view}
 use Rattle.serde_json.specs.declared.value.Value.{Array, String, the_lemmas}
 use Rattle.serde_json.proofs.Views.{view-Array, view-Object}
-use Rattle.report.specs.Report.{whole}
+use Rattle.hex.specs.Hex.{encode_lower}
+use Rattle.layout_map.specs.declared.format.Format.{Format}
+use Rattle.layout_map.specs.declared.format.Format.TheVariants.{One, Two}
+use Rattle.volume_table.specs.declared.status.Status.{Status}
+use Rattle.report.specs.Report.{format_put, left, members_of, slots_json, status_pairs, whole}
 use Rattle.report.proofs.Members.{put_on}
 use Rattle.report.proofs.value.status_value.Goals as goal
 
@@ -15,6 +19,21 @@ said number = (number.0.now, number.1)
 
 abbrev put_number : Members → List ℕ × ℕ → Members
 put_number done number = put number.0 (whole number.1) done
+
+-- the numbers of a status, each with its key, in the order in which they are put
+abbrev numbers_of : Status → List (List ℕ × ℕ)
+numbers_of status =
+    (codes "chunk", status.chunk) ∷ (codes "stripes", status.stripes) ∷ (codes "rows", status.rows) ∷ (codes "members", status.members)
+    ∷ (codes "generation", status.generation) ∷ (codes "position", status.position) ∷ (codes "left", left status) ∷ (codes "extents", status.extents)
+    ∷ (codes "free", status.free) ∷ (codes "table", status.version) ∷ (codes "volumes", status.volumes) ∷ []
+
+-- the keys are in order, whatever the format
+in_order : (format : Format) (status : Status)
+    → put (codes "slots") (array (items_of (slots_json status (status.members + 2)))) (put (codes "id") (string (encode_lower status.id))
+    (format_put format status.extent_blocks (fold put_number no_members (numbers_of status))))
+    ≡ members_of (status_pairs format status)
+in_order One status = refl
+in_order Two status = refl
 
 pub returns : goal.returns
 returns c =
@@ -30,4 +49,5 @@ returns c =
     let slots = view-Array c.in_ok-slots.slots ∙ ap (λ those. array (items_of those)) c.in_ok-slots.ensures in
     view-Object c.put-2.new.map ∙ ap object
     (put_on (codes "slots") (Array c.in_ok-slots.slots) _ c.put.new.map.entries c.put-2.new.map.entries _ c.in_ok-put-2.ensures.ok slots
-    (put_on (codes "id") (String c.in_ok-id.id) _ c.put_numbers.new.object.entries c.put.new.map.entries _ c.in_ok-put.ensures.ok id numbers))
+    (put_on (codes "id") (String c.in_ok-id.id) _ c.put_format.new.object.entries c.put.new.map.entries _ c.in_ok-put.ensures.ok id
+    (c.in_ok-put_format.ensures ∙ ap (format_put status.format status.extent_blocks) numbers)) ∙ in_order status.format status)

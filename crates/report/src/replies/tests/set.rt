@@ -4,6 +4,7 @@ ghost use Rattle.std.specs.Prelude.{◌<◌};
 use super::{Full, NEVER, Narrow};
 use crate::replies::{write_progress, write_scrubbed};
 use crate::testing::same;
+use layout_map::Format;
 use rebuild::Progress;
 use scrub::ScrubReport;
 use sector_model::Refusal;
@@ -11,26 +12,46 @@ use std::process::Abort;
 
 const LARGEST: u64 = u64::MAX;
 
-const PROGRESSES: &[(Progress, u64, &str)] = &[
-    (Progress::Position(64), 256, "position 64 of 256, 3 left\n"),
+const PROGRESSES: &[(Progress, Format, u64, &str)] = &[
+    (
+        Progress::Position(64),
+        Format::One,
+        256,
+        "position 64 of 256, 3 left\n",
+    ),
     (
         Progress::Position(192),
+        Format::One,
         256,
         "position 192 of 256, 1 left\n",
     ),
-    (Progress::Position(0), 24, "position 0 of 24, 1 left\n"),
+    (
+        Progress::Position(0),
+        Format::One,
+        24,
+        "position 0 of 24, 1 left\n",
+    ),
+    // Of 1 GiB a step of 4,096 rows is done.
+    (
+        Progress::Position(4_096),
+        Format::Two,
+        2_097_152,
+        "position 4096 of 2097152, 511 left\n",
+    ),
     (
         Progress::Position(LARGEST),
+        Format::One,
         LARGEST,
         "position 18446744073709551615 of 18446744073709551615, 0 left\n",
     ),
     // 2^64 - 1 rows are 2^58 steps.
     (
         Progress::Position(0),
+        Format::One,
         LARGEST,
         "position 0 of 18446744073709551615, 288230376151711744 left\n",
     ),
-    (Progress::Complete, 256, "complete\n"),
+    (Progress::Complete, Format::One, 256, "complete\n"),
 ];
 
 const REPORTS: &[(u64, u64, Option<u64>, &str)] = &[
@@ -56,9 +77,13 @@ fn report(rows: u64, bad: u64, first_bad: Option<u64>) -> ScrubReport {
 
 #[test]
 fn tells_how_far_a_rebuild_is(rt: HostRuntime) {
-    for (progress, rows, text) in PROGRESSES {
+    for (progress, format, rows, text) in PROGRESSES {
         let mut writer = Narrow::new(rt.alloc(), 7, NEVER, Full::Fails);
-        same(&rt, write_progress(&mut writer, progress, *rows), Ok(()));
+        same(
+            &rt,
+            write_progress(&mut writer, progress, *format, *rows),
+            Ok(()),
+        );
         same(&rt, writer.text.as_slice(), text.as_bytes());
         same(&rt, writer.flushes, 0);
     }
@@ -83,7 +108,7 @@ fn holds(rt: &(impl Abort + AllocGlobal), full: Full, room: usize)
     let fault = Err(Refusal::WriteFault);
     same(
         rt,
-        write_progress(&mut writer, &Progress::Complete, 256),
+        write_progress(&mut writer, &Progress::Complete, Format::Two, 256),
         fault,
     );
     same(rt, writer.text.as_slice(), &b"complete\n"[..room]);

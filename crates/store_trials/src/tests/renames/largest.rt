@@ -3,9 +3,11 @@ use super::super::Answer::Done;
 use super::super::Call::{Rename, Upgrade};
 use super::super::Step::{Do, Owner, Record, Version};
 use super::super::every_call::begun;
-use super::super::{ID, Shape, Step, TestStore, blank_devices, check, image_now, next_run};
+use super::super::{
+    ID, Shape, Step, TestStore, blank_devices, check, geometry_of, image_now, next_run,
+};
 use crate::testing::same;
-use layout_map::Geometry;
+use layout_map::{Format, Geometry};
 use parity::xor_into;
 use recovery::make;
 use sector_model::{Image, MemBank, Plan, Sector};
@@ -13,7 +15,7 @@ use std::process::Abort;
 use stripe_journal::Entry;
 
 // 9,376 rows of seven data sectors each: 65,632 of these, and 1,024 extents.
-const LARGEST: Shape = (8, 8, 1_172);
+const LARGEST: Shape = (Format::One, 8, 8, 1_172);
 
 // The devices of such a set as `make` leaves them: it writes each row of each member.
 fn largest_image(rt: &(impl Abort + AllocGlobal), geometry: Geometry) -> Image {
@@ -68,7 +70,7 @@ fn owners_sector(first: u16) -> Sector {
 
 // The devices of a set with that volume.
 fn with_largest_volume(rt: &(impl Abort + AllocGlobal)) -> Image {
-    let geometry = Geometry::new(LARGEST.0, LARGEST.1, LARGEST.2).expect(rt, "a shape");
+    let geometry = geometry_of(rt, LARGEST);
     let mut image = largest_image(rt, geometry);
     forge(rt, &mut image, &geometry, 1, &record_sector());
     for number in 0..8u8 {

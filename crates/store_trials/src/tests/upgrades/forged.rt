@@ -3,10 +3,11 @@ use super::super::Answer::{Done, Scrubbed};
 use super::super::Call::{Create, Scrub, Upgrade, Write};
 use super::super::Step::{Do, Holds, Logical, Shows, Version};
 use super::super::every_call::{begun, fresh_image};
-use super::super::{SET_A, Step, Volumes, assembled, check, fresh_store, image_now, next_run};
+use super::super::{
+    SET_A, Step, Volumes, assembled, check, fresh_store, geometry_of, image_now, next_run,
+};
 use super::{ONE, ONE_VOLUME, SPELLED, check_spelled};
 use crate::testing::{all, front, same};
-use layout_map::Geometry;
 use parity::xor_into;
 use scrub::ScrubReport;
 use sector_model::{Bank, Image, Refusal, Sector};
@@ -25,7 +26,7 @@ fn turn(rt: &impl Abort, image: &mut Image, member: u8, row: u64, by: &Sector) {
 
 // Changes a logical sector of set A by XOR with these bytes, and the parity of its row with it: each row stays sound.
 fn forge(rt: &impl Abort, image: &mut Image, logical: u64, by: &Sector) {
-    let geometry = Geometry::new(SET_A.0, SET_A.1, SET_A.2).expect(rt, "a shape");
+    let geometry = geometry_of(rt, SET_A);
     assert!(rt; logical < geometry.data_sectors());
     let place = geometry.place(logical);
     let parity = geometry.parity_member(place.row);

@@ -7,11 +7,12 @@ use super::super::{
     unlike_block,
 };
 use crate::testing::{all, same};
+use layout_map::Format;
 use sector_model::{Bank, Refusal};
 use std::process::Abort;
 
 // 2,080 rows, 4,160 data sectors and 64 extents.
-const LARGE: Shape = (3, 8, 260);
+const LARGE: Shape = (Format::One, 3, 8, 260);
 
 // The name of the volume of each record, 0 to 63: it rises with that.
 fn name_of(number: u8) -> [u8; 2] {

@@ -1,12 +1,13 @@
-use Rattle.std.proofs.Common.{◌≡◌, ℕ, List, Option, Some, None, true, false, ap, sym, ◌∙◌, subst, arith}
+use Rattle.std.proofs.Common.{◌≡◌, ℕ, List, Bool, Option, Some, None, true, false, ap, sym, ◌∙◌, subst, arith}
 use Rattle.std.proofs.lemmas.Bool.{true≢false}
 use Rattle.extents.specs.declared.owned.Owned.{Owned}
 use Rattle.extents.specs.declared.record.Record.{Record}
-use Rattle.extents.specs.Checks.{AreFreeFrom}
-use Rattle.extents.specs.Versions.{is_version_of}
+use Rattle.extents.specs.Checks.{AreCleanBeyond, AreFreeFrom}
+use Rattle.extents.specs.TableSpelling.{entries_of}
 use Rattle.extents.specs.VolumeTables.{HaveTheirPlaces, IsVolumeTable}
 use Rattle.extents.proofs.Same.{same_table}
-use Rattle.extents.proofs.Sectors.{spelled_by, version_of_table, read_of_table, owners_of_table, read_of_version, read_is_spelled}
+use Rattle.extents.proofs.Sectors.{spelled_by, version_of_table, read_of_table, owners_of_table, dirty_of_table, read_of_version, read_is_spelled}
+use Rattle.extents.proofs.Entries.{length-entries_of, said_spelled}
 use Rattle.extents.proofs.Versions.{table_length_most}
 use Rattle.extents.proofs.volume_table.VolumeTable.decode.Goals as goal
 use Rattle.extents.proofs.volume_table.VolumeTable.decode.Goals.{then-not-are_free_from-via-then-not-are_free_from}
@@ -14,21 +15,15 @@ use Rattle.extents.proofs.volume_table.VolumeTable.decode.Goals.{then-not-are_fr
 
 pub returns-in_err-version-clause-exact : goal.returns-in_err-version-clause-exact
 returns-in_err-version-clause-exact c = λ t is of_set. absurd (
-    let some : c.read_version.result ≡ Some t.version = version_of_table c.args.from.now t c.read_version.result c.read_version.ensures.exact is in
+    let some : c.read_version.result ≡ Some t.version =
+    version_of_table c.args.extents.now.format c.args.from.now t c.read_version.result c.read_version.ensures.exact of_set.version is in
     let none : c.read_version.result ≡ None = c.in_err-version.was in
     let no : ⊥ = cc in no)
 
-pub returns-then-not-is_version_of-clause-exact : goal.returns-then-not-is_version_of-clause-exact
-returns-then-not-is_version_of-clause-exact c = λ t is of_set. absurd (
-    let some_version : c.read_version.result ≡ Some t.version = version_of_table c.args.from.now t c.read_version.result c.read_version.ensures.exact is in
-    let read_version : c.read_version.result ≡ Some c.in_ok-version.version = c.in_ok-version.was in
-    let same_version : c.in_ok-version.version ≡ t.version = cc in
-    true≢false (sym of_set.version ∙ ap (is_version_of c.args.extents.now.format) (sym same_version) ∙ sym c.is_version_of.ensures
-    ∙ c.if-not-is_version_of.true))
-
 pub returns-in_err-records-clause-exact : goal.returns-in_err-records-clause-exact
 returns-in_err-records-clause-exact c = λ t is of_set. absurd (
-    let some_version : c.read_version.result ≡ Some t.version = version_of_table c.args.from.now t c.read_version.result c.read_version.ensures.exact is in
+    let some_version : c.read_version.result ≡ Some t.version =
+    version_of_table c.args.extents.now.format c.args.from.now t c.read_version.result c.read_version.ensures.exact of_set.version is in
     let read_version : c.read_version.result ≡ Some c.in_ok-version.version = c.in_ok-version.was in
     let same_version : c.in_ok-version.version ≡ t.version = cc in
     let some : c.read_records.result ≡ Some t.records =
@@ -38,7 +33,8 @@ returns-in_err-records-clause-exact c = λ t is of_set. absurd (
 
 pub returns-in_err-owners-clause-exact : goal.returns-in_err-owners-clause-exact
 returns-in_err-owners-clause-exact c = λ t is of_set. absurd (
-    let some_version : c.read_version.result ≡ Some t.version = version_of_table c.args.from.now t c.read_version.result c.read_version.ensures.exact is in
+    let some_version : c.read_version.result ≡ Some t.version =
+    version_of_table c.args.extents.now.format c.args.from.now t c.read_version.result c.read_version.ensures.exact of_set.version is in
     let read_version : c.read_version.result ≡ Some c.in_ok-version.version = c.in_ok-version.was in
     let same_version : c.in_ok-version.version ≡ t.version = cc in
     let some : c.read_extents.result ≡ Some t.extents =
@@ -48,7 +44,7 @@ returns-in_err-owners-clause-exact c = λ t is of_set. absurd (
 
 pub is_table-requires : goal.is_table-requires
 is_table-requires c = record {
-  is_version = c.in_ok-version.ensures.some.0;
+  is_version = c.in_ok-version.ensures.some.0.0;
   of_version = read_of_version c.in_ok-version.version c.args.from.now c.in_ok-records.records c.in_ok-records.ensures.long c.in_ok-records.ensures.some;
 }
 
@@ -57,7 +53,8 @@ returns-then-not-are_free_from-clause-exact c = λ t is of_set. absurd (
     let version = c.in_ok-version.version in
     let records = c.in_ok-records.records in
     let owners = c.in_ok-owners.owners in
-    let some_version : c.read_version.result ≡ Some t.version = version_of_table c.args.from.now t c.read_version.result c.read_version.ensures.exact is in
+    let some_version : c.read_version.result ≡ Some t.version =
+    version_of_table c.args.extents.now.format c.args.from.now t c.read_version.result c.read_version.ensures.exact of_set.version is in
     let read_version : c.read_version.result ≡ Some version = c.in_ok-version.was in
     let same_version : version ≡ t.version = cc in
     let some_records : c.read_records.result ≡ Some t.records =
@@ -91,18 +88,45 @@ returns-then-not-are_free_from-clause-exact c = λ t is of_set. absurd (
           let no : ⊥ = cc in no
     ])
 
+pub returns-then-not-are_clean_beyond-clause-exact : goal.returns-then-not-are_clean_beyond-clause-exact
+returns-then-not-are_clean_beyond-clause-exact c = λ t is of_set. absurd (
+    let version = c.in_ok-version.version in
+    let some_version : c.read_version.result ≡ Some t.version =
+    version_of_table c.args.extents.now.format c.args.from.now t c.read_version.result c.read_version.ensures.exact of_set.version is in
+    let read_version : c.read_version.result ≡ Some version = c.in_ok-version.was in
+    let same_version : version ≡ t.version = cc in
+    let same_dirty : c.read_dirty-dirty.result ≡ t.dirty =
+    dirty_of_table c.args.from.now t version c.read_dirty-dirty.result same_version c.read_dirty-dirty.ensures is in
+    let clean : AreCleanBeyond version c.read_dirty-dirty.result c.args.extents.now.count =
+    subst (λ (v : ℕ). AreCleanBeyond v c.read_dirty-dirty.result c.args.extents.now.count) (sym same_version)
+    (subst (λ (xs : List Bool). AreCleanBeyond t.version xs c.args.extents.now.count) (sym same_dirty) of_set.clean_beyond) in
+    true≢false (sym (c.are_clean_beyond.ensures.1 clean) ∙ c.if-not-are_clean_beyond.true))
+
 pub returns-clause-some : goal.returns-clause-some
 returns-clause-some c =
     let version = c.in_ok-version.version in
-    spelled_by version c.in_ok-records.records c.in_ok-owners.owners c.args.from.now c.in_ok-records.ensures.long c.in_ok-owners.ensures.long
+    let owners = c.in_ok-owners.owners in
+    let dirty = c.read_dirty-dirty.result in
+    spelled_by version c.in_ok-records.records (entries_of version owners dirty) c.args.from.now c.in_ok-records.ensures.long
+    (length-entries_of version owners dirty ∙ c.in_ok-owners.ensures.long)
     (let most = table_length_most version in omega (arith, c.told-from))
     (λ k within. c.read_version.ensures.sectors k (let most = table_length_most version in omega arith)) c.in_ok-version.ensures.some.1
-    (read_is_spelled version c.args.from.now c.in_ok-records.records c.in_ok-records.ensures.some) c.in_ok-owners.ensures.some
+    (read_is_spelled version c.args.from.now c.in_ok-records.records c.in_ok-records.ensures.some)
+    (said_spelled version c.args.from.now owners dirty c.in_ok-owners.ensures.long c.in_ok-owners.ensures.some c.read_dirty-dirty.ensures)
+
+pub returns-clause-of_set : goal.returns-clause-of_set
+returns-clause-of_set c = record {
+  version = c.in_ok-version.ensures.some.0.1;
+  free_beyond = c.are_free_from.ensures.0 c.if-not-are_free_from.false;
+  clean_beyond = c.are_clean_beyond.ensures.0 c.if-not-are_clean_beyond.false;
+  placed = (c.is_table.ensures.0 c.if-not-is_table.false).1;
+}
 
 pub returns-clause-exact : goal.returns-clause-exact
 returns-clause-exact c = λ t is of_set.
     let version = c.in_ok-version.version in
-    let some_version : c.read_version.result ≡ Some t.version = version_of_table c.args.from.now t c.read_version.result c.read_version.ensures.exact is in
+    let some_version : c.read_version.result ≡ Some t.version =
+    version_of_table c.args.extents.now.format c.args.from.now t c.read_version.result c.read_version.ensures.exact of_set.version is in
     let read_version : c.read_version.result ≡ Some version = c.in_ok-version.was in
     let same_version : version ≡ t.version = cc in
     let some_records : c.read_records.result ≡ Some t.records =
@@ -113,4 +137,6 @@ returns-clause-exact c = λ t is of_set.
     owners_of_table c.args.from.now t version c.read_extents.result same_version c.read_extents.ensures.exact is in
     let read_owners : c.read_extents.result ≡ Some c.in_ok-owners.owners = c.in_ok-owners.was in
     let same_owners : c.in_ok-owners.owners ≡ t.extents = cc in
-    ap (λ (one : _). Some one) (same_table _ t same_version same_records same_owners)
+    let same_dirty : c.read_dirty-dirty.result ≡ t.dirty =
+    dirty_of_table c.args.from.now t version c.read_dirty-dirty.result same_version c.read_dirty-dirty.ensures is in
+    ap (λ (one : _). Some one) (same_table _ t same_version same_records same_owners same_dirty)

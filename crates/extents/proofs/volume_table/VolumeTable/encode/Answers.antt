@@ -1,6 +1,6 @@
 use Rattle.std.proofs.Common.{◌≡◌, ◌<◌, ℕ, [], length, get_or, set, ◌∙◌, below_more, arith}
 use Rattle.std.proofs.lemmas.List.{take_at, get_or-set_same, get_or-set_other, length-set}
-use Rattle.extents.specs.TableSpelling.{sector_of}
+use Rattle.extents.specs.TableSpelling.{entries_in, sector_of}
 use Rattle.extents.specs.Versions.{table_length}
 use Rattle.extents.proofs.Sectors.{spelling_is}
 use Rattle.extents.proofs.Versions.{table_length_most}
@@ -15,7 +15,7 @@ loop-number-preserved c =
     let within : number < length items = omega arith in
     record {
       long = length-set items number sector ∙ c.loop-number.invariant.long;
-      done = below_more (λ (k : ℕ). get_or (set items number sector) k [] ≡ sector_of table.version table.records table.extents k) number
+      done = below_more (λ (k : ℕ). get_or (set items number sector) k [] ≡ sector_of table.version table.records (entries_in table) k) number
           (λ k below. get_or-set_other items number k sector [] (λ same. omega arith) ∙ c.loop-number.invariant.done k below)
           (get_or-set_same items number sector [] within ∙ c.write_sector.ensures);
     }
@@ -28,6 +28,6 @@ returns-clause-spelled c =
     let table = c.args.self.now in
     let items = c.loop-number.sector-items in
     take_at items _ (table_length table.version) c.loop-number.invariant.long
-    ∙ spelling_is table.version table.records table.extents items c.loop-number.invariant.long
+    ∙ spelling_is table.version table.records (entries_in table) items c.loop-number.invariant.long
     (λ k within. c.loop-number.invariant.done k (omega
     (arith, within, c.loop-number-test.false, c.table_length-length.ensures, c.loop-number.auto.number-end, c.loop-number.invariant.long)))

@@ -7,6 +7,6 @@ use Rattle.report.proofs.replies.set.write_position.Goals as goal
 
 pub returns : goal.returns
 returns g c =
-    let is : c.as_slice.result.now ≡ progress_line c.args.rows (Position c.args.position) = search (rules, append_assoc) in
+    let is : c.as_slice.result.now ≡ progress_line c.args.format c.args.rows (Position c.args.position) = search (rules, append_assoc) in
     subst (λ (text : List ℕ). WritesText (g.W.Write.contents c.args.writer.now) (g.W.Write.contents c.write_text.new.writer) text c.write_text.result) is
     (record { ok = c.write_text.ensures.ok; part = c.write_text.ensures.part; kind = c.write_text.ensures.kind })

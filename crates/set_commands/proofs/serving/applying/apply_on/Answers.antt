@@ -26,7 +26,7 @@ returns-in_err-reply-clause-cut g c =
 pub returns-clause-applied : goal.returns-clause-applied
 returns-clause-applied g c = ok_then _ _ _ (λ written. applied_on _ _ c.in_ok-store.ensures.honest.0 _ _ _ _ c.in_ok-store.ensures.opened _ _
     c.apply.ensures.applies
-    _ _ _ c.in_ok-reply.ensures.same c.in_ok-reply.ensures.done c.rows.ensures written) c.write_event.ensures.ok
+    _ _ c.in_ok-reply.ensures.same c.in_ok-reply.ensures.done written) c.write_event.ensures.ok
 
 pub returns-clause-unwritten : goal.returns-clause-unwritten
 returns-clause-unwritten g c = only_cut _ _ c.write_event.ensures.kind
@@ -36,4 +36,4 @@ returns-clause-refused g c = only_cut _ _ c.write_event.ensures.kind
 
 pub returns-clause-cut : goal.returns-clause-cut
 returns-clause-cut g c = part_then _ _ _ (λ part. applied_on _ _ c.in_ok-store.ensures.honest.0 _ _ _ _ c.in_ok-store.ensures.opened _ _ c.apply.ensures.applies
-    _ _ _ c.in_ok-reply.ensures.same c.in_ok-reply.ensures.done c.rows.ensures part) c.write_event.ensures.part
+    _ _ c.in_ok-reply.ensures.same c.in_ok-reply.ensures.done part) c.write_event.ensures.part

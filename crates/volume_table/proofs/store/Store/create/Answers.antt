@@ -43,6 +43,7 @@ returns-clause-creates g c =
       kept = before.kept;
       kept_then = c.grow-answer.ensures.kept;
       version = c.grow-answer.ensures.version;
+      dirty = c.grow-answer.ensures.dirty;
       may = subst
           (λ (e : ExtentLayout). MayGrowTo e before.table.version before.table.records before.map c.in_ok-growth.growth.volume c.in_ok-growth.growth.first
           c.in_ok-growth.growth.entry) c.of-extents.ensures c.in_ok-growth.ensures.may;
@@ -54,7 +55,7 @@ returns-clause-creates g c =
       ends = c.end.ensures.ended;
       true_to = λ fair. g.met.B.Bank.true_to _ (c.grow-answer.ensures.honest.0 fair);
     }
-    c.in_ok-growth.ensures.lowest.unused c.in_ok-growth.ensures.named c.in_ok-growth.ensures.blocks c.in_ok-growth.growth.entry.most
+    c.in_ok-growth.ensures.lowest.unused c.in_ok-growth.ensures.named c.in_ok-growth.ensures.blocks
     (λ sectors volumes by.
     decided_by None before.table before.map (Create c.args.name.now c.args.blocks) c.of-extents.result (extents_in shape) c.of-extents.ensures
     c.in_ok-growth.ensures.decides sectors volumes before.kept by))

@@ -5,6 +5,7 @@ use Rattle.array_io.specs.Believed.OpenArray.{array_view}
 use Rattle.extents.specs.SetExtents.{extents_in}
 use Rattle.extents.specs.SetExtents.{IsOfSet}
 use Rattle.extents.specs.declared.extent_layout.ExtentLayout.{ExtentLayout}
+use Rattle.volume_table.proofs.TableSizes.{of_format_in}
 use Rattle.volume_table.proofs.OpenedStore.{open_done, open_ended, open_refused, table_has_map}
 use Rattle.volume_table.proofs.store.Store.open.Goals as goal
 
@@ -40,7 +41,9 @@ returns-clause-opened g c =
     ∙ ap extents_in c.in_default.ensures.changes.goes_on.not_older.same_geometry in
     open_done (g.B.Bank.honest c.args.array.bank) old new c.in-Some.table c.in_default.ensures.changes
     (subst (λ (e : ExtentLayout). IsOfSet e c.in-Some.table) same c.in-Some.ensures.of_set)
-    (λ fair lost V rests. (c.in_default.ensures.gives fair lost V c.in-Some.table rests).0 c.in-Some.ensures.some)
+    (λ fair lost V rests. (c.in_default.ensures.gives fair lost V c.in-Some.table
+    (of_format_in old.table.geometry c.in-Some.table (subst (λ (e : ExtentLayout). IsOfSet e c.in-Some.table) same c.in-Some.ensures.of_set)) rests).0
+    c.in-Some.ensures.some)
 
 pub returns-in-Err-clause-honest_bank : goal.returns-in-Err-clause-honest_bank
 returns-in-Err-clause-honest_bank g c = rw c.into_bank.ensures c.in-Err.ensures.honest

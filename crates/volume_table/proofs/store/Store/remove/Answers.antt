@@ -34,7 +34,7 @@ returns-clause-removes g c =
     (store_of (array_view after) c.shrink-answer.new.table c.end.new.self.ended)
     before.map c.shrink-answer.new.map c.in_ok-volume.volume c.shrink-answer.result c.in_default.is before.kept c.shrink-answer.ensures.kept
     c.shrink-answer.ensures.version c.in_ok-volume.ensures.found
-    c.shrink-answer.ensures.records c.shrink-answer.ensures.given_back c.in_ok-volume.ensures.decides
+    c.shrink-answer.ensures.records c.shrink-answer.ensures.marked c.shrink-answer.ensures.given_back c.in_ok-volume.ensures.decides
     (λ fair. g.met.B.Bank.true_to _ (c.shrink-answer.ensures.honest.0 fair)) c.shrink-answer.ensures.changes
     (λ answered. c.end.ensures.done answered ∙ c.in_default.is) c.end.ensures.ended)
 

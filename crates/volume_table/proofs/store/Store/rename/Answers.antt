@@ -29,7 +29,7 @@ returns-clause-renames g c =
     (store_view before)
     (store_of (array_view after) c.put_name-answer.new.table c.end.new.self.ended)
     before.map renaming.volume renaming.entry c.put_name-answer.result c.in_default.is before.kept c.put_name-answer.ensures.kept
-    c.put_name-answer.ensures.version
+    c.put_name-answer.ensures.version c.put_name-answer.ensures.dirty
     c.in_ok-renaming.ensures.used c.in_ok-renaming.ensures.may c.in_ok-renaming.ensures.named c.put_name-answer.ensures.records c.in_ok-renaming.ensures.decides
     (λ fair. g.met.B.Bank.true_to _ (c.put_name-answer.ensures.honest.0 fair)) c.put_name-answer.ensures.changes
     (λ answered. c.end.ensures.done answered ∙ c.in_default.is) c.end.ensures.ended)
@@ -66,7 +66,7 @@ returns-clause-kept g c =
     (store_view before)
     (store_of (array_view after) c.put_name-answer.new.table c.end.new.self.ended)
     before.map renaming.volume renaming.entry c.put_name-answer.result c.put_name-answer.ensures.changes.goes_on.not_older.same_geometry
-    before.kept c.put_name-answer.ensures.kept c.put_name-answer.ensures.version
+    before.kept c.put_name-answer.ensures.kept c.put_name-answer.ensures.version c.put_name-answer.ensures.dirty
     c.in_ok-renaming.ensures.used c.in_ok-renaming.ensures.may c.in_ok-renaming.ensures.named c.put_name-answer.ensures.records
     c.put_name-answer.ensures.entry)
 

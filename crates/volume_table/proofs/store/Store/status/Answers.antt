@@ -12,8 +12,8 @@ returns g c =
     let was = c.args.self.now in
     let goes : was.ended ≡ None = c.in_default.is in
     let store : StoreView = store_view was in
-    status_told store was.map c.rows.result c.extents.result c.free_count.result c.used.result was.table.version goes was.kept c.rows.ensures c.extents.ensures
-    c.free_count.ensures c.used.ensures refl
+    status_told store was.map c.rows.result c.extent_blocks.result c.extents.result c.free_count.result c.used.result was.table.version goes was.kept
+    c.rows.ensures c.extent_blocks.ensures c.extents.ensures c.free_count.ensures c.used.ensures refl
 
 pub returns-in-Some : goal.returns-in-Some
 returns-in-Some g c =

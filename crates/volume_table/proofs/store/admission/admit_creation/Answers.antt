@@ -42,7 +42,7 @@ returns-then-is_some-clause-decides c = λ sectors volumes kept by.
     let short : length c.bytes.result.now ≤ most_name_bytes table.version = omega (arith, c.most_name_bytes.ensures, c.if-bytes-most_name_bytes.false) in
     let its_name : IsNameOf table.version name = made_name table.version c.bytes.result.now name (c.bytes.ensures ∙ c.in-Some.ensures.same)
     (subst IsGoodName (sym c.bytes.ensures) c.in-Some.name.good) short in
-    let new : IsGoodNew volumes.version name c.args.blocks =
+    let new : IsGoodNew extents volumes.version name c.args.blocks =
     new_by extents table sectors volumes name c.args.blocks by
     (record { its_name = its_name; least = omega arith; most = omega (arith, c.most_blocks-most.ensures) }) in
     let was = name_was_found table.records c.bytes-2.result.now name c.record_named.result (c.bytes-2.ensures ∙ c.in-Some.ensures.same)
@@ -60,7 +60,7 @@ returns-in_default-first_unused-clause-decides c = λ sectors volumes kept by.
     let short : length c.bytes.result.now ≤ most_name_bytes table.version = omega (arith, c.most_name_bytes.ensures, c.if-bytes-most_name_bytes.false) in
     let its_name : IsNameOf table.version name = made_name table.version c.bytes.result.now name (c.bytes.ensures ∙ c.in-Some.ensures.same)
     (subst IsGoodName (sym c.bytes.ensures) c.in-Some.name.good) short in
-    let new : IsGoodNew volumes.version name c.args.blocks =
+    let new : IsGoodNew extents volumes.version name c.args.blocks =
     new_by extents table sectors volumes name c.args.blocks by
     (record { its_name = its_name; least = omega arith; most = omega (arith, c.most_blocks-most.ensures) }) in
     let none = name_was_not_found table.records c.bytes-2.result.now name c.record_named.result (c.bytes-2.ensures ∙ c.in-Some.ensures.same)
@@ -79,7 +79,7 @@ returns-then-extents_for-free_count-clause-decides c = λ sectors volumes kept b
     let short : length c.bytes.result.now ≤ most_name_bytes table.version = omega (arith, c.most_name_bytes.ensures, c.if-bytes-most_name_bytes.false) in
     let its_name : IsNameOf table.version name = made_name table.version c.bytes.result.now name (c.bytes.ensures ∙ c.in-Some.ensures.same)
     (subst IsGoodName (sym c.bytes.ensures) c.in-Some.name.good) short in
-    let new : IsGoodNew volumes.version name c.args.blocks =
+    let new : IsGoodNew extents volumes.version name c.args.blocks =
     new_by extents table sectors volumes name c.args.blocks by
     (record { its_name = its_name; least = omega arith; most = omega (arith, c.most_blocks-most.ensures) }) in
     let none = name_was_not_found table.records c.bytes-2.result.now name c.record_named.result (c.bytes-2.ensures ∙ c.in-Some.ensures.same)
@@ -104,8 +104,7 @@ returns-clause-may c =
     let up = c.extents_for.ensures in
     let free = c.free_count.ensures in
     may_create_at c.args.extents.now table c.args.map.now c.in-Some-first_unused.volume _ name c.in-Some-first_unused.ensures (omega arith)
-    c.in-Some.ensures.same its_name.short
-    none
+    (omega (arith, c.most_blocks-most.ensures)) c.in-Some.ensures.same its_name.short none
     (omega (arith, up, free, c.if-extents_for-free_count.false))
 
 pub returns-clause-decides : goal.returns-clause-decides
@@ -116,7 +115,7 @@ returns-clause-decides c = λ sectors volumes kept by.
     let short : length c.bytes.result.now ≤ most_name_bytes table.version = omega (arith, c.most_name_bytes.ensures, c.if-bytes-most_name_bytes.false) in
     let its_name : IsNameOf table.version name = made_name table.version c.bytes.result.now name (c.bytes.ensures ∙ c.in-Some.ensures.same)
     (subst IsGoodName (sym c.bytes.ensures) c.in-Some.name.good) short in
-    let new : IsGoodNew volumes.version name c.args.blocks =
+    let new : IsGoodNew extents volumes.version name c.args.blocks =
     new_by extents table sectors volumes name c.args.blocks by
     (record { its_name = its_name; least = omega arith; most = omega (arith, c.most_blocks-most.ensures) }) in
     let none = name_was_not_found table.records c.bytes-2.result.now name c.record_named.result (c.bytes-2.ensures ∙ c.in-Some.ensures.same)

@@ -15,7 +15,7 @@ returns-then-by-eq0-clause-decides c = λ sectors volumes kept by.
     let name = c.args.name.now in
     extension_bad_size extents name found.count c.args.by volumes
     (length_by extents table sectors volumes name found.number found.count by (rw c.in_ok-found.ensures.ok_part at c.record_named.ensures))
-    (⊎_elim inl (λ above. inr (omega (arith, above.1, c.most_blocks.ensures))) c.then-by-eq0.either)
+    (⊎_elim inl (λ above. inr (omega (arith, above.1, c.most_blocks.ensures, c.from-most.ensures, c.from.ensures, c.from-2.ensures))) c.then-by-eq0.either)
 
 pub returns-then-extents_for-free_count-clause-decides : goal.returns-then-extents_for-free_count-clause-decides
 returns-then-extents_for-free_count-clause-decides c = λ sectors volumes kept by.
@@ -27,7 +27,8 @@ returns-then-extents_for-free_count-clause-decides c = λ sectors volumes kept b
     let has = length_by extents table sectors volumes name found.number found.count by is in
     let old = c.extents_for-2.ensures in
     let new = c.extents_for.ensures in
-    extension_no_space extents c.free_count.result name found.count c.args.by volumes by.shows.limits has (omega arith) (omega arith)
+    extension_no_space extents c.free_count.result name found.count c.args.by volumes by.shows.limits has (omega arith)
+    (omega (arith, c.most_blocks.ensures, c.from-most.ensures, c.from.ensures, c.from-2.ensures))
     (ap (λ n. n + need extents.blocks volumes.volumes) c.free_count.ensures ∙ free_by extents table c.args.map.now sectors volumes kept by)
     (omega (arith, old, new))
 
@@ -38,7 +39,8 @@ returns-clause-may c =
     let old = c.extents_for-2.ensures in
     let new = c.extents_for.ensures in
     let free = c.free_count.ensures in
-    may_extend_at c.args.extents.now c.args.table.now c.args.map.now found.number found.count _ c.args.name.now is (omega arith) c.in-Some.ensures.same
+    may_extend_at c.args.extents.now c.args.table.now c.args.map.now found.number found.count _ c.args.name.now is (omega arith)
+    (omega (arith, c.most_blocks.ensures, c.from-most.ensures, c.from.ensures, c.from-2.ensures)) c.in-Some.ensures.same
     (omega (arith, old, new, free))
 
 pub returns-clause-decides : goal.returns-clause-decides
@@ -51,7 +53,8 @@ returns-clause-decides c = λ sectors volumes kept by.
     let has = length_by extents table sectors volumes name found.number found.count by is in
     let old = c.extents_for-2.ensures in
     let new = c.extents_for.ensures in
-    extension_admitted extents c.free_count.result name found.count c.args.by volumes by.shows.limits has (omega arith) (omega arith)
+    extension_admitted extents c.free_count.result name found.count c.args.by volumes by.shows.limits has (omega arith)
+    (omega (arith, c.most_blocks.ensures, c.from-most.ensures, c.from.ensures, c.from-2.ensures))
     (ap (λ n. n + need extents.blocks volumes.volumes) c.free_count.ensures ∙ free_by extents table c.args.map.now sectors volumes kept by)
     (omega (arith, old, new))
 
@@ -105,15 +108,8 @@ returns-in_err-found-clause-decides c = λ sectors volumes kept by.
     c.record_named.ensures p.2 in
     rw (p.1, f.0) (no_volume_first c.args.name.now volumes.volumes _ (absent_by extents c.args.table.now sectors volumes c.args.name.now by f.1))
 
-pub overflow_sub-room : goal.overflow_sub-room
-overflow_sub-room c =
-    let is = rw c.in_ok-found.ensures.ok_part at c.record_named.ensures in
-    omega (arith, is.as_long, is.entry.most, c.most_blocks.ensures)
-
 pub overflow_add-blocks : goal.overflow_add-blocks
-overflow_add-blocks c =
-    let is = rw c.in_ok-found.ensures.ok_part at c.record_named.ensures in
-    omega (arith, is.as_long, is.entry.most, c.most_blocks.ensures, c.if-by-room.false)
+overflow_add-blocks c = omega (arith, c.from-most.ensures, c.from.ensures, c.from-2.ensures, c.if-grown-most.false)
 
 pub overflow_sub-extents_for : goal.overflow_sub-extents_for
 overflow_sub-extents_for c =

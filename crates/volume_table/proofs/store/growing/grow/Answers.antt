@@ -5,7 +5,7 @@ use Rattle.extents.specs.SetExtents.{extents_in}
 use Rattle.extents.specs.ExtentMaps.{IsTaken}
 use Rattle.extents.proofs.Blocks.{more_take_more}
 use Rattle.extents.proofs.Versions.{most_volumes_most}
-use Rattle.volume_table.proofs.GrownTables.{counted_by, kept_after, grown_has_places, grown_is_table, grown_is_placed, zeroed_in_part, zeroed_then_put}
+use Rattle.volume_table.proofs.GrownTables.{clean_as_before, counted_by, kept_after, grown_has_places, grown_is_table, grown_is_placed, zeroed_in_part, zeroed_then_put}
 use Rattle.volume_table.proofs.KeptMaps.{kept_sized}
 use Rattle.array_io.specs.Believed.OpenArray.{array_view}
 use Rattle.volume_table.proofs.store.growing.grow.Goals as goal
@@ -38,6 +38,7 @@ returns-in_err-zero_blocks-clause-kept g c =
     let growth = c.args.growth in
     kept_after geometry c.zero_blocks.new.array.table.geometry c.args.table.now c.set.new.self c.args.map.now c.take.new.self
     (slice_set c.args.table.now.records growth.volume (Some growth.entry))
+    c.set.ensures.version (clean_as_before geometry c.args.table.now c.set.new.self c.args.map.now c.set.ensures.dirty c.requires.kept)
     c.requires.kept c.take.ensures.extents c.set.ensures.extents c.set.ensures.records
     (grown_has_places (extents_in geometry) c.args.table.now c.args.map.now c.take.new.self growth.volume growth.first
     (c.extents_for.result - c.extents_for-2.result) growth.entry c.requires.kept c.requires.may
@@ -63,6 +64,7 @@ returns-clause-kept g c =
     let growth = c.args.growth in
     kept_after geometry c.put_table.new.array.table.geometry c.args.table.now c.set.new.self c.args.map.now c.take.new.self
     (slice_set c.args.table.now.records growth.volume (Some growth.entry))
+    c.set.ensures.version (clean_as_before geometry c.args.table.now c.set.new.self c.args.map.now c.set.ensures.dirty c.requires.kept)
     c.requires.kept c.take.ensures.extents c.set.ensures.extents c.set.ensures.records
     (grown_has_places (extents_in geometry) c.args.table.now c.args.map.now c.take.new.self growth.volume growth.first
     (c.extents_for.result - c.extents_for-2.result) growth.entry c.requires.kept c.requires.may
@@ -143,7 +145,7 @@ pub returns-in_err-zero_blocks-clause-taken : goal.returns-in_err-zero_blocks-cl
 returns-in_err-zero_blocks-clause-taken g c =
     let geometry = c.args.array.now.table.geometry in
     let growth = c.args.growth in
-    subst (λ n. IsTaken c.args.map.now c.take.new.self growth.volume n)
+    subst (λ n. IsTaken c.args.table.now.dirty c.args.map.now c.take.new.self growth.volume n)
     (counted_by c.of-extents.result (extents_in geometry) c.extents_for.result c.extents_for-2.result growth.entry.blocks growth.first c.of-extents.ensures
     c.extents_for.ensures c.extents_for-2.ensures)
     c.take.ensures
@@ -161,7 +163,13 @@ pub returns-clause-taken : goal.returns-clause-taken
 returns-clause-taken g c =
     let geometry = c.args.array.now.table.geometry in
     let growth = c.args.growth in
-    subst (λ n. IsTaken c.args.map.now c.take.new.self growth.volume n)
+    subst (λ n. IsTaken c.args.table.now.dirty c.args.map.now c.take.new.self growth.volume n)
     (counted_by c.of-extents.result (extents_in geometry) c.extents_for.result c.extents_for-2.result growth.entry.blocks growth.first c.of-extents.ensures
     c.extents_for.ensures c.extents_for-2.ensures)
     c.take.ensures
+
+pub returns-in_err-zero_blocks-clause-dirty : goal.returns-in_err-zero_blocks-clause-dirty
+returns-in_err-zero_blocks-clause-dirty g c = c.set.ensures.dirty
+
+pub returns-clause-dirty : goal.returns-clause-dirty
+returns-clause-dirty g c = c.set.ensures.dirty

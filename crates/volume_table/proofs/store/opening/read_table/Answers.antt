@@ -6,7 +6,7 @@ use Rattle.std.proofs.lemmas.Result.{err_from_is_err_and}
 use Rattle.extents.specs.Versions.{table_length}
 use Rattle.array_io.specs.Believed.OpenArray.{array_view}
 use Rattle.volume_table.proofs.ListChanges.{changes_read}
-use Rattle.volume_table.proofs.OpenedStore.{first_spelled, gives_table, is_version, length-beyond, put_is, read_then, reads_spelled, spells_none, then_ends}
+use Rattle.volume_table.proofs.OpenedStore.{first_spelled, gives_table, in_format, length-beyond, put_is, read_then, reads_spelled, spells_none, then_ends}
 use Rattle.volume_table.proofs.OpenedStore.{where_ok}
 use Rattle.volume_table.proofs.TableSizes.{table_long, table_short}
 use Rattle.volume_table.proofs.store.opening.read_table.Goals as goal
@@ -26,17 +26,20 @@ pub returns-in_default-clause-gives : goal.returns-in_default-clause-gives
 returns-in_default-clause-gives g c =
     let to = c.read.new.to in
     let there = get_or-set_same c.args.sectors.now 0 to [] (omega (arith, c.told-sectors)) in
-    λ fair lost V table rests. (
-      λ spelled. absurd (spells_none to _ table (λ version is same. none-some version (c.in_default.ensures.exact version is (there ∙ same))) there spelled),
-      λ spelled. absurd (spells_none to V table (λ version is same. none-some version (c.in_default.ensures.exact version is (there ∙ same)))
-          (sym (c.in_ok-read.ensures.reads.sector fair refl lost V rests)) spelled),
+    λ fair lost V table of_format rests. (
+      λ spelled. absurd (spells_none c.args.array.now.table.geometry.format to _ table
+          (λ version is same. none-some version (c.in_default.ensures.exact version is (there ∙ same))) there of_format spelled),
+      λ spelled. absurd (spells_none c.args.array.now.table.geometry.format to V table
+          (λ version is same. none-some version (c.in_default.ensures.exact version is (there ∙ same)))
+          (sym (c.in_ok-read.ensures.reads.sector fair refl lost V rests)) of_format spelled),
     )
 
 pub returns-in_default-clause-spelled : goal.returns-in_default-clause-spelled
 returns-in_default-clause-spelled g c =
     let to = c.read.new.to in
     let there = get_or-set_same c.args.sectors.now 0 to [] (omega (arith, c.told-sectors)) in
-    λ fair none table spelled. absurd (none-some table.version (c.in_default.ensures.exact table.version (is_version table)
+    λ fair none table of_format spelled. absurd (none-some table.version (c.in_default.ensures.exact table.version
+    (in_format c.args.array.now.table.geometry.format table of_format)
     (there ∙ first_spelled (array_view c.args.array.now) (array_view c.read.new.self) to table (c.in_ok-read.ensures.whole fair none) spelled)))
 
 pub slice_bounds-read_from-count : goal.slice_bounds-read_from-count
@@ -78,12 +81,12 @@ returns-clause-gives g c = λ fair. where_ok c.read_from.result (c.read_from.ens
     let there = get_or-set_same c.args.sectors.now 0 to [] (omega (arith, c.told-sectors)) in
     let beyond = length-beyond n c.args.sectors.now to c.told-sectors (omega (arith, is, table_short version)) in
     let many : length part + 1 ≡ n = omega (arith, c.read_from.auto.sectors, beyond, is, table_long version) in
-    gives_table (g.B.Bank.honest c.args.array.now.bank) (array_view c.args.array.now) (array_view c.read.new.self) version n to part _ c.in-Some.ensures.some.0
+    gives_table c.args.array.now.table.geometry.format (g.B.Bank.honest c.args.array.now.bank) (array_view c.args.array.now) (array_view c.read.new.self) version n to part _ c.in-Some.ensures.some.0
     (sym there ∙ c.in-Some.ensures.some.1) is
     (put_is n c.args.sectors.now part to (omega (arith, c.told-sectors)) many) beyond c.in_ok-read.ensures.reads gives fair)
 
 pub returns-clause-spelled : goal.returns-clause-spelled
-returns-clause-spelled g c = λ fair. where_ok c.read_from.result (c.read_from.ensures.reads (c.read.ensures.honest.0 fair)) (λ reads none table spelled.
+returns-clause-spelled g c = λ fair. where_ok c.read_from.result (c.read_from.ensures.reads (c.read.ensures.honest.0 fair)) (λ reads none table of_format spelled.
     let version = c.in-Some.version in
     let to = c.read.new.to in
     let part = c.read_from.new.sectors in
@@ -92,7 +95,7 @@ returns-clause-spelled g c = λ fair. where_ok c.read_from.result (c.read_from.e
     let there = get_or-set_same c.args.sectors.now 0 to [] (omega (arith, c.told-sectors)) in
     let beyond = length-beyond n c.args.sectors.now to c.told-sectors (omega (arith, is, table_short version)) in
     let many : length part + 1 ≡ n = omega (arith, c.read_from.auto.sectors, beyond, is, table_long version) in
-    reads_spelled (array_view c.args.array.now) (array_view c.read.new.self) (array_view c.read_from.new.array) version n to part _ table
+    reads_spelled c.args.array.now.table.geometry.format (array_view c.args.array.now) (array_view c.read.new.self) (array_view c.read_from.new.array) version n to part _ table of_format
     c.in-Some.ensures.some.0 (sym there ∙ c.in-Some.ensures.some.1) is
     (put_is n c.args.sectors.now part to (omega (arith, c.told-sectors)) many) c.in_ok-read.ensures.reads.goes_on c.read_from.ensures.changes.goes_on none
     (c.in_ok-read.ensures.whole fair) (λ up k below. reads up k (omega (arith, below, beyond))) spelled)

@@ -1,5 +1,5 @@
 -- Each commit makes some more blocks zero.
-use Rattle.std.proofs.Common.{◌≡◌, ◌≤◌, ℕ, List, Option, ◌+◌, ◌-◌, length, take, replicate, sym, ◌∙◌, ap, subst, arith}
+use Rattle.std.proofs.Common.{◌≡◌, ◌≤◌, ℕ, Bool, List, Option, ◌+◌, ◌-◌, length, take, replicate, sym, ◌∙◌, ap, subst, arith}
 use Rattle.std.specs.Prelude.{Ok, Err}
 use Rattle.std.proofs.lemmas.Result.{err_from_is_err_and}
 use Rattle.std.proofs.lemmas.List.{length-take, take-replicate}
@@ -11,14 +11,17 @@ use Rattle.extents.specs.declared.owned.Owned.{Owned}
 use Rattle.extents.specs.ExtentMaps.{HasPlace, place_of}
 use Rattle.volume_table.specs.ListChanges.{ChangesList, IsSameOr}
 use Rattle.volume_table.specs.StoreChanges.{IsPartlyZero, IsWrittenAt, IsZeroed}
-use Rattle.volume_table.proofs.ZeroedBlocks.{zeroing_begins, zeroing_goes_on, zeroing_refused}
+use Rattle.volume_table.proofs.ZeroedBlocks.{IsZeroing, zeroing_begins, zeroing_goes_on, zeroing_passes, zeroing_refused}
+use Rattle.volume_table.specs.Stretches.{IsStretch}
+use Rattle.extents.specs.declared.extent_layout.ExtentLayout.{ExtentLayout}
 use Rattle.volume_table.proofs.store.placing.zero_blocks.Goals as goal
 use Rattle.volume_table.specs.declared.event.TheConstants.{MOST_BLOCKS_AT_ONCE}
 use Rattle.array_io.specs.Believed.OpenArray.{array_view}
 use Rattle.extents.specs.SetExtents.{extents_in}
 
 pub loop-at-init : goal.loop-at-init
-loop-at-init g c = zeroing_begins (extents_in c.args.array.now.table.geometry) (g.B.Bank.honest c.args.array.now.bank) c.args.map.now c.args.volume
+loop-at-init g c = zeroing_begins (extents_in c.args.array.now.table.geometry) (g.B.Bank.honest c.args.array.now.bank) c.args.dirty.now c.args.map.now
+    c.args.volume
     c.args.first c.args.last _ c.requires.order
 
 pub write_blocks-requires-clause-sized : goal.write_blocks-requires-clause-sized
@@ -37,13 +40,32 @@ some_zeros : (count : ℕ) → count ≤ MOST_BLOCKS_AT_ONCE → take count (rep
 unfolding zero_block
 some_zeros count within = take-replicate count MOST_BLOCKS_AT_ONCE (replicate 512 0) within
 
+-- the stretch, by where the extents of the set lie
+stretch_in : (geometry : Geometry) (extents : ExtentLayout) (dirty : List Bool) (owners : List (Option Owned)) (number at last end : ℕ) (flag : Bool)
+    → extents ≡ extents_in geometry → IsStretch extents dirty owners number at last end flag
+    → IsStretch (extents_in geometry) dirty owners number at last end flag
+stretch_in geometry extents dirty owners number at last end flag is stretch =
+    subst (λ (e : ExtentLayout). IsStretch e dirty owners number at last end flag) is stretch
+
+pub next_stretch-stretch-requires-clause-placed : goal.next_stretch-stretch-requires-clause-placed
+next_stretch-stretch-requires-clause-placed g c block least most =
+    subst (λ (e : ExtentLayout). HasPlace c.args.map.now c.args.volume (place_of e block)) (sym c.of-extents.ensures)
+    (c.requires.placed block (omega (arith, least, c.loop-at.invariant.least)) most)
+
 pub write_blocks-requires-clause-placed : goal.write_blocks-requires-clause-placed
 write_blocks-requires-clause-placed g c block least most =
-    let long : length (take c.min-count.result (replicate {A = Block} MOST_BLOCKS_AT_ONCE (replicate {A = ℕ} 512 0))) ≤ c.min-count.result =
-    omega (arith, length-take c.min-count.result (replicate {A = Block} MOST_BLOCKS_AT_ONCE (replicate {A = ℕ} 512 0))) in
+    let count : ℕ = c.next_stretch-stretch.result.end - c.loop-at.at in
+    let long : length (take count (replicate {A = Block} MOST_BLOCKS_AT_ONCE (replicate {A = ℕ} 512 0))) ≤ count =
+    omega (arith, length-take count (replicate {A = Block} MOST_BLOCKS_AT_ONCE (replicate {A = ℕ} 512 0))) in
     subst (λ (geometry : Geometry). HasPlace c.args.map.now c.args.volume (place_of (extents_in geometry) block))
     (sym c.loop-at.invariant.changes.goes_on.not_older.same_geometry)
-    (c.requires.placed block (omega (arith, least, c.loop-at.invariant.least)) (omega (arith, most, long, c.min-count.ensures, c.loop-at-test.true)))
+    (c.requires.placed block (omega (arith, least, c.loop-at.invariant.least)) (omega (
+      arith,
+      most,
+      long,
+      c.next_stretch-stretch.ensures.most,
+      c.next_stretch-stretch.ensures.least,
+    )))
 
 pub returns-in_err-write_blocks-clause-honest : goal.returns-in_err-write_blocks-clause-honest
 returns-in_err-write_blocks-clause-honest g c =
@@ -51,39 +73,56 @@ returns-in_err-write_blocks-clause-honest g c =
 
 pub returns-in_err-write_blocks-clause-changes : goal.returns-in_err-write_blocks-clause-changes
 returns-in_err-write_blocks-clause-changes g c =
-    let few : c.min-count.result ≤ MOST_BLOCKS_AT_ONCE = omega (arith, c.min-count.ensures) in
-    let within : c.loop-at.at + c.min-count.result ≤ c.args.last = omega (arith, c.min-count.ensures, c.loop-at-test.true) in
-    let some : 1 ≤ c.min-count.result = omega (arith, c.min-count.ensures, c.loop-at-test.true) in
+    let stretch = c.next_stretch-stretch.ensures in
+    let count : ℕ = c.next_stretch-stretch.result.end - c.loop-at.at in
+    let few : count ≤ MOST_BLOCKS_AT_ONCE = omega (arith, stretch.few c.if-stretch.true, stretch.least) in
+    let within : c.loop-at.at + count ≤ c.args.last = omega (arith, stretch.most, stretch.least) in
+    let some : 1 ≤ count = omega (arith, stretch.least) in
     let p = err_from_is_err_and c.from_residual.result c.from_residual.ensures.1 in
     subst (ChangesList (g.B.Bank.honest c.args.array.now.bank) (c.args.last - c.args.first)
     (IsPartlyZero (extents_in c.args.array.now.table.geometry) c.args.map.now c.args.volume c.args.first c.args.last)
-    (IsZeroed (extents_in c.args.array.now.table.geometry) c.args.map.now c.args.volume c.args.first c.args.last)
+    (IsZeroed (extents_in c.args.array.now.table.geometry) c.args.dirty.now c.args.map.now c.args.volume c.args.first c.args.last)
     (array_view c.args.array.now)
     (array_view c.write_blocks.new.array))
     (sym (p.1 ∙ ap (λ s. Err s) p.2))
     (zeroing_refused (extents_in c.args.array.now.table.geometry) (g.B.Bank.honest c.args.array.now.bank) (g.B.Bank.honest c.loop-at.array.bank)
-    c.args.map.now c.args.volume c.args.first c.args.last
-    c.loop-at.at c.min-count.result
-    (take c.min-count.result (replicate MOST_BLOCKS_AT_ONCE (replicate 512 0))) _ _ _ (some_zeros c.min-count.result few) within some c.loop-at.invariant
+    c.args.dirty.now c.args.map.now c.args.volume c.args.first c.args.last
+    c.loop-at.at count
+    (take count (replicate MOST_BLOCKS_AT_ONCE (replicate 512 0))) _ _ _ (some_zeros count few) within some c.loop-at.invariant
     (g.met.B.Bank.true_to c.loop-at.array.bank) c.in_err-write_blocks.field-0.0
-    (subst (λ (geometry : Geometry). WritesZeros geometry c.args.map.now c.args.volume c.loop-at.at c.min-count.result
+    (subst (λ (geometry : Geometry). WritesZeros geometry c.args.map.now c.args.volume c.loop-at.at count
     (g.B.Bank.honest c.loop-at.array.bank) (array_view c.loop-at.array) (array_view c.write_blocks.new.array) (Err c.in_err-write_blocks.field-0.0))
     c.loop-at.invariant.changes.goes_on.not_older.same_geometry c.in_err-write_blocks.ensures.changes))
 
-pub loop-at-preserved : goal.loop-at-preserved
-loop-at-preserved g c =
-    let few : c.min-count.result ≤ MOST_BLOCKS_AT_ONCE = omega (arith, c.min-count.ensures) in
-    let within : c.loop-at.at + c.min-count.result ≤ c.args.last = omega (arith, c.min-count.ensures, c.loop-at-test.true) in
-    let some : 1 ≤ c.min-count.result = omega (arith, c.min-count.ensures, c.loop-at-test.true) in
-    zeroing_goes_on (extents_in c.args.array.now.table.geometry) (g.B.Bank.honest c.args.array.now.bank) (g.B.Bank.honest c.loop-at.array.bank) c.args.map.now
-    c.args.volume c.args.first c.args.last
-    c.loop-at.at c.min-count.result
-    (take c.min-count.result (replicate MOST_BLOCKS_AT_ONCE (replicate 512 0))) _ _ _ (some_zeros c.min-count.result few) within some c.loop-at.invariant
+pub loop-at-preserved-in_ok-write_blocks : goal.loop-at-preserved-in_ok-write_blocks
+loop-at-preserved-in_ok-write_blocks g c =
+    let stretch = c.next_stretch-stretch.ensures in
+    let end : ℕ = c.next_stretch-stretch.result.end in
+    let count : ℕ = end - c.loop-at.at in
+    let few : count ≤ MOST_BLOCKS_AT_ONCE = omega (arith, stretch.few c.if-stretch.true, stretch.least) in
+    let within : c.loop-at.at + count ≤ c.args.last = omega (arith, stretch.most, stretch.least) in
+    let some : 1 ≤ count = omega (arith, stretch.least) in
+    let next : c.loop-at.at + count ≡ end = omega (arith, stretch.least) in
+    subst (λ (at : ℕ). IsZeroing (extents_in c.args.array.now.table.geometry) (g.B.Bank.honest c.args.array.now.bank)
+    (g.B.Bank.honest c.write_blocks.new.array.bank) c.args.dirty.now c.args.map.now c.args.volume c.args.first c.args.last at
+    (array_view c.args.array.now) (array_view c.write_blocks.new.array)) next
+    (zeroing_goes_on (extents_in c.args.array.now.table.geometry) (g.B.Bank.honest c.args.array.now.bank) (g.B.Bank.honest c.loop-at.array.bank)
+    c.args.dirty.now c.args.map.now c.args.volume c.args.first c.args.last
+    c.loop-at.at count
+    (take count (replicate MOST_BLOCKS_AT_ONCE (replicate 512 0))) _ _ _ (some_zeros count few) within some c.loop-at.invariant
     (g.met.B.Bank.true_to c.loop-at.array.bank) (g.B.Bank.honest c.write_blocks.new.array.bank) c.in_ok-write_blocks.ensures.honest.0
     c.in_ok-write_blocks.ensures.honest.1
-    (subst (λ (geometry : Geometry). WritesZeros geometry c.args.map.now c.args.volume c.loop-at.at c.min-count.result
+    (subst (λ (geometry : Geometry). WritesZeros geometry c.args.map.now c.args.volume c.loop-at.at count
     (g.B.Bank.honest c.loop-at.array.bank) (array_view c.loop-at.array) (array_view c.write_blocks.new.array) (Ok tt))
-    c.loop-at.invariant.changes.goes_on.not_older.same_geometry c.in_ok-write_blocks.ensures.changes)
+    c.loop-at.invariant.changes.goes_on.not_older.same_geometry c.in_ok-write_blocks.ensures.changes))
+
+pub loop-at-preserved : goal.loop-at-preserved
+loop-at-preserved g c =
+    let geometry = c.args.array.now.table.geometry in
+    zeroing_passes (extents_in geometry) (g.B.Bank.honest c.args.array.now.bank) (g.B.Bank.honest c.loop-at.array.bank) c.args.dirty.now c.args.map.now
+    c.args.volume c.args.first c.args.last c.loop-at.at c.next_stretch-stretch.result.end c.next_stretch-stretch.result.dirty _ _
+    (stretch_in geometry c.of-extents.result c.args.dirty.now c.args.map.now c.args.volume c.loop-at.at c.args.last c.next_stretch-stretch.result.end
+    c.next_stretch-stretch.result.dirty c.of-extents.ensures c.next_stretch-stretch.ensures) c.if-stretch.false c.loop-at.invariant
 
 pub returns-clause-honest : goal.returns-clause-honest
 returns-clause-honest g c = (c.loop-at.invariant.forth, c.loop-at.invariant.back)
@@ -93,6 +132,6 @@ returns-clause-changes g c =
     let same : c.loop-at.at ≡ c.args.last = omega (arith, c.loop-at-test.false, c.loop-at.invariant.most) in
     subst (λ (at : ℕ). ChangesList (g.B.Bank.honest c.args.array.now.bank) (at - c.args.first)
     (IsPartlyZero (extents_in c.args.array.now.table.geometry) c.args.map.now c.args.volume c.args.first c.args.last)
-    (IsZeroed (extents_in c.args.array.now.table.geometry) c.args.map.now c.args.volume c.args.first at)
+    (IsZeroed (extents_in c.args.array.now.table.geometry) c.args.dirty.now c.args.map.now c.args.volume c.args.first at)
     (array_view c.args.array.now)
     (array_view c.loop-at.array) (Ok tt)) same c.loop-at.invariant.changes

@@ -1,0 +1,2 @@
+mod Doubling
+pub mod Growing

@@ -17,10 +17,10 @@ pub mod FormedEntry
 pub mod FormedRows
 pub mod HeldSectors
 pub mod LoadingEntries
+pub mod PlannedRows
 pub mod PutAtRest
 pub mod PuttingParts
 pub mod PuttingRows
 pub mod PuttingStates
 pub mod PuttingSteps
 pub mod ReadingSteps
-pub mod RisingRows

@@ -1,146 +1,67 @@
 //! The rows of a commit, formed in the entry's buffer.
-ghost use Rattle.std.specs.Prelude.{◌≡◌, ◌≢◌, ◌⊎◌, ◌≤◌, ◌<◌, ◌+◌, ◌-◌, ◌↔◌, ℕ, IsTrue, OnOk, if◌then◌else◌, length};
+ghost use Rattle.std.specs.Prelude.{◌≡◌, ◌≢◌, ◌≤◌, ◌<◌, ◌-◌, ◌↔◌, ℕ, IsTrue, OnOk, if◌then◌else◌, length};
 ghost use Rattle.std.specs.Prelude.{not, true};
-ghost use Rattle.std.specs.List.Sorted.{IsStrictlyIncreasing};
 ghost use Rattle.layout_map.specs.Placement.{rows_of};
-ghost use Rattle.layout_map.specs.declared.sizes.TheConstants.{ENTRY_ROWS, MOST_MEMBERS};
+ghost use Rattle.layout_map.specs.declared.sizes.TheConstants.{MOST_MEMBERS};
 ghost use Rattle.parity.specs.Xor.{zero_sector};
+ghost use Rattle.entry_runs.specs.Built.{runs_in};
 ghost use Rattle.stripe_journal.specs.Entries.{form_of, numbers_of, row_mask, sector_at};
 ghost use Rattle.stripe_journal.specs.Forms.{has_bit};
 ghost use Rattle.stripe_journal.specs.Seals.{row_at};
 ghost use Rattle.degraded.specs.LiveView.{slots_of};
 ghost use Rattle.degraded.specs.ReadMember.{is_read};
-ghost use Rattle.array_io.specs.Believed.ArrayCalls.{MayCommit};
+ghost use Rattle.array_io.specs.Believed.ArrayCalls.{MayForm};
 ghost use Rattle.array_io.specs.Believed.Views.{HasItsSlots};
 ghost use Rattle.array_io.specs.Steps.FillingRows.{FormsRow, SumsRow, reads_below};
-ghost use Rattle.array_io.specs.Steps.FormingRows.{AreApart, AreOfSet, AreRowsOf, AreRowsOfSet, FormsListed};
-ghost use Rattle.array_io.specs.Steps.FormingRows.{HasParityOn, HasRow, HasSoundRow, HoldsChanged, HoldsGiven};
-ghost use Rattle.array_io.specs.Steps.FormingRows.{IsChanged, IsGiven};
+ghost use Rattle.array_io.specs.Steps.FormingRows.{AreRowsOf, AreRowsOfSet, FormsListed, HasParityOn, HasPut};
+ghost use Rattle.array_io.specs.Steps.FormingRows.{HasRoomFor, HasRowFrom, HasSoundRow, HoldsChanged, IsPlanned};
 ghost use Rattle.array_io.specs.Steps.ReadingOn.{Between, KeepsFrom, KeepsOn};
 
 use crate::array::read::read_value;
 use crate::liveness::live_of;
-use arrayvec::ArrayVec;
+use batch::Placed;
 use degraded::Live;
-use layout_map::{ENTRY_ROWS, Geometry};
+use entry_runs::RunsBuilder;
 use parity::{delta, xor_into};
 use sector_model::{Bank, Refusal, Sector};
 use stripe_journal::Entry;
 use superblock::Table;
 
-// The place in rising rows of the first row that is not below this one, or the rows' number.
-fn place_in(rows: &[u32], row: u32) -> usize
-    ensures within { result ≤ length rows.now }
-    ensures below { (i : ℕ) → i < result → row_at rows.now i < row }
-    ensures reached { result < length rows.now → row ≤ row_at rows.now result }
+/// What a commit is given: logical sectors, where they lie, and the rows that change by them.
+#[derive(Clone, Copy)]
+pub(crate) struct Writes<'a> {
+    /// The sectors, each with what is written there.
+    pub sectors: &'a [(u64, Sector)],
+    /// Where they lie, by row and then by member.
+    pub places: &'a [Placed],
+    /// The rows that change, with the members whose sectors do.
+    pub rows: &'a RunsBuilder,
+}
+
+// The row of an entry with this number, which one of its rows from the i-th on has (condition).
+fn row_from(entry: &Entry, i: usize, row: u32) -> usize
+    requires { HasRowFrom (numbers_of entry.now) i row }
+    ensures within { result < length (numbers_of entry.now) }
+    ensures is { row_at (numbers_of entry.now) result ≡ row }
 {
-    for (i, other) in rows.iter().enumerate() {
-        if *other >= row {
-            return i;
+    for at in i..entry.len() {
+        if entry.row(at) == row {
+            return at;
         }
     }
-    rows.len()
-}
-
-// Whether this row stands at this place.
-fn is_at(rows: &[u32], place: usize, row: u32) -> bool
-    ensures { IsTrue result ↔ ((place < length rows.now) × (row_at rows.now place ≡ row)) }
-{
-    place < rows.len() && rows[place] == row
-}
-
-// Puts a row among rising rows, of which there are fewer than 32, where it is not one of them.
-fn add_row(rows: &mut ArrayVec<u32, ENTRY_ROWS>, row: u32)
-    requires rising { IsStrictlyIncreasing rows.old.items }
-    requires room { length rows.old.items < ENTRY_ROWS }
-    ensures few { length rows.new.items ≤ length rows.old.items + 1 }
-    ensures rising { IsStrictlyIncreasing rows.new.items }
-    ensures has { HasRow rows.new.items row }
-    ensures keeps { (other : ℕ) → HasRow rows.old.items other → HasRow rows.new.items other }
-    ensures only { (i : ℕ) → i < length rows.new.items → HasRow rows.old.items (row_at rows.new.items i)
-        ⊎ (row_at rows.new.items i ≡ row) }
-{
-    let place = place_in(rows, row);
-    if !is_at(rows, place, row) {
-        rows.insert(place, row);
-    }
-}
-
-// The rows in which the given sectors lie, rising.
-fn touched_rows(geometry: &Geometry, sectors: &[(u64, Sector)]) -> ArrayVec<u32, ENTRY_ROWS>
-    requires least { 1 ≤ length sectors.now }
-    requires most { length sectors.now ≤ ENTRY_ROWS }
-    requires of_set { AreOfSet geometry.now sectors.now }
-    ensures { AreRowsOf geometry.now sectors.now result.items }
-{
-    let mut rows = ArrayVec::new();
-    for sector in sectors {
-        let place = geometry.place(sector.0);
-        add_row(&mut rows, place.row as u32);
-    }
-    rows
-}
-
-// The mask with the bit of this member too.
-fn with_bit(mask: u8, member: u8) -> u8
-    requires { member < MOST_MEMBERS }
-    ensures has { has_bit result member ≡ true }
-    ensures others { (other : ℕ) → other ≢ member → has_bit result other ≡ has_bit mask other }
-{
-    mask | 1 << member
-}
-
-// The mask of what a commit of the given sectors changes in a row: the bit of the member with the row's parity, and of
-// each on which a given sector lies there.
-fn changed_mask(geometry: &Geometry, sectors: &[(u64, Sector)], row: u32) -> u8
-    requires of_set { AreOfSet geometry.now sectors.now }
-    requires row { row < rows_of geometry.now.chunk geometry.now.stripes }
-    ensures { (member : ℕ) → (has_bit result member ≡ true) ↔ IsChanged geometry.now sectors.now row member }
-{
-    let parity = geometry.parity_member(u64::from(row));
-    let mut mask = with_bit(0, parity);
-    for sector in sectors {
-        let place = geometry.place(sector.0);
-        if place.row == u64::from(row) {
-            mask = with_bit(mask, place.member);
-        }
-    }
-    mask
-}
-
-// Makes these rows, of zeros, the rows of the entry, which holds what the given sectors change.
-fn begin_rows(geometry: &Geometry, sectors: &[(u64, Sector)], rows: &[u32], entry: &mut Entry)
-    requires rows { AreRowsOf geometry.now sectors.now rows.now }
-    requires of_set { AreOfSet geometry.now sectors.now }
-    ensures numbers { numbers_of entry.new ≡ rows.now }
-    ensures held { HoldsChanged geometry.now sectors.now entry.new }
-    ensures zeros { (i member : ℕ) → i < length rows.now → member < MOST_MEMBERS
-        → has_bit (row_mask entry.new i) member ≡ true → sector_at entry.new i member ≡ zero_sector }
-{
-    entry.clear();
-    for row in rows {
-        entry.push(*row, changed_mask(geometry, sectors, *row));
-    }
+    unreachable!()
 }
 
 // Puts each given sector at its place in the entry, which holds it.
-fn put_given(geometry: &Geometry, rows: &[u32], sectors: &[(u64, Sector)], entry: &mut Entry)
-    requires rows { AreRowsOf geometry.now sectors.now rows.now }
-    requires of_set { AreOfSet geometry.now sectors.now }
-    requires apart { AreApart sectors.now }
-    requires numbers { numbers_of entry.old ≡ rows.now }
-    requires held { HoldsChanged geometry.now sectors.now entry.old }
-    ensures numbers { numbers_of entry.new ≡ numbers_of entry.old }
+fn put_given(sectors: &[(u64, Sector)], places: &[Placed], entry: &mut Entry)
+    requires { HasRoomFor sectors.now places.now entry.old }
     ensures form { form_of entry.new ≡ form_of entry.old }
-    ensures given { HoldsGiven geometry.now sectors.now entry.new }
-    ensures others { (i member : ℕ) → i < length rows.now → member < MOST_MEMBERS
-        → ¬ IsGiven geometry.now sectors.now (row_at rows.now i) member
-        → sector_at entry.new i member ≡ sector_at entry.old i member }
+    ensures given { HasPut sectors.now places.now (length places.now) entry.new }
 {
-    for sector in sectors {
-        let place = geometry.place(sector.0);
-        let i = place_in(rows, place.row as u32);
-        *entry.sector_mut(i, place.member) = sector.1;
+    let mut i = 0;
+    for placed in places {
+        i = row_from(entry, i, placed.row);
+        *entry.sector_mut(i, placed.member) = sectors[usize::from(placed.at)].1;
     }
 }
 
@@ -269,7 +190,21 @@ fn sum_row<B: Bank>(
     }
 }
 
-// Puts the parity of the i-th row in its place in the entry, which holds it, and has zeros there.
+// Makes the sector of a member zero, which the entry holds of the i-th row.
+fn clear_sector(entry: &mut Entry, i: usize, member: u8)
+    requires row { i < length (numbers_of entry.old) }
+    requires member { member < MOST_MEMBERS }
+    requires held { has_bit (row_mask entry.old i) member ≡ true }
+    ensures form { form_of entry.new ≡ form_of entry.old }
+    ensures zero { sector_at entry.new i member ≡ zero_sector }
+    ensures others { (k other : ℕ) → other < MOST_MEMBERS → (k ≡ i → other ≢ member)
+        → sector_at entry.new k other ≡ sector_at entry.old k other }
+{
+    let zeros = [0; 512];
+    *entry.sector_mut(i, member) = zeros;
+}
+
+// Puts the parity of the i-th row in its place in the entry, which holds it.
 fn form_row<B: Bank>(
     bank: &mut B,
     table: &mut Table,
@@ -282,86 +217,81 @@ fn form_row<B: Bank>(
     requires place { i < length (numbers_of entry.old) }
     requires held { (member : ℕ) → HasParityOn table.old.geometry row member
         → has_bit (row_mask entry.old i) member ≡ true }
-    requires zeros { (member : ℕ) → HasParityOn table.old.geometry row member
-        → sector_at entry.old i member ≡ zero_sector }
     ensures honest { B.honest bank.old ↔ B.honest bank.new }
     ensures its_slots { HasItsSlots table.new (B.panel bank.new) }
     ensures forms { FormsRow (B.honest bank.old) i row entry.old entry.new table.old table.new
         (B.panel bank.old) (B.panel bank.new) (B.history bank.old) (B.history bank.new) result }
 {
     let parity = table.geometry.parity_member(u64::from(row));
+    clear_sector(entry, i, parity);
     let mut sum = [0; 512];
     sum_row(bank, table, entry, i, row, &mut sum)?;
     *entry.sector_mut(i, parity) = sum;
     Ok(())
 }
 
-// Puts the parity of each row in its place in the entry, which holds it, and has zeros there.
+// Puts the parity of each row in its place in the entry, which holds it.
 fn form_parities<B: Bank>(
     bank: &mut B,
     table: &mut Table,
-    rows: &[u32],
     entry: &mut Entry,
 ) -> Result<(), Refusal>
     requires its_slots { HasItsSlots table.old (B.panel bank.old) }
-    requires rows { AreRowsOfSet table.old.geometry rows.now }
-    requires numbers { numbers_of entry.old ≡ rows.now }
-    requires held { (i member : ℕ) → i < length rows.now → HasParityOn table.old.geometry (row_at rows.now i) member
+    requires rows { AreRowsOfSet table.old.geometry (numbers_of entry.old) }
+    requires held { (i member : ℕ) → i < length (numbers_of entry.old)
+        → HasParityOn table.old.geometry (row_at (numbers_of entry.old) i) member
         → has_bit (row_mask entry.old i) member ≡ true }
-    requires zeros { (i member : ℕ) → i < length rows.now → HasParityOn table.old.geometry (row_at rows.now i) member
-        → sector_at entry.old i member ≡ zero_sector }
     ensures honest { B.honest bank.old ↔ B.honest bank.new }
     ensures its_slots { HasItsSlots table.new (B.panel bank.new) }
     ensures steps { KeepsOn (B.honest bank.old) table.old table.new (B.panel bank.old) (B.panel bank.new)
         (B.history bank.old) (B.history bank.new) result }
-    ensures numbers { numbers_of entry.new ≡ numbers_of entry.old }
     ensures form { form_of entry.new ≡ form_of entry.old }
     ensures sound { (number i : ℕ) (from : KeepsFrom) → B.honest bank.old
         → Between (B.panel bank.old).devices number from table.old (B.history bank.old)
-        → i < length rows.now → OnOk result
-        (HasSoundRow table.old.geometry from.logical entry.new i (row_at rows.now i)) }
+        → i < length (numbers_of entry.old) → OnOk result
+        (HasSoundRow table.old.geometry from.logical entry.new i (row_at (numbers_of entry.old) i)) }
     ensures others { (i member : ℕ) → member < MOST_MEMBERS
-        → ¬ HasParityOn table.old.geometry (row_at rows.now i) member
+        → ¬ HasParityOn table.old.geometry (row_at (numbers_of entry.old) i) member
         → sector_at entry.new i member ≡ sector_at entry.old i member }
 {
-    for (i, row) in rows.iter().enumerate() {
-        form_row(bank, table, i, *row, entry)?;
+    for i in 0..entry.len() {
+        let row = entry.row(i);
+        form_row(bank, table, i, row, entry)?;
     }
     Ok(())
 }
 
-/// Forms the rows of these logical sectors, 1 to 32 distinct ones (conditions), as the rows of the entry. Of each row
-/// it holds the given data and the parity, and no other sector. What the parity takes is read in one of two ways, each
-/// member's part once: what the members had of the sectors that the entry holds, or of the others, whichever takes
-/// fewer reads. One sector is read for a member whose own sector counts by the table, and for another one those of all
-/// others. A member whose device goes down meanwhile is marked missing, and its part is read without it.
+/// Forms the rows that given logical sectors change, as the rows of the entry. Of each row it holds the given data and
+/// the parity, and no other sector. What the parity takes is read in one of two ways, each member's part once: what the
+/// members had of the sectors that the entry holds, or of the others, whichever takes fewer reads. One sector is read
+/// for a member whose own sector counts by the table, and for another one those of all others. A member whose device
+/// goes down meanwhile is marked missing, and its part is read without it.
 ///
-/// The set's slots are slots of the bank, and each that the table does not call missing is long enough where it is up
+/// The sectors are of the set, 1 at least and none twice, and the rows are planned by where they lie (conditions). The
+/// set's slots are slots of the bank, and each that the table does not call missing is long enough where it is up
 /// (condition). Refused as `read_value` is, and the entry then means nothing.
 pub(crate) fn form_rows<B: Bank>(
     bank: &mut B,
     table: &mut Table,
-    sectors: &[(u64, Sector)],
+    writes: &Writes,
     entry: &mut Entry,
 ) -> Result<(), Refusal>
     requires its_slots { HasItsSlots table.old (B.panel bank.old) }
-    requires may { MayCommit table.old sectors.now }
+    requires may { MayForm table.old writes.now.sectors.now }
+    requires planned { IsPlanned table.old.geometry writes.now.sectors.now writes.now.places.now (runs_in writes.now.rows.now) }
     ensures honest { B.honest bank.old ↔ B.honest bank.new }
     ensures its_slots { HasItsSlots table.new (B.panel bank.new) }
     ensures steps { KeepsOn (B.honest bank.old) table.old table.new (B.panel bank.old) (B.panel bank.new)
         (B.history bank.old) (B.history bank.new) result }
-    ensures rows { OnOk result (AreRowsOf table.old.geometry sectors.now (numbers_of entry.new)) }
-    ensures held { OnOk result (HoldsChanged table.old.geometry sectors.now entry.new) }
+    ensures rows { OnOk result (AreRowsOf table.old.geometry writes.now.sectors.now (numbers_of entry.new)) }
+    ensures held { OnOk result (HoldsChanged table.old.geometry writes.now.sectors.now entry.new) }
     ensures formed { (number : ℕ) (from : KeepsFrom) → B.honest bank.old
         → Between (B.panel bank.old).devices number from table.old (B.history bank.old)
-        → OnOk result (FormsListed table.old.geometry sectors.now from.logical entry.new) }
+        → OnOk result (FormsListed table.old.geometry writes.now.sectors.now from.logical entry.new) }
 {
-    let geometry = table.geometry;
-    let touched = touched_rows(&geometry, sectors);
-    let rows = touched.as_slice();
-    begin_rows(&geometry, sectors, rows, entry);
-    put_given(&geometry, rows, sectors, entry);
-    form_parities(bank, table, rows, entry)
+    entry.set_rows(writes.rows);
+    put_given(writes.sectors, writes.places, entry);
+    form_parities(bank, table, entry)
 }
 
 #[cfg(test)]

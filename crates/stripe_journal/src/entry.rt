@@ -124,6 +124,16 @@ impl Entry {
         }
     }
 
+    /// Makes its rows those of a builder. Of their sectors nothing is said.
+    pub fn set_rows(&mut self, rows: &RunsBuilder)
+        ensures { runs_in self.new.runs ≡ runs_in rows.now }
+    {
+        match rows.to_runs() {
+            Some(runs) => self.runs.set(&runs),
+            None => self.runs.clear(),
+        }
+    }
+
     // Makes its rows these, at most 32 rising rows, with their masks, each of two bits at least (conditions).
     fn set_listed(&mut self, rows: &[u32], masks: &[u8; ENTRY_ROWS])
         requires few { length rows.now ≤ ENTRY_ROWS }

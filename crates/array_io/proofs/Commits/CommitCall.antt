@@ -30,7 +30,7 @@ use Rattle.stripe_journal.specs.Seals.{row_at}
 use Rattle.stripe_journal.proofs.HeldEntries.{entry_of_form, holds_bits, length_of_seal, none_of_zeros, rank_of_seal}
 use Rattle.degraded.specs.RowValue.{Rows, logical_list, value}
 use Rattle.degraded.proofs.Values.{length-value}
-use Rattle.array_io.specs.Believed.ArrayCalls.{Answer, Commits, MayCommit, written}
+use Rattle.array_io.specs.Believed.ArrayCalls.{Answer, Commits, MayForm, written}
 use Rattle.array_io.specs.Steps.CallSteps.{StepsOf}
 use Rattle.array_io.specs.Steps.Forming.{IsFormed}
 use Rattle.array_io.proofs.Commits.EntryValues.{values_of}
@@ -187,7 +187,7 @@ module _ (spellings : Spellings) (honest : Type 0) (number : ℕ) (sectors : Giv
 
   -- its rows were formed
 
-  module _ (still : Type 0) (more : honest → still) (may : MayCommit table sectors) (seal : Seal)
+  module _ (still : Type 0) (more : honest → still) (may : MayForm table sectors) (seal : Seal)
       (entry : Entry) (steps : KeepsOn honest table table1 panel panel1 h h1 (Ok tt))
       (formed : (number : ℕ) (from : KeepsFrom) → honest → Between panel.devices number from table h → FormsListed table.geometry sectors from.logical entry)
       (its_id : seal.id ≡ table1.id) (its_number : seal.number ≡ number + 1) (its_form : IsFormOf entry table1.geometry.format seal.form) where

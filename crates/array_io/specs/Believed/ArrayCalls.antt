@@ -3,6 +3,7 @@ use Rattle.std.specs.Prelude.{◌≡◌, ◌≢◌, ◌⊎◌, ℕ, ◌+◌, ◌
 use Rattle.sector_model.specs.declared.calls.TheConstants.{GREATEST_COUNT}
 use Rattle.sector_model.specs.declared.refusal.Refusal.{Refusal}
 use Rattle.sector_model.specs.History.{Bytes}
+use Rattle.layout_map.specs.declared.format.Format.TheVariants.{One}
 use Rattle.layout_map.specs.Placement.{data_sectors_of}
 use Rattle.layout_map.specs.declared.sizes.TheConstants.{ENTRY_ROWS}
 use Rattle.superblock.specs.declared.state.State.TheVariants.{Missing}
@@ -38,6 +39,14 @@ pub record Reads (honest : Type 0) (logical : ℕ) (old new : ArrayView) (to : B
   pub keeps : KeepsTheList honest old new (HasEnded answer)
   pub sector : honest → answer ≡ Ok tt → (lost : Option Lost) (V : List Bytes) → RestsOn old lost V → to ≡ slice_index_or V logical []
   pub cause : (refusal : Refusal) → answer ≡ Err refusal → IsEndOf old new ⊥ refusal
+
+-- what may be written by one entry: logical sectors of the set, 1 at least and none twice; in a set of format 1 at most 32
+pub record MayForm (table : Table) (sectors : List (ℕ × Bytes)) : Type 0 where
+  pub least : 1 ≤ length sectors
+  pub few : table.geometry.format ≡ One → length sectors ≤ ENTRY_ROWS
+  pub of_set : (i : ℕ) → i < length sectors → (slice_index_or sectors i (0, [])).0 < data_sectors_of table.geometry.members table.geometry.chunk
+      table.geometry.stripes
+  pub apart : (i j : ℕ) → i < j → j < length sectors → (slice_index_or sectors i (0, [])).0 ≢ (slice_index_or sectors j (0, [])).0
 
 -- the condition of `commit`: 1 to 32 distinct logical sectors of the set
 pub record MayCommit (table : Table) (sectors : List (ℕ × Bytes)) : Type 0 where

@@ -4,32 +4,19 @@ use Rattle.std.specs.List.{range_with_len}
 use Rattle.std.specs.List.Sorted.{IsStrictlyIncreasing}
 use Rattle.sector_model.specs.History.{Bytes}
 use Rattle.layout_map.specs.declared.geometry.Geometry.{Geometry}
-use Rattle.layout_map.specs.Placement.{IsParityOf, IsPlace, data_sectors_of, rows_of}
-use Rattle.layout_map.specs.declared.sizes.TheConstants.{ENTRY_ROWS}
+use Rattle.layout_map.specs.Placement.{data_sectors_of, rows_of}
+use Rattle.layout_map.specs.declared.sizes.TheConstants.{MOST_MEMBERS}
 use Rattle.parity.specs.Xor.{IsSoundRow}
+use Rattle.entry_runs.specs.declared.run.Run.{Run}
+use Rattle.entry_runs.specs.WrittenOut.{masks_of_runs, rows_of_runs}
+use Rattle.batch.specs.declared.placed.Placed.{Placed}
+use Rattle.batch.specs.Places.{AreApart, AreOfSet, ArePlacesOf, ArePlanned, AreRising, Given, HasParityOn, HasRow, LiesAt, bytes_at, logical_at, placed_at}
 use Rattle.stripe_journal.specs.declared.entry.Entry.{Entry}
 use Rattle.stripe_journal.specs.Entries.{numbers_of, row_mask, sector_at}
 use Rattle.stripe_journal.specs.Forms.{has_bit}
 use Rattle.stripe_journal.specs.Seals.{row_at}
 
--- the logical sectors that are given, each with its bytes
-abbrev pub Given : Type 0
-Given = List (ℕ × Bytes)
-
--- the number of one of them, and its bytes
-abbrev pub logical_at : Given → ℕ → ℕ
-logical_at sectors k = (slice_index_or sectors k (0, [])).0
-
-abbrev pub bytes_at : Given → ℕ → Bytes
-bytes_at sectors k = (slice_index_or sectors k (0, [])).1
-
--- the logical sector lies on this member in this row
-abbrev pub LiesAt : Geometry → (logical row member : ℕ) → Type 0
-LiesAt geometry logical row member = IsPlace geometry.members geometry.chunk logical member row
-
--- the row's parity is on this member
-abbrev pub HasParityOn : Geometry → (row member : ℕ) → Type 0
-HasParityOn geometry row member = IsParityOf geometry.members geometry.chunk row member
+pub use Rattle.batch.specs.Places.{AreApart, AreOfSet, Given, HasParityOn, HasRow, LiesAt, bytes_at, logical_at}
 
 -- one of the first so many of the given sectors lies there
 pub record IsGivenBy (geometry : Geometry) (sectors : Given) (count row member : ℕ) : Type 0 where
@@ -40,12 +27,6 @@ pub record IsGivenBy (geometry : Geometry) (sectors : Given) (count row member :
 -- a given sector lies there
 abbrev pub IsGiven : Geometry → Given → (row member : ℕ) → Type 0
 IsGiven geometry sectors row member = IsGivenBy geometry sectors (length sectors) row member
-
--- the row is one of these
-pub record HasRow (rows : List ℕ) (row : ℕ) : Type 0 where
-  pub place : ℕ
-  pub within : place < length rows
-  pub is : row_at rows place ≡ row
 
 -- each of the given sectors lies in one of the rows
 abbrev pub HaveRows : Geometry → Given → List ℕ → Type 0
@@ -71,26 +52,45 @@ abbrev pub HoldsChanged : Geometry → Given → Entry → Type 0
 HoldsChanged geometry sectors entry = (i member : ℕ) → i < length (numbers_of entry)
     → (has_bit (row_mask entry i) member ≡ true) ↔ IsChanged geometry sectors (row_at (numbers_of entry) i) member
 
--- no logical sector is given twice
-abbrev pub AreApart : Given → Type 0
-AreApart sectors = (i j : ℕ) → i < j → j < length sectors → logical_at sectors i ≢ logical_at sectors j
-
--- the given sectors are of the set
-abbrev pub AreOfSet : Geometry → Given → Type 0
-AreOfSet geometry sectors = (k : ℕ) → k < length sectors → logical_at sectors k < data_sectors_of geometry.members geometry.chunk geometry.stripes
-
 -- the rows are of the set
 abbrev pub AreRowsOfSet : Geometry → List ℕ → Type 0
 AreRowsOfSet geometry rows = (i : ℕ) → i < length rows → row_at rows i < rows_of geometry.chunk geometry.stripes
 
--- The rows of the given sectors: 1 to 32 rows of the set, each below the next; those in which a given sector lies, and no other.
+-- The rows of the given sectors: rows of the set, each below the next; those in which a given sector lies, and no other.
 pub record AreRowsOf (geometry : Geometry) (sectors : Given) (rows : List ℕ) : Type 0 where
   pub least : 1 ≤ length rows
-  pub most : length rows ≤ ENTRY_ROWS
+  pub few : length rows ≤ length sectors
   pub rising : IsStrictlyIncreasing rows
   pub of_set : AreRowsOfSet geometry rows
   pub each : HaveRows geometry sectors rows
   pub only : (i : ℕ) → i < length rows → IsTouchedBy geometry sectors (length sectors) (row_at rows i)
+
+-- The given sectors have these places, and the rows that a commit of them changes are those of these runs.
+pub record IsPlanned (geometry : Geometry) (sectors : Given) (places : List Placed) (runs : List Run) : Type 0 where
+  pub placed : ArePlacesOf geometry sectors places
+  pub planned : ArePlanned geometry places (rows_of_runs runs) (masks_of_runs runs)
+
+-- The entry holds a sector at each of these places, and each is that of one of the given sectors.
+pub record HasRoomFor (sectors : Given) (places : List Placed) (entry : Entry) : Type 0 where
+  pub rising : AreRising places
+  pub within : (j : ℕ) → j < length places → (placed_at places j).at < length sectors
+  pub members : (j : ℕ) → j < length places → (placed_at places j).member < MOST_MEMBERS
+  pub rows : IsStrictlyIncreasing (numbers_of entry)
+  pub each : (j : ℕ) → j < length places → HasRow (numbers_of entry) (placed_at places j).row
+  pub held : (i j : ℕ) → i < length (numbers_of entry) → j < length places → row_at (numbers_of entry) i ≡ (placed_at places j).row
+      → has_bit (row_mask entry i) (placed_at places j).member ≡ true
+
+-- The entry has the given sector at each of the first so many places.
+abbrev pub HasPut : (sectors : Given) (places : List Placed) (count : ℕ) → Entry → Type 0
+HasPut sectors places count entry = (i j : ℕ) → i < length (numbers_of entry) → j < count → row_at (numbers_of entry) i ≡ (placed_at places j).row
+    → sector_at entry i (placed_at places j).member ≡ bytes_at sectors (placed_at places j).at
+
+-- one of the rows from the i-th on is this one
+pub record HasRowFrom (rows : List ℕ) (i row : ℕ) : Type 0 where
+  pub place : ℕ
+  pub from : i ≤ place
+  pub within : place < length rows
+  pub is : row_at rows place ≡ row
 
 -- Each given sector stands at its place in the entry.
 abbrev pub HoldsGiven : Geometry → Given → Entry → Type 0

@@ -1,14 +1,19 @@
 //! Logical sectors are written, all of them or none.
 ghost use Rattle.std.specs.Prelude.{◌≡◌, ◌≤◌, ◌<◌, ◌+◌, ◌^◌, ◌↔◌, ℕ, count_ones, length};
+ghost use Rattle.layout_map.specs.declared.format.Format.TheVariants.{One};
 ghost use Rattle.layout_map.specs.declared.sizes.TheConstants.{ENTRY_ROWS};
 ghost use Rattle.sector_model.specs.declared.calls.TheConstants.{GREATEST_COUNT};
 ghost use Rattle.stripe_journal.specs.Entries.{IsFormOf, numbers_of, row_mask};
-ghost use Rattle.array_io.specs.Believed.ArrayCalls.{Commits, MayCommit};
+ghost use Rattle.entry_runs.specs.Built.{runs_in};
+ghost use Rattle.array_io.specs.Believed.ArrayCalls.{Commits, MayCommit, MayForm};
 ghost use Rattle.array_io.specs.Believed.OpenArray.{IsHonest, array_view};
+ghost use Rattle.array_io.specs.Steps.FormingRows.{IsPlanned};
 
 use super::put::{put_on_journals, put_on_members};
 use crate::Array;
-use crate::forming::form_rows;
+use crate::forming::{Writes, form_rows};
+use batch::{Places, plan_rows};
+use entry_runs::RunsBuilder;
 use sector_model::{Bank, GREATEST_COUNT, Refusal, Sector};
 use stripe_journal::{Entry, Seal};
 use superblock::Table;
@@ -29,10 +34,32 @@ impl<B: Bank> Array<B> {
         ensures honest { IsHonest self.old ↔ IsHonest self.new }
         ensures commits { Commits (IsHonest self.old) sectors.now (array_view self.old) (array_view self.new) result }
     {
+        let geometry = self.table.geometry;
+        let places = Places::of(&geometry, sectors);
+        let mut rows = RunsBuilder::new();
+        if !plan_rows(&geometry, places.as_slice(), &mut rows) {
+            unreachable!();
+        }
+        self.commit_planned(&Writes {
+            sectors,
+            places: places.as_slice(),
+            rows: &rows,
+        })
+    }
+
+    // Writes logical sectors of the set, 1 at least and none twice, whose rows are planned (conditions), by one entry.
+    fn commit_planned(&mut self, writes: &Writes) -> Result<(), Refusal>
+        requires may { MayForm self.old.table writes.now.sectors.now }
+        requires planned { IsPlanned self.old.table.geometry writes.now.sectors.now writes.now.places.now
+            (runs_in writes.now.rows.now) }
+        ensures honest { IsHonest self.old ↔ IsHonest self.new }
+        ensures commits { Commits (IsHonest self.old) writes.now.sectors.now (array_view self.old) (array_view self.new)
+            result }
+    {
         if self.entry >= GREATEST_COUNT {
             return Err(Refusal::Worn);
         }
-        form_rows(&mut self.bank, &mut self.table, sectors, &mut self.buffer)?;
+        form_rows(&mut self.bank, &mut self.table, writes, &mut self.buffer)?;
         let seal = next_seal(&self.table, self.entry, &self.buffer);
         put_on_journals(&mut self.bank, &mut self.table, &seal, &self.buffer)?;
         put_on_members(&mut self.bank, &mut self.table, &seal, &self.buffer)?;
@@ -45,7 +72,7 @@ impl<B: Bank> Array<B> {
 fn next_seal(table: &Table, number: u64, entry: &Entry) -> Seal
     requires room { number < GREATEST_COUNT }
     requires least { 1 ≤ length (numbers_of entry.now) }
-    requires few { length (numbers_of entry.now) ≤ ENTRY_ROWS }
+    requires few { table.now.geometry.format ≡ One → length (numbers_of entry.now) ≤ ENTRY_ROWS }
     requires held { (i : ℕ) → i < length (numbers_of entry.now) → 2 ≤ count_ones (row_mask entry.now i) }
     ensures id { result.id ≡ table.now.id }
     ensures number { result.number ≡ number + 1 }

@@ -14,12 +14,11 @@ invariant-loop-i g l = record {
   its_slots : HasItsSlots l.table (g.B.Bank.panel l.bank);
   steps : KeepsOn (g.B.Bank.honest l.initial.bank) l.initial.table l.table (g.B.Bank.panel l.initial.bank) (g.B.Bank.panel l.bank)
       (g.B.Bank.history l.initial.bank) (g.B.Bank.history l.bank) (Ok tt);
-  numbers : numbers_of l.entry ≡ numbers_of l.initial.entry;
   form : form_of l.entry ≡ form_of l.initial.entry;
   sound : (number k : ℕ) (from : KeepsFrom) → g.B.Bank.honest l.initial.bank → k < l.i
       → Between (g.B.Bank.panel l.initial.bank).devices number from l.initial.table (g.B.Bank.history l.initial.bank)
-      → HasSoundRow l.initial.table.geometry from.logical l.entry k (row_at l.rows k);
-  others : (k member : ℕ) → member < MOST_MEMBERS → ¬ HasParityOn l.initial.table.geometry (row_at l.rows k) member
+      → HasSoundRow l.initial.table.geometry from.logical l.entry k (row_at (numbers_of l.initial.entry) k);
+  others : (k member : ℕ) → member < MOST_MEMBERS → ¬ HasParityOn l.initial.table.geometry (row_at (numbers_of l.initial.entry) k) member
       → sector_at l.entry k member ≡ sector_at l.initial.entry k member;
   beyond : (k member : ℕ) → member < MOST_MEMBERS → l.i ≤ k → sector_at l.entry k member ≡ sector_at l.initial.entry k member;
 }

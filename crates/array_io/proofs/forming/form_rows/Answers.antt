@@ -1,15 +1,18 @@
-use Rattle.std.proofs.Common.{◌≡◌, inr, ℕ, ◌<◌, true, Ok, Err, List, length, OnOk, sym, ◌∙◌, ap, subst, arith}
+use Rattle.std.proofs.Common.{◌≡◌, inr, ℕ, ◌<◌, ◌≤◌, Ok, Err, List, length, OnOk, sym, ◌∙◌, ap, subst, arith}
 use Rattle.layout_map.proofs.Places.{place_is_no_parity, place_member_below}
-use Rattle.layout_map.specs.declared.sizes.TheConstants.{MOST_MEMBERS}
 use Rattle.layout_map.specs.declared.geometry.Geometry.{Geometry}
+use Rattle.layout_map.specs.declared.sizes.TheConstants.{MOST_MEMBERS}
+use Rattle.entry_runs.specs.declared.run.Run.{Run}
+use Rattle.entry_runs.specs.Built.{runs_in}
+use Rattle.batch.specs.declared.placed.Placed.{Placed}
 use Rattle.stripe_journal.specs.declared.entry.Entry.{Entry}
-use Rattle.stripe_journal.specs.Entries.{numbers_of, row_mask}
-use Rattle.stripe_journal.specs.Forms.{has_bit}
+use Rattle.stripe_journal.specs.Entries.{form_of, numbers_of, sector_at}
 use Rattle.stripe_journal.specs.Seals.{row_at}
 use Rattle.array_io.specs.Believed.ArrayCalls.{Answer}
-use Rattle.array_io.specs.Steps.FormingRows.{AreRowsOf, Given, HasParityOn, HasSoundRow, HoldsChanged, IsChanged, LiesAt, logical_at}
-use Rattle.array_io.proofs.Commits.BufferRows.{same_mask}
+use Rattle.array_io.specs.Steps.FormingRows.{AreOfSet, AreRowsOf, Given, HasParityOn, HasPut, HasSoundRow, HoldsChanged, HoldsGiven}
+use Rattle.array_io.specs.Steps.FormingRows.{IsPlanned, LiesAt, logical_at}
 use Rattle.array_io.proofs.Commits.ChangedRows.{changed_stays}
+use Rattle.array_io.proofs.Commits.PlannedRows.{planned_given, planned_masks, planned_room, planned_rows, same_numbers}
 use Rattle.array_io.proofs.forming.form_rows.Goals as goal
 
 -- what holds at Ok of each row, together
@@ -22,70 +25,45 @@ in_any_case : (answer : Answer) (Q : Type 0) → Q → OnOk answer Q
 in_any_case (Ok done) Q q = q
 in_any_case (Err refusal) Q q = tt
 
-pub touched_rows-touched-requires-clause-least : goal.touched_rows-touched-requires-clause-least
-touched_rows-touched-requires-clause-least g c = c.requires.may.least
+-- the rows of an entry are those of a plan
+its_plan : (geometry : Geometry) (sectors : Given) (places : List Placed) (runs : List Run) (entry : Entry) → runs_in entry.runs ≡ runs
+    → IsPlanned geometry sectors places runs → IsPlanned geometry sectors places (runs_in entry.runs)
+its_plan geometry sectors places runs entry same plan = subst (λ (list : List Run). IsPlanned geometry sectors places list) (sym same) plan
 
-pub touched_rows-touched-requires-clause-most : goal.touched_rows-touched-requires-clause-most
-touched_rows-touched-requires-clause-most g c = c.requires.may.most
-
-pub touched_rows-touched-requires-clause-of_set : goal.touched_rows-touched-requires-clause-of_set
-touched_rows-touched-requires-clause-of_set g c = c.requires.may.of_set
-
-pub begin_rows-requires-clause-rows : goal.begin_rows-requires-clause-rows
-begin_rows-requires-clause-rows g c = subst (λ (list : List ℕ). AreRowsOf c.args.table.now.geometry c.args.sectors.now list) (sym c.as_slice-rows.ensures.value)
-    c.touched_rows-touched.ensures
-
-pub begin_rows-requires-clause-of_set : goal.begin_rows-requires-clause-of_set
-begin_rows-requires-clause-of_set g c = c.requires.may.of_set
-
-pub put_given-requires-clause-rows : goal.put_given-requires-clause-rows
-put_given-requires-clause-rows g c = subst (λ (list : List ℕ). AreRowsOf c.args.table.now.geometry c.args.sectors.now list) (sym c.as_slice-rows.ensures.value)
-    c.touched_rows-touched.ensures
-
-pub put_given-requires-clause-of_set : goal.put_given-requires-clause-of_set
-put_given-requires-clause-of_set g c = c.requires.may.of_set
-
-pub put_given-requires-clause-apart : goal.put_given-requires-clause-apart
-put_given-requires-clause-apart g c = c.requires.may.apart
-
-pub put_given-requires-clause-numbers : goal.put_given-requires-clause-numbers
-put_given-requires-clause-numbers g c = c.begin_rows.ensures.numbers
-
-pub put_given-requires-clause-held : goal.put_given-requires-clause-held
-put_given-requires-clause-held g c = c.begin_rows.ensures.held
+pub put_given-requires : goal.put_given-requires
+put_given-requires g c =
+    planned_room c.args.table.now.geometry c.args.writes.now.sectors.now c.args.writes.now.places.now c.set_rows.new.self
+    (its_plan c.args.table.now.geometry c.args.writes.now.sectors.now c.args.writes.now.places.now (runs_in c.args.writes.now.rows.now) c.set_rows.new.self
+    c.set_rows.ensures c.requires.planned)
 
 pub form_parities-requires-clause-its_slots : goal.form_parities-requires-clause-its_slots
 form_parities-requires-clause-its_slots g c = c.requires.its_slots
 
+-- the rows of an entry of the same form are those of the given sectors, and it holds what changes
+
+rows_of_form : (geometry : Geometry) (sectors : Given) (places : List Placed) (entry new : Entry) → IsPlanned geometry sectors places (runs_in entry.runs)
+    → form_of new ≡ form_of entry → 1 ≤ length sectors → AreOfSet geometry sectors → AreRowsOf geometry sectors (numbers_of new)
+rows_of_form geometry sectors places entry new plan form some of_set = subst (λ (list : List ℕ). AreRowsOf geometry sectors list)
+    (sym (same_numbers new entry form)) (planned_rows geometry sectors places entry plan some of_set)
+
+held_of_form : (geometry : Geometry) (sectors : Given) (places : List Placed) (entry new : Entry) → IsPlanned geometry sectors places (runs_in entry.runs)
+    → form_of new ≡ form_of entry → HoldsChanged geometry sectors new
+held_of_form geometry sectors places entry new plan form =
+    changed_stays geometry sectors entry new (same_numbers new entry form) form (planned_masks geometry sectors places entry plan)
+
 pub form_parities-requires-clause-rows : goal.form_parities-requires-clause-rows
-form_parities-requires-clause-rows g c = (subst (λ (list : List ℕ). AreRowsOf c.args.table.now.geometry c.args.sectors.now list)
-    (sym c.as_slice-rows.ensures.value) c.touched_rows-touched.ensures).of_set
-
-pub form_parities-requires-clause-numbers : goal.form_parities-requires-clause-numbers
-form_parities-requires-clause-numbers g c = c.put_given.ensures.numbers ∙ c.begin_rows.ensures.numbers
-
--- the entry holds each row's parity
-
-parity_held : (geometry : Geometry) (sectors : Given) (rows : List ℕ) (entry : Entry) (i member : ℕ) → numbers_of entry ≡ rows
-    → HoldsChanged geometry sectors entry → i < length rows → HasParityOn geometry (row_at rows i) member → has_bit (row_mask entry i) member ≡ true
-parity_held geometry sectors rows entry i member numbers held inside parity =
-    (held i member (omega (arith, inside, ap length numbers))).1
-    (subst (λ (list : List ℕ). IsChanged geometry sectors (row_at list i) member) (sym numbers) (inr parity))
+form_parities-requires-clause-rows g c =
+    let plan = its_plan c.args.table.now.geometry c.args.writes.now.sectors.now c.args.writes.now.places.now (runs_in c.args.writes.now.rows.now) c.set_rows.new.self
+    c.set_rows.ensures c.requires.planned in
+    (rows_of_form c.args.table.now.geometry c.args.writes.now.sectors.now c.args.writes.now.places.now c.set_rows.new.self c.put_given.new.entry plan
+    c.put_given.ensures.form c.requires.may.least c.requires.may.of_set).of_set
 
 pub form_parities-requires-clause-held : goal.form_parities-requires-clause-held
 form_parities-requires-clause-held g c = λ i member inside parity.
-    ap (λ (mask : ℕ). has_bit mask member) (same_mask c.put_given.new.entry c.begin_rows.new.entry i c.put_given.ensures.form)
-    ∙ parity_held c.args.table.now.geometry c.args.sectors.now c.as_slice-rows.result.now c.begin_rows.new.entry i member c.begin_rows.ensures.numbers
-    c.begin_rows.ensures.held inside parity
-
-pub form_parities-requires-clause-zeros : goal.form_parities-requires-clause-zeros
-form_parities-requires-clause-zeros g c = λ i member inside parity.
-    let limits = c.args.table.now.geometry.limits in
-    let within : member < MOST_MEMBERS = omega (arith, parity.in_set, limits.members_most) in
-    c.put_given.ensures.others i member inside within (λ given. place_is_no_parity limits given.lies parity)
-    ∙ c.begin_rows.ensures.zeros i member inside within
-    (parity_held c.args.table.now.geometry c.args.sectors.now c.as_slice-rows.result.now c.begin_rows.new.entry i member c.begin_rows.ensures.numbers
-    c.begin_rows.ensures.held inside parity)
+    let plan = its_plan c.args.table.now.geometry c.args.writes.now.sectors.now c.args.writes.now.places.now (runs_in c.args.writes.now.rows.now) c.set_rows.new.self
+    c.set_rows.ensures c.requires.planned in
+    (held_of_form c.args.table.now.geometry c.args.writes.now.sectors.now c.args.writes.now.places.now c.set_rows.new.self c.put_given.new.entry plan
+    c.put_given.ensures.form i member inside).1 (inr parity)
 
 pub returns-clause-honest : goal.returns-clause-honest
 returns-clause-honest g c = c.form_parities.ensures.honest
@@ -97,38 +75,49 @@ pub returns-clause-steps : goal.returns-clause-steps
 returns-clause-steps g c = c.form_parities.ensures.steps
 
 pub returns-clause-rows : goal.returns-clause-rows
-returns-clause-rows g c = in_any_case c.form_parities.result _ (subst (λ (list : List ℕ). AreRowsOf c.args.table.now.geometry c.args.sectors.now list)
-    (sym (c.form_parities.ensures.numbers ∙ c.put_given.ensures.numbers ∙ c.begin_rows.ensures.numbers ∙ c.as_slice-rows.ensures.value))
-    c.touched_rows-touched.ensures)
+returns-clause-rows g c =
+    let plan = its_plan c.args.table.now.geometry c.args.writes.now.sectors.now c.args.writes.now.places.now (runs_in c.args.writes.now.rows.now) c.set_rows.new.self
+    c.set_rows.ensures c.requires.planned in
+    in_any_case c.form_parities.result _ (rows_of_form c.args.table.now.geometry c.args.writes.now.sectors.now c.args.writes.now.places.now c.set_rows.new.self
+    c.form_parities.new.entry plan (c.form_parities.ensures.form ∙ c.put_given.ensures.form) c.requires.may.least c.requires.may.of_set)
 
 pub returns-clause-held : goal.returns-clause-held
-returns-clause-held g c = in_any_case c.form_parities.result _
-    (changed_stays c.args.table.now.geometry c.args.sectors.now c.begin_rows.new.entry c.form_parities.new.entry
-    (c.form_parities.ensures.numbers ∙ c.put_given.ensures.numbers) (c.form_parities.ensures.form ∙ c.put_given.ensures.form) c.begin_rows.ensures.held)
+returns-clause-held g c =
+    let plan = its_plan c.args.table.now.geometry c.args.writes.now.sectors.now c.args.writes.now.places.now (runs_in c.args.writes.now.rows.now) c.set_rows.new.self
+    c.set_rows.ensures c.requires.planned in
+    in_any_case c.form_parities.result _ (held_of_form c.args.table.now.geometry c.args.writes.now.sectors.now c.args.writes.now.places.now c.set_rows.new.self
+    c.form_parities.new.entry plan (c.form_parities.ensures.form ∙ c.put_given.ensures.form))
+
+-- what was put stands there still, where no parity does
+
+given_stays : (geometry : Geometry) (sectors : Given) (places : List Placed) (entry put formed : Entry) → IsPlanned geometry sectors places (runs_in entry.runs)
+    → form_of formed ≡ form_of put → HasPut sectors places (length places) put
+    → ((i member : ℕ) → member < MOST_MEMBERS → ¬ HasParityOn geometry (row_at (numbers_of put) i) member → sector_at formed i member ≡ sector_at put i member)
+    → HoldsGiven geometry sectors formed
+given_stays geometry sectors places entry put formed plan of_put has others k i member within inside lies =
+    let numbers : numbers_of formed ≡ numbers_of put = same_numbers formed put of_put in
+    let here = subst (λ (list : List ℕ). LiesAt geometry (logical_at sectors k) (row_at list i) member) numbers lies in
+    others i member (omega (arith, place_member_below geometry.limits here, geometry.limits.members_most)) (λ parity. place_is_no_parity geometry.limits here parity)
+    ∙ planned_given geometry sectors places entry plan put has k i member within (omega (arith, inside, ap length numbers)) here
 
 pub returns-clause-formed : goal.returns-clause-formed
 returns-clause-formed g c = λ number from honest at.
     let geometry = c.args.table.now.geometry in
-    let sectors = c.args.sectors.now in
-    let rows = c.as_slice-rows.result.now in
-    let limits = geometry.limits in
-    let begun = c.begin_rows.new.entry in
+    let sectors = c.args.writes.now.sectors.now in
+    let places = c.args.writes.now.places.now in
+    let planned = c.set_rows.new.self in
     let put = c.put_given.new.entry in
     let formed = c.form_parities.new.entry in
-    let put_numbers : numbers_of put ≡ rows = c.put_given.ensures.numbers ∙ c.begin_rows.ensures.numbers in
-    let numbers : numbers_of formed ≡ rows = c.form_parities.ensures.numbers ∙ put_numbers in
-    at_ok c.form_parities.result (length rows) (λ i. HasSoundRow geometry from.logical formed i (row_at rows i)) _
+    let plan = its_plan geometry sectors places (runs_in c.args.writes.now.rows.now) planned c.set_rows.ensures c.requires.planned in
+    let form : form_of formed ≡ form_of planned = c.form_parities.ensures.form ∙ c.put_given.ensures.form in
+    let numbers : numbers_of formed ≡ numbers_of put = same_numbers formed put c.form_parities.ensures.form in
+    at_ok c.form_parities.result (length (numbers_of put)) (λ i. HasSoundRow geometry from.logical formed i (row_at (numbers_of put) i)) _
     (λ i inside. c.form_parities.ensures.sound number i from honest at inside)
     (λ sound. record {
-      rows = subst (λ (list : List ℕ). AreRowsOf geometry sectors list) (sym (numbers ∙ c.as_slice-rows.ensures.value)) c.touched_rows-touched.ensures;
-      held = changed_stays geometry sectors begun formed (numbers ∙ sym c.begin_rows.ensures.numbers) (c.form_parities.ensures.form ∙ c.put_given.ensures.form)
-          c.begin_rows.ensures.held;
-      given = λ k i member below inside lies.
-          let here = subst (λ (list : List ℕ). LiesAt geometry (logical_at sectors k) (row_at list i) member) numbers lies in
-          let there = subst (λ (list : List ℕ). LiesAt geometry (logical_at sectors k) (row_at list i) member) (sym put_numbers) here in
-          let within : member < MOST_MEMBERS = omega (arith, place_member_below limits here, limits.members_most) in
-          c.form_parities.ensures.others i member within (λ parity. place_is_no_parity limits here parity)
-          ∙ c.put_given.ensures.given k i member below (omega (arith, ap length numbers, ap length put_numbers, inside)) there;
+      rows = rows_of_form geometry sectors places planned formed plan form c.requires.may.least c.requires.may.of_set;
+      held = held_of_form geometry sectors places planned formed plan form;
+      given = given_stays geometry sectors places planned put formed plan c.form_parities.ensures.form c.put_given.ensures.given
+          c.form_parities.ensures.others;
       sound = λ i inside. subst (λ (list : List ℕ). HasSoundRow geometry from.logical formed i (row_at list i)) (sym numbers)
           (sound i (omega (arith, inside, ap length numbers)));
     })

@@ -3,6 +3,8 @@
 
 mod placed;
 mod places;
+mod planning;
 
 pub use placed::Placed;
 pub use places::{MOST_PLACES, Places};
+pub use planning::plan_rows;

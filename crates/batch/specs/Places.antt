@@ -1,5 +1,5 @@
 -- Where logical sectors that are written together lie, and the rows that change.
-use Rattle.std.specs.Prelude.{◌≡◌, ◌≢◌, ◌⊎◌, ◌↔◌, ℕ, ◌<◌, true, List, [], length, slice_index_or}
+use Rattle.std.specs.Prelude.{◌≡◌, ◌≢◌, ◌⊎◌, ◌↔◌, ℕ, ◌<◌, ◌≤◌, true, List, [], length, slice_index_or}
 use Rattle.std.specs.List.Sorted.{IsStrictlyIncreasing}
 use Rattle.sector_model.specs.History.{Bytes}
 use Rattle.layout_map.specs.declared.geometry.Geometry.{Geometry}
@@ -97,7 +97,8 @@ pub record IsPlaced (places : List Placed) (row member : ℕ) : Type 0 where
 pub record ArePlanned (geometry : Geometry) (places : List Placed) (rows masks : List ℕ) : Type 0 where
   pub rising : IsStrictlyIncreasing rows
   pub as_many : length masks ≡ length rows
+  pub few : length rows ≤ length places
   pub each : (j : ℕ) → j < length places → HasRow rows (placed_at places j).row
   pub only : (i : ℕ) → i < length rows → IsTouched places (row_of rows i)
-  pub masks : (i member : ℕ) → i < length rows
+  pub bits : (i member : ℕ) → i < length rows
       → (has_bit (slice_index_or masks i 0) member ≡ true) ↔ (IsPlaced places (row_of rows i) member ⊎ HasParityOn geometry (row_of rows i) member)

@@ -1,7 +1,7 @@
 //! Where one of some logical sectors lies.
 
 /// Where one of some logical sectors lies, and which of them it is.
-#[derive(Clone, Copy, Debug, PartialEq, Eq)]
+#[derive(Clone, Copy, Debug, Default, PartialEq, Eq)]
 pub struct Placed {
     /// The row.
     pub row: u32,

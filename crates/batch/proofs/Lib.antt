@@ -1,0 +1,5 @@
+pub mod GivenSectors
+pub mod Masks
+pub mod Order
+pub mod Placing
+pub mod PlannedRows

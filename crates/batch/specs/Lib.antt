@@ -1,0 +1,6 @@
+pub mod Among
+pub mod Changes
+pub mod Listed
+pub mod Places
+pub mod Rising
+pub mod Rows

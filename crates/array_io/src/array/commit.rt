@@ -35,14 +35,15 @@ impl<B: Bank> Array<B> {
         ensures commits { Commits (IsHonest self.old) sectors.now (array_view self.old) (array_view self.new) result }
     {
         let geometry = self.table.geometry;
-        let places = Places::of(&geometry, sectors);
+        let placed = Places::of(&geometry, sectors);
+        let places = placed.as_slice();
         let mut rows = RunsBuilder::new();
-        if !plan_rows(&geometry, places.as_slice(), &mut rows) {
+        if !plan_rows(&geometry, places, &mut rows) {
             unreachable!();
         }
         self.commit_planned(&Writes {
             sectors,
-            places: places.as_slice(),
+            places,
             rows: &rows,
         })
     }

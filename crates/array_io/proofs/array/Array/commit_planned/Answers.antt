@@ -47,7 +47,9 @@ put_on_journals-requires-clause-fits g c =
     (entry_of_form geometry.members c.form_rows.new.entry geometry.format c.next_seal-seal.result.form seal)
 
 pub next_seal-seal-requires-clause-few : goal.next_seal-seal-requires-clause-few
-next_seal-seal-requires-clause-few g c = λ one. omega (arith, c.in_ok-form_rows.ensures.rows.few, c.requires.may.few (sym (TODO)))
+next_seal-seal-requires-clause-few g c = λ one.
+    let same = (c.in_ok-form_rows.ensures.steps (g.B.Bank.panel c.args.self.now.bank).devices c.args.self.now.entry).goes_on.not_older.same_geometry in
+    omega (arith, c.in_ok-form_rows.ensures.rows.few, c.requires.may.few (ap (λ (s : Geometry). s.format) (sym same) ∙ one))
 
 pub returns-in_err-put_on_journals-clause-commits : goal.returns-in_err-put_on_journals-clause-commits
 returns-in_err-put_on_journals-clause-commits g c =
@@ -56,7 +58,7 @@ returns-in_err-put_on_journals-clause-commits g c =
     c.form_rows.new.table
     (g.B.Bank.panel c.args.self.now.bank) (g.B.Bank.panel c.form_rows.new.bank) (g.B.Bank.history c.args.self.now.bank) (g.B.Bank.history c.form_rows.new.bank)
     (λ fair. g.met.B.Bank.true_to _ fair) (λ fair. g.met.B.Bank.true_to _ (c.form_rows.ensures.honest.0 fair))
-    (g.B.Bank.honest c.form_rows.new.bank) (λ fair. c.form_rows.ensures.honest.0 fair) c.requires
+    (g.B.Bank.honest c.form_rows.new.bank) (λ fair. c.form_rows.ensures.honest.0 fair) c.requires.may
     c.next_seal-seal.result c.form_rows.new.entry
     c.in_ok-form_rows.ensures.steps c.in_ok-form_rows.ensures.formed c.next_seal-seal.ensures.id c.next_seal-seal.ensures.number
     c.next_seal-seal.ensures.form
@@ -70,7 +72,7 @@ returns-in_err-put_on_members-clause-commits g c =
     c.form_rows.new.table
     (g.B.Bank.panel c.args.self.now.bank) (g.B.Bank.panel c.form_rows.new.bank) (g.B.Bank.history c.args.self.now.bank) (g.B.Bank.history c.form_rows.new.bank)
     (λ fair. g.met.B.Bank.true_to _ fair) (λ fair. g.met.B.Bank.true_to _ (c.form_rows.ensures.honest.0 fair))
-    (g.B.Bank.honest c.form_rows.new.bank) (λ fair. c.form_rows.ensures.honest.0 fair) c.requires
+    (g.B.Bank.honest c.form_rows.new.bank) (λ fair. c.form_rows.ensures.honest.0 fair) c.requires.may
     c.next_seal-seal.result c.form_rows.new.entry
     c.in_ok-form_rows.ensures.steps c.in_ok-form_rows.ensures.formed c.next_seal-seal.ensures.id c.next_seal-seal.ensures.number
     c.next_seal-seal.ensures.form
@@ -86,7 +88,7 @@ returns-clause-commits g c =
     commit_done spellings (g.B.Bank.honest c.args.self.now.bank) c.args.self.now.entry c.args.writes.now.sectors.now c.args.self.now.table c.form_rows.new.table
     (g.B.Bank.panel c.args.self.now.bank) (g.B.Bank.panel c.form_rows.new.bank) (g.B.Bank.history c.args.self.now.bank) (g.B.Bank.history c.form_rows.new.bank)
     (λ fair. g.met.B.Bank.true_to _ fair) (λ fair. g.met.B.Bank.true_to _ (c.form_rows.ensures.honest.0 fair))
-    (g.B.Bank.honest c.form_rows.new.bank) (λ fair. c.form_rows.ensures.honest.0 fair) c.requires
+    (g.B.Bank.honest c.form_rows.new.bank) (λ fair. c.form_rows.ensures.honest.0 fair) c.requires.may
     c.next_seal-seal.result c.form_rows.new.entry
     c.in_ok-form_rows.ensures.steps c.in_ok-form_rows.ensures.formed c.next_seal-seal.ensures.id c.next_seal-seal.ensures.number
     c.next_seal-seal.ensures.form
@@ -104,7 +106,10 @@ pub form_rows-requires-clause-its_slots : goal.form_rows-requires-clause-its_slo
 form_rows-requires-clause-its_slots g c = c.args.self.now.its_slots
 
 pub form_rows-requires-clause-may : goal.form_rows-requires-clause-may
-form_rows-requires-clause-may g c = c.requires
+form_rows-requires-clause-may g c = c.requires.may
+
+pub form_rows-requires-clause-planned : goal.form_rows-requires-clause-planned
+form_rows-requires-clause-planned g c = c.requires.planned
 
 pub invariant_of-self : goal.invariant_of-self
 invariant_of-self g c = record { its_slots = c.form_rows.ensures.its_slots }

@@ -185,43 +185,17 @@ module _ (spellings : Spellings) (honest : Type 0) (number : ℕ) (sectors : Giv
             (step_is_end Was Mid other (forms.cause other is));
       }
 
-  -- its rows were formed
+  abbrev members : ℕ
+  members = table1.geometry.members
 
-  module _ (still : Type 0) (more : honest → still) (may : MayForm table sectors) (seal : Seal)
-      (entry : Entry) (steps : KeepsOn honest table table1 panel panel1 h h1 (Ok tt))
-      (formed : (number : ℕ) (from : KeepsFrom) → honest → Between panel.devices number from table h → FormsListed table.geometry sectors from.logical entry)
-      (its_id : seal.id ≡ table1.id) (its_number : seal.number ≡ number + 1) (its_form : IsFormOf entry table1.geometry.format seal.form) where
-    abbrev members : ℕ
-    members = table1.geometry.members
+  -- until its entry is put, the array is as it was at rest, but for failures
 
-    -- what reads give of the rows, by the table
-    abbrev base : Rows
-    base = rows_by table1 (readable h1)
-
-    abbrev values : List (List Bytes)
-    values = values_of members base entry
-
-    abbrev body : List Bytes
-    body = body_of members entry
-
-    few : members ≤ MOST_MEMBERS
-    few = table1.geometry.limits.members_most
-
-    its_rows : rows_in seal.form ≡ numbers_of entry
-    its_rows = its_form.rows
-
-    of_entry : IsEntryOf members seal.form entry
-    of_entry = entry_of_form members entry table1.geometry.format seal.form its_form
-
+  module _ (steps : KeepsOn honest table table1 panel panel1 h h1 (Ok tt)) where
     forming : StepsOf honest (KeepsList panel.devices) (Between panel.devices number) (Between panel.devices number) Was Mid (Ok tt)
     forming = steps panel.devices number
 
     same_mid : panel1.devices ≡ panel.devices
     same_mid = forming.goes_on.later.devices
-
-    -- where its entry is put, from the array at rest
-    abbrev Putting : Option Lost → List Bytes → PutsFrom
-    Putting lost V = commits_from panel.devices table lost V sectors
 
     module _ (fair : honest) (lost : Option Lost) (V : List Bytes) (rests : RestsOn Was lost V) where
       mid : IsWritable panel.devices number table table1 lost V h1
@@ -233,9 +207,34 @@ module _ (spellings : Spellings) (honest : Type 0) (number : ℕ) (sectors : Giv
       same_geometry : table1.geometry ≡ table.geometry
       same_geometry = forming.goes_on.not_older.same_geometry
 
+  -- its rows were formed
+
+  module _ (may : MayForm table sectors) (seal : Seal) (entry : Entry) (steps : KeepsOn honest table table1 panel panel1 h h1 (Ok tt))
+      (formed : (number : ℕ) (from : KeepsFrom) → honest → Between panel.devices number from table h → FormsListed table.geometry sectors from.logical entry)
+      (its_id : seal.id ≡ table1.id) (its_number : seal.number ≡ number + 1) (its_form : IsFormOf entry table1.geometry.format seal.form) where
+    -- what reads give of the rows, by the table
+    abbrev base : Rows
+    base = rows_by table1 (readable h1)
+
+    abbrev values : List (List Bytes)
+    values = values_of members base entry
+
+    abbrev formed_body : List Bytes
+    formed_body = body_of members entry
+
+    few : members ≤ MOST_MEMBERS
+    few = table1.geometry.limits.members_most
+
+    its_rows : rows_in seal.form ≡ numbers_of entry
+    its_rows = its_form.rows
+
+    of_entry : IsEntryOf members seal.form entry
+    of_entry = entry_of_form members entry table1.geometry.format seal.form its_form
+
+    module _ (fair : honest) (lost : Option Lost) (V : List Bytes) (rests : RestsOn Was lost V) where
       -- the list is what reads give
       rests_mid : RestsAfter lost Mid V
-      rests_mid = writable_rests spellings panel1 panel.devices number table table1 lost V h1 same_mid mid leaves_mid
+      rests_mid = writable_rests spellings panel1 panel.devices number table table1 lost V h1 (same_mid steps) (mid steps fair lost V rests) (leaves_mid steps fair lost V rests)
 
       listed : logical_list table1.geometry base ≡ V
       listed = rests_mid.rests.listed
@@ -245,25 +244,25 @@ module _ (spellings : Spellings) (honest : Type 0) (number : ℕ) (sectors : Giv
       whole_values row member below within = length-value base row member (λ sector is. absurd (none-some sector is)) (λ none trusted.
           let there = ((trusts_tells (state_at table1.states member) row table1.position).0 trusted).there in
           let least = member_least table1.geometry member within in
-          let live = mid.from.there member (omega (arith, within)) there in
-          whole_left h1 (readable h1) leaves_mid (readable_left h1) member (FIRST_ROW + row) (omega (arith, below, least, live.long_enough)))
+          let live = (mid steps fair lost V rests).from.there member (omega (arith, within)) there in
+          whole_left h1 (readable h1) (leaves_mid steps fair lost V rests) (readable_left h1) member (FIRST_ROW + row) (omega (arith, below, least, live.long_enough)))
 
       forms : FormsListed table1.geometry sectors (logical_list table1.geometry base) entry
-      forms = subst (λ (g : Geometry). FormsListed g sectors (logical_list table1.geometry base) entry) (sym same_geometry)
+      forms = subst (λ (g : Geometry). FormsListed g sectors (logical_list table1.geometry base) entry) (sym (same_geometry steps fair lost V rests))
           (subst (λ (L : List Bytes). FormsListed table.geometry sectors L entry) (sym listed)
           (formed number record { base = table; lost = lost; logical = V } fair (from_rest fair lost V rests)))
 
       is_formed : IsFormed table1.geometry base sectors (numbers_of entry) values
-      is_formed = forms_list table1.geometry base sectors entry forms may.apart (subst (λ (g : Geometry). AreOfSet g sectors) (sym same_geometry) may.of_set)
+      is_formed = forms_list table1.geometry base sectors entry forms may.apart (subst (λ (g : Geometry). AreOfSet g sectors) (sym (same_geometry steps fair lost V rests)) may.of_set)
           refl rests_mid.rests.sound whole_values
 
-      next : IsFormedNext number table1 h1 sectors seal values body
-      next = record {
+      pub formed_next : IsFormedNext number table1 h1 sectors seal values formed_body
+      formed_next = record {
         formed = subst (λ (rows : List ℕ). IsFormed table1.geometry base sectors rows values) (sym its_rows) is_formed;
         long = length_of_seal members seal entry few of_entry;
         held = λ i member within below held.
-            ap (λ (b : Bool). cond b (replicate 512 0) (slice_index_or body (rank members seal.form i member) [])) (other i (in_entry i within))
-            ∙ ap (λ (k : ℕ). slice_index_or body k []) (sym (rank_of_seal members seal entry few of_entry i member within below))
+            ap (λ (b : Bool). cond b (replicate 512 0) (slice_index_or formed_body (rank members seal.form i member) [])) (other i (in_entry i within))
+            ∙ ap (λ (k : ℕ). slice_index_or formed_body k []) (sym (rank_of_seal members seal entry few of_entry i member within below))
             ∙ body_is members base entry i member few (in_entry i within) below (sym (bits i member (in_entry i within)) ∙ held);
         kept = λ i member within below lacking. kept members base entry i member refl (in_entry i within) below
             (sym (bits i member (in_entry i within)) ∙ lacking)
@@ -295,12 +294,27 @@ module _ (spellings : Spellings) (honest : Type 0) (number : ℕ) (sectors : Giv
           bits : (i member : ℕ) → i < length (numbers_of entry) → holds members seal.form i member ≡ has_bit (row_mask entry i) member
           bits i member within = holds_bits members entry table1.geometry.format seal.form i member its_form within (two i within)
 
+  -- its entry is formed, of rows with these values, and put
+
+  module _ (still : Type 0) (more : honest → still) (seal : Seal) (entry : Entry) (values : List (List Bytes))
+      (steps : KeepsOn honest table table1 panel panel1 h h1 (Ok tt)) (its_number : seal.number ≡ number + 1)
+      (next : honest → (lost : Option Lost) (V : List Bytes) → RestsOn Was lost V
+      → IsFormedNext number table1 h1 sectors seal values (body_of table1.geometry.members entry)) where
+    abbrev body : List Bytes
+    body = body_of members entry
+
+    -- where its entry is put, from the array at rest
+    abbrev Putting : Option Lost → List Bytes → PutsFrom
+    Putting lost V = commits_from panel.devices table lost V sectors
+
+    module _ (fair : honest) (lost : Option Lost) (V : List Bytes) (rests : RestsOn Was lost V) where
       coming : IsComing (Formed (written V sectors)) seal body (λ k. Awaited) (Putting lost V) table1 h1
-      coming = commit_begins spellings panel1 panel.devices number table table1 lost V h1 same_mid mid leaves_mid sectors seal values body next
+      coming = commit_begins spellings panel1 panel.devices number table table1 lost V h1 (same_mid steps) (mid steps fair lost V rests) (leaves_mid steps fair lost V rests)
+          sectors seal values body (next fair lost V rests)
 
       -- at each moment the list is the one before or the one after, where it is so while the entry is put
       both_moments : (now : History) → Throughout (HoldsAll (Putting lost V)) h1 now → Throughout (Either lost V) h now
-      both_moments now putting = throughout_on h1 (first_moments forming fair lost V rests) now putting
+      both_moments now putting = throughout_on h1 (first_moments (forming steps) fair lost V rests) now putting
 
     -- Steps in which the entry was put so far, that were refused.
     refused_so : (table2 : Table) (panel2 : Panel) (h2 : History) (refusal : Refusal) (after : List Bytes → PutsFrom → Table → History → Type 0)
@@ -311,23 +325,23 @@ module _ (spellings : Spellings) (honest : Type 0) (number : ℕ) (sectors : Giv
         let one = putting [] in
         let New : ArrayView = view_of panel2 h2 table2 number in
         record {
-          goes_on = goes_on_both Was Mid New forming.goes_on one.goes_on;
-          stays = stays_both honest Was Mid New (HasEnded (refused refusal)) forming.goes_on one.goes_on forming.stays
+          goes_on = goes_on_both Was Mid New (forming steps).goes_on one.goes_on;
+          stays = stays_both honest Was Mid New (HasEnded (refused refusal)) (forming steps).goes_on one.goes_on (forming steps).stays
               record { table = one.stays.table; failure = λ fair. one.stays.failure (more fair) };
           number = λ ok. absurd (cc);
           moments = λ fair lost V rests. both_moments fair lost V rests h2
               ((putting V).moments (more fair) (Putting lost V) (λ loss. coming fair lost V rests));
           rests = λ fair ok. absurd (cc);
           cause = λ other is.
-              let end = end_after honest Was Mid New forming.stays other (one.cause other is) in
+              let end = end_after honest Was Mid New (forming steps).stays other (one.cause other is) in
               ends_with Was New (GREATEST_COUNT ≤ number) other (two_or_worn Was New other end) (step_is_end Was New other end);
         }
 
     module _ (table2 : Table) (panel2 : Panel) (h2 : History) (answer : Answer)
         (journals : StepsJournals still seal body members Mid (view_of panel2 h2 table2 number) answer) where
       -- Where it could not be put on the journals, the list is the one before or the one after.
-      pub commit_unsealed : (refusal : Refusal) → answer ≡ Err refusal → Commits honest sectors Was (view_of panel2 h2 table2 number) (refused refusal)
-      commit_unsealed refusal is = refused_so table2 panel2 h2 refusal (λ V. IsComing (Formed (written V sectors)) seal body (both_sealed members))
+      pub put_unsealed : (refusal : Refusal) → answer ≡ Err refusal → Commits honest sectors Was (view_of panel2 h2 table2 number) (refused refusal)
+      put_unsealed refusal is = refused_so table2 panel2 h2 refusal (λ V. IsComing (Formed (written V sectors)) seal body (both_sealed members))
           (λ V. subst (λ (a : Answer). Brings still (IsComing (Formed (written V sectors)) seal body (λ k. Awaited))
           (IsComing (Formed (written V sectors)) seal body (both_sealed members))
           Mid (view_of panel2 h2 table2 number) a) is (journals (Formed (written V sectors))))
@@ -369,16 +383,16 @@ module _ (spellings : Spellings) (honest : Type 0) (number : ℕ) (sectors : Giv
               (λ fair done from is put. put) members_put)
 
           -- Where its rows could not be put on the members, the list is the one before or the one after.
-          pub commit_unput : (refusal : Refusal) → last ≡ Err refusal → Commits honest sectors Was (New number) (refused refusal)
-          commit_unput refusal is = refused_so table3 panel3 h3 refusal (λ V. IsPut seal.number)
+          pub put_unput : (refusal : Refusal) → last ≡ Err refusal → Commits honest sectors Was (New number) (refused refusal)
+          put_unput refusal is = refused_so table3 panel3 h3 refusal (λ V. IsPut seal.number)
               (λ V. subst (λ (a : Answer). Brings still (IsComing (Formed (written V sectors)) seal body (λ k. Awaited)) (IsPut seal.number) Mid (New number) a)
               is (putting V))
 
           goes : GoesOn Was (New number)
-          goes = goes_on_both Was Mid (New number) forming.goes_on (putting []).goes_on
+          goes = goes_on_both Was Mid (New number) (forming steps).goes_on (putting []).goes_on
 
           stays : StaysButForFailures honest Was (New number) (HasEnded last)
-          stays = stays_both honest Was Mid (New number) (HasEnded last) forming.goes_on (putting []).goes_on forming.stays
+          stays = stays_both honest Was Mid (New number) (HasEnded last) (forming steps).goes_on (putting []).goes_on (forming steps).stays
               record { table = (putting []).stays.table; failure = λ fair. (putting []).stays.failure (more fair) }
 
           module _ (done : last ≡ Ok tt) (fair : honest) (lost : Option Lost) (V : List Bytes) (rests : RestsOn Was lost V) where
@@ -405,8 +419,8 @@ module _ (spellings : Spellings) (honest : Type 0) (number : ℕ) (sectors : Giv
             }) (sectors_of panel3 h3 (true_new fair))
 
           -- Where they were, the array is settled on the list after it.
-          pub commit_done : last ≡ Ok tt → Commits honest sectors Was (New (number + 1)) (Ok tt)
-          commit_done done = record {
+          pub put_done : last ≡ Ok tt → Commits honest sectors Was (New (number + 1)) (Ok tt)
+          put_done done = record {
             goes_on = record { later = goes.later; not_older = goes.not_older; number = omega arith; its_slots = goes.its_slots };
             stays = stays_numbered honest (HasEnded accepted) Was panel3 h3 table3 number (number + 1)
                 (subst (λ (a : Answer). StaysButForFailures honest Was (New number) (HasEnded a)) done stays);

@@ -6,9 +6,12 @@ use Rattle.stripe_journal.specs.Entries.{numbers_of}
 use Rattle.stripe_journal.specs.Seals.{row_at}
 use Rattle.stripe_journal.proofs.HeldEntries.{body_fits, entry_of_form}
 use Rattle.array_io.specs.Believed.Holds.{row_count}
+use Rattle.sector_model.specs.Readable.{readable}
+use Rattle.array_io.specs.Believed.Settled.{rows_by}
 use Rattle.array_io.proofs.Images.Codecs.{spellings}
+use Rattle.array_io.proofs.Commits.EntryValues.{values_of}
 use Rattle.array_io.proofs.Commits.FormedEntry.{two_held}
-use Rattle.array_io.proofs.Commits.CommitCall.{commit_done, commit_unformed, commit_unput, commit_unsealed, commit_worn}
+use Rattle.array_io.proofs.Commits.CommitCall.{commit_unformed, commit_worn, formed_next, put_done, put_unput, put_unsealed}
 use Rattle.array_io.proofs.array.Array.commit_planned.Goals as goal
 
 pub returns-then-self-ge-GREATEST_COUNT-clause-commits : goal.returns-then-self-ge-GREATEST_COUNT-clause-commits
@@ -54,28 +57,36 @@ next_seal-seal-requires-clause-few g c = λ one.
 pub returns-in_err-put_on_journals-clause-commits : goal.returns-in_err-put_on_journals-clause-commits
 returns-in_err-put_on_journals-clause-commits g c =
     let p = err_from_is_err_and c.from_residual-in_err-put_on_journals.result c.from_residual-in_err-put_on_journals.ensures.1 in
-    rw (p.1, p.2) (commit_unsealed spellings (g.B.Bank.honest c.args.self.now.bank) c.args.self.now.entry c.args.writes.now.sectors.now c.args.self.now.table
+    rw (p.1, p.2) (put_unsealed spellings (g.B.Bank.honest c.args.self.now.bank) c.args.self.now.entry c.args.writes.now.sectors.now c.args.self.now.table
     c.form_rows.new.table
     (g.B.Bank.panel c.args.self.now.bank) (g.B.Bank.panel c.form_rows.new.bank) (g.B.Bank.history c.args.self.now.bank) (g.B.Bank.history c.form_rows.new.bank)
     (λ fair. g.met.B.Bank.true_to _ fair) (λ fair. g.met.B.Bank.true_to _ (c.form_rows.ensures.honest.0 fair))
-    (g.B.Bank.honest c.form_rows.new.bank) (λ fair. c.form_rows.ensures.honest.0 fair) c.requires.may
-    c.next_seal-seal.result c.form_rows.new.entry
-    c.in_ok-form_rows.ensures.steps c.in_ok-form_rows.ensures.formed c.next_seal-seal.ensures.id c.next_seal-seal.ensures.number
-    c.next_seal-seal.ensures.form
+    (g.B.Bank.honest c.form_rows.new.bank) (λ fair. c.form_rows.ensures.honest.0 fair) c.next_seal-seal.result c.form_rows.new.entry
+    (values_of c.form_rows.new.table.geometry.members (rows_by c.form_rows.new.table (readable (g.B.Bank.history c.form_rows.new.bank))) c.form_rows.new.entry)
+    c.in_ok-form_rows.ensures.steps c.next_seal-seal.ensures.number
+    (formed_next spellings (g.B.Bank.honest c.args.self.now.bank) c.args.self.now.entry c.args.writes.now.sectors.now c.args.self.now.table c.form_rows.new.table
+    (g.B.Bank.panel c.args.self.now.bank) (g.B.Bank.panel c.form_rows.new.bank) (g.B.Bank.history c.args.self.now.bank) (g.B.Bank.history c.form_rows.new.bank)
+    (λ fair. g.met.B.Bank.true_to _ fair) (λ fair. g.met.B.Bank.true_to _ (c.form_rows.ensures.honest.0 fair))
+    c.requires.may c.next_seal-seal.result c.form_rows.new.entry c.in_ok-form_rows.ensures.steps c.in_ok-form_rows.ensures.formed c.next_seal-seal.ensures.id
+    c.next_seal-seal.ensures.number c.next_seal-seal.ensures.form)
     c.put_on_journals.new.table (g.B.Bank.panel c.put_on_journals.new.bank) (g.B.Bank.history c.put_on_journals.new.bank)
     (Err c.in_err-put_on_journals.field-0.0) (c.in_err-put_on_journals.ensures.steps c.args.self.now.entry) c.in_err-put_on_journals.field-0.0 refl)
 
 pub returns-in_err-put_on_members-clause-commits : goal.returns-in_err-put_on_members-clause-commits
 returns-in_err-put_on_members-clause-commits g c =
     let p = err_from_is_err_and c.from_residual-in_err-put_on_members.result c.from_residual-in_err-put_on_members.ensures.1 in
-    rw (p.1, p.2) (commit_unput spellings (g.B.Bank.honest c.args.self.now.bank) c.args.self.now.entry c.args.writes.now.sectors.now c.args.self.now.table
+    rw (p.1, p.2) (put_unput spellings (g.B.Bank.honest c.args.self.now.bank) c.args.self.now.entry c.args.writes.now.sectors.now c.args.self.now.table
     c.form_rows.new.table
     (g.B.Bank.panel c.args.self.now.bank) (g.B.Bank.panel c.form_rows.new.bank) (g.B.Bank.history c.args.self.now.bank) (g.B.Bank.history c.form_rows.new.bank)
     (λ fair. g.met.B.Bank.true_to _ fair) (λ fair. g.met.B.Bank.true_to _ (c.form_rows.ensures.honest.0 fair))
-    (g.B.Bank.honest c.form_rows.new.bank) (λ fair. c.form_rows.ensures.honest.0 fair) c.requires.may
-    c.next_seal-seal.result c.form_rows.new.entry
-    c.in_ok-form_rows.ensures.steps c.in_ok-form_rows.ensures.formed c.next_seal-seal.ensures.id c.next_seal-seal.ensures.number
-    c.next_seal-seal.ensures.form
+    (g.B.Bank.honest c.form_rows.new.bank) (λ fair. c.form_rows.ensures.honest.0 fair) c.next_seal-seal.result c.form_rows.new.entry
+    (values_of c.form_rows.new.table.geometry.members (rows_by c.form_rows.new.table (readable (g.B.Bank.history c.form_rows.new.bank))) c.form_rows.new.entry)
+    c.in_ok-form_rows.ensures.steps c.next_seal-seal.ensures.number
+    (formed_next spellings (g.B.Bank.honest c.args.self.now.bank) c.args.self.now.entry c.args.writes.now.sectors.now c.args.self.now.table c.form_rows.new.table
+    (g.B.Bank.panel c.args.self.now.bank) (g.B.Bank.panel c.form_rows.new.bank) (g.B.Bank.history c.args.self.now.bank) (g.B.Bank.history c.form_rows.new.bank)
+    (λ fair. g.met.B.Bank.true_to _ fair) (λ fair. g.met.B.Bank.true_to _ (c.form_rows.ensures.honest.0 fair))
+    c.requires.may c.next_seal-seal.result c.form_rows.new.entry c.in_ok-form_rows.ensures.steps c.in_ok-form_rows.ensures.formed c.next_seal-seal.ensures.id
+    c.next_seal-seal.ensures.number c.next_seal-seal.ensures.form)
     c.put_on_journals.new.table (g.B.Bank.panel c.put_on_journals.new.bank) (g.B.Bank.history c.put_on_journals.new.bank)
     (Ok tt) (c.in_ok-put_on_journals.ensures.steps c.args.self.now.entry) refl (g.B.Bank.honest c.put_on_journals.new.bank)
     (λ fair. c.put_on_journals.ensures.honest.0 fair)
@@ -85,13 +96,17 @@ returns-in_err-put_on_members-clause-commits g c =
 
 pub returns-clause-commits : goal.returns-clause-commits
 returns-clause-commits g c =
-    commit_done spellings (g.B.Bank.honest c.args.self.now.bank) c.args.self.now.entry c.args.writes.now.sectors.now c.args.self.now.table c.form_rows.new.table
+    put_done spellings (g.B.Bank.honest c.args.self.now.bank) c.args.self.now.entry c.args.writes.now.sectors.now c.args.self.now.table c.form_rows.new.table
     (g.B.Bank.panel c.args.self.now.bank) (g.B.Bank.panel c.form_rows.new.bank) (g.B.Bank.history c.args.self.now.bank) (g.B.Bank.history c.form_rows.new.bank)
     (λ fair. g.met.B.Bank.true_to _ fair) (λ fair. g.met.B.Bank.true_to _ (c.form_rows.ensures.honest.0 fair))
-    (g.B.Bank.honest c.form_rows.new.bank) (λ fair. c.form_rows.ensures.honest.0 fair) c.requires.may
-    c.next_seal-seal.result c.form_rows.new.entry
-    c.in_ok-form_rows.ensures.steps c.in_ok-form_rows.ensures.formed c.next_seal-seal.ensures.id c.next_seal-seal.ensures.number
-    c.next_seal-seal.ensures.form
+    (g.B.Bank.honest c.form_rows.new.bank) (λ fair. c.form_rows.ensures.honest.0 fair) c.next_seal-seal.result c.form_rows.new.entry
+    (values_of c.form_rows.new.table.geometry.members (rows_by c.form_rows.new.table (readable (g.B.Bank.history c.form_rows.new.bank))) c.form_rows.new.entry)
+    c.in_ok-form_rows.ensures.steps c.next_seal-seal.ensures.number
+    (formed_next spellings (g.B.Bank.honest c.args.self.now.bank) c.args.self.now.entry c.args.writes.now.sectors.now c.args.self.now.table c.form_rows.new.table
+    (g.B.Bank.panel c.args.self.now.bank) (g.B.Bank.panel c.form_rows.new.bank) (g.B.Bank.history c.args.self.now.bank) (g.B.Bank.history c.form_rows.new.bank)
+    (λ fair. g.met.B.Bank.true_to _ fair) (λ fair. g.met.B.Bank.true_to _ (c.form_rows.ensures.honest.0 fair))
+    c.requires.may c.next_seal-seal.result c.form_rows.new.entry c.in_ok-form_rows.ensures.steps c.in_ok-form_rows.ensures.formed c.next_seal-seal.ensures.id
+    c.next_seal-seal.ensures.number c.next_seal-seal.ensures.form)
     c.put_on_journals.new.table (g.B.Bank.panel c.put_on_journals.new.bank) (g.B.Bank.history c.put_on_journals.new.bank)
     (Ok tt) (c.in_ok-put_on_journals.ensures.steps c.args.self.now.entry) refl (g.B.Bank.honest c.put_on_journals.new.bank)
     (λ fair. c.put_on_journals.ensures.honest.0 fair)

@@ -14,7 +14,7 @@ use layout_map::Geometry;
 
 /// Makes the rows of `runs` those that a commit of sectors at these places changes: each row in which one lies, with
 /// the mask of the members on which one lies there and of the one with the row's parity. False where no runs of an
-/// entry have these rows; what `runs` has then means nothing. Places of at most 32 sectors always have runs.
+/// entry have these rows; what `runs` has then means nothing. At most 32 places always have runs.
 ///
 /// The places rise, and a data sector of the set lies at each (conditions).
 pub fn plan_rows(geometry: &Geometry, places: &[Placed], runs: &mut RunsBuilder) -> bool
@@ -23,6 +23,8 @@ pub fn plan_rows(geometry: &Geometry, places: &[Placed], runs: &mut RunsBuilder)
     ensures planned { result ≡ true → ArePlanned geometry.now places.now (rows_of_runs (runs_in runs.new))
         (masks_of_runs (runs_in runs.new)) }
     ensures few { length places.now ≤ 32 → result ≡ true }
+    ensures none { result ≡ false → (fit : List Run) → FitEntry fit
+        → ¬ ArePlanned geometry.now places.now (rows_of_runs fit) (masks_of_runs fit) }
 {
     runs.clear();
     let mut first = 0;

@@ -1,6 +1,7 @@
 use Rattle.std.proofs.Common.{ℕ, List, [], ◌∷◌, ◌++◌, refl, sym, subst, arith}
 use Rattle.entry_runs.specs.Built.{runs_in}
 use Rattle.entry_runs.specs.WrittenOut.{masks_of_runs, rows_of_runs}
+use Rattle.batch.proofs.OnePlan.{none_fit}
 use Rattle.batch.proofs.PlannedRows.{ArePlannedBy, planned_all, planned_more, starts_next}
 use Rattle.batch.proofs.planning.plan_rows.Goals as goal
 
@@ -30,3 +31,9 @@ returns-clause-planned c = λ done.
     let now = c.loop-first in
     planned_all c.args.geometry.now c.args.places.now now.first (rows_of_runs (runs_in now.runs)) (masks_of_runs (runs_in now.runs))
     (omega (arith, c.loop-first-test.false, now.invariant.within)) now.invariant.planned
+
+pub returns-then-not-push-clause-none : goal.returns-then-not-push-clause-none
+returns-then-not-push-clause-none c = λ full.
+    let now = c.loop-first in
+    none_fit c.args.geometry.now c.args.places.now now.first c.next_row-next.result (rows_of_runs (runs_in now.runs)) (masks_of_runs (runs_in now.runs))
+    (now.invariant.starts c.loop-first-test.true) c.next_row-next.ensures now.invariant.planned (c.if-not-push.ensures.none refl)

@@ -24,3 +24,5 @@ pub mod PuttingRows
 pub mod PuttingStates
 pub mod PuttingSteps
 pub mod ReadingSteps
+pub mod ZeroRows
+pub mod ZeroedRows

@@ -8,3 +8,4 @@ pub mod OpenArray
 pub mod ReadWhole
 pub mod Settled
 pub mod Views
+pub mod ZeroRows

@@ -1,17 +1,16 @@
 -- The rows that a commit forms.
-use Rattle.std.specs.Prelude.{◌≡◌, ℕ, ◌+◌, ◌*◌, ◌/◌, ◌%◌, ◌<◌, List, [], length, slice_index_or}
+use Rattle.std.specs.Prelude.{◌≡◌, ℕ, ◌<◌, List, [], length, slice_index_or}
 use Rattle.std.specs.List.Sorted.{IsStrictlyIncreasing}
 use Rattle.sector_model.specs.History.{Bytes}
 use Rattle.layout_map.specs.declared.geometry.Geometry.{Geometry}
-use Rattle.layout_map.specs.Placement.{rows_of, data_sectors_of, stripe_of_chunk, IsPlace}
+use Rattle.layout_map.specs.Placement.{rows_of, data_sectors_of, IsPlace}
 use Rattle.parity.specs.Xor.{IsSoundRow}
 use Rattle.stripe_journal.specs.Seals.{row_at}
 use Rattle.degraded.specs.RowValue.{Rows, logical_list}
 use Rattle.array_io.specs.Believed.ArrayCalls.{written}
+use Rattle.array_io.specs.Believed.ZeroRows.{row_of_logical}
 
--- the row of a logical sector's place
-abbrev pub row_of_logical : Geometry → (logical : ℕ) → ℕ
-row_of_logical geometry logical = stripe_of_chunk geometry.members (logical / geometry.chunk) * geometry.chunk + logical % geometry.chunk
+pub use Rattle.array_io.specs.Believed.ZeroRows.{row_of_logical}
 
 -- the row is one of these
 pub record IsAmong (rows : List ℕ) (row : ℕ) : Type 0 where

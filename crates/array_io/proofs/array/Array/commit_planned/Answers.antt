@@ -49,10 +49,15 @@ put_on_journals-requires-clause-fits g c =
     body_fits geometry.members geometry.format c.next_seal-seal.result c.form_rows.new.entry geometry.limits.members_most seal.of_format
     (entry_of_form geometry.members c.form_rows.new.entry geometry.format c.next_seal-seal.result.form seal)
 
-pub next_seal-seal-requires-clause-few : goal.next_seal-seal-requires-clause-few
-next_seal-seal-requires-clause-few g c = λ one.
+pub next_seal-seal-requires-clause-listed : goal.next_seal-seal-requires-clause-listed
+next_seal-seal-requires-clause-listed g c = λ one.
     let same = (c.in_ok-form_rows.ensures.steps (g.B.Bank.panel c.args.self.now.bank).devices c.args.self.now.entry).goes_on.not_older.same_geometry in
-    omega (arith, c.in_ok-form_rows.ensures.rows.few, c.requires.may.few (ap (λ (s : Geometry). s.format) (sym same) ∙ one))
+    record {
+      few = omega (arith, c.in_ok-form_rows.ensures.rows.few, c.requires.may.few (ap (λ (s : Geometry). s.format)
+          (sym {a = c.form_rows.new.table.geometry} same) ∙ one));
+      two = two_held c.args.self.now.table.geometry c.args.writes.now.sectors.now c.form_rows.new.entry c.in_ok-form_rows.ensures.rows
+          c.in_ok-form_rows.ensures.held;
+    }
 
 pub returns-in_err-put_on_journals-clause-commits : goal.returns-in_err-put_on_journals-clause-commits
 returns-in_err-put_on_journals-clause-commits g c =
@@ -149,7 +154,3 @@ returns-clause-honest g c = (
   λ fair. c.put_on_members.ensures.honest.0 (c.put_on_journals.ensures.honest.0 (c.form_rows.ensures.honest.0 fair)),
   λ fair. c.form_rows.ensures.honest.1 (c.put_on_journals.ensures.honest.1 (c.put_on_members.ensures.honest.1 fair)),
 )
-
-pub next_seal-seal-requires-clause-held : goal.next_seal-seal-requires-clause-held
-next_seal-seal-requires-clause-held g c =
-    two_held c.args.self.now.table.geometry c.args.writes.now.sectors.now c.form_rows.new.entry c.in_ok-form_rows.ensures.rows c.in_ok-form_rows.ensures.held

@@ -4,7 +4,7 @@ use Rattle.stripe_journal.proofs.EntryRows.{entry_rows}
 use Rattle.array_io.proofs.array.commit.next_seal.Goals as goal
 
 pub form-requires-clause-listed : goal.form-requires-clause-listed
-form-requires-clause-listed c = λ one. record { few = c.requires.few one; two = c.requires.held }
+form-requires-clause-listed c = c.requires.listed
 
 pub invariant_of-result : goal.invariant_of-result
 invariant_of-result c = record {

@@ -4,13 +4,16 @@
 //! 3.
 ghost use Rattle.std.specs.Prelude.{◌↔◌, IsTrue};
 ghost use Rattle.array_io.specs.Believed.ArrayCalls.{MayCommit};
+ghost use Rattle.array_io.specs.Believed.Views.{HasItsSlots};
 ghost use Rattle.array_io.specs.Steps.FormingRows.{HasLogical};
 
-use super::form_rows;
+use super::{Writes, form_rows};
 use crate::testing::{
     Bytes, Failure, Row, Slots, WHOLE, WITHOUT_0, WITHOUT_1, all, bank_of, blank, check_rows,
     check_slots, entry_of, put, put_row, same, table_of,
 };
+use batch::{Places, plan_rows};
+use entry_runs::RunsBuilder;
 use sector_model::{Bank, MemBank, Refusal, Sector};
 use std::process::Abort;
 use stripe_journal::Entry;
@@ -37,6 +40,35 @@ fn check_sectors(rt: &impl Abort, table: &Table, sectors: &[(u64, Sector)])
         assert!(rt; sector.0 < table.geometry.data_sectors());
         assert!(rt; !is_given(&sectors[..i], sector.0));
     }
+}
+
+// Forms the rows of sectors that may be committed (condition).
+fn form<B: Bank>(
+    rt: &impl Abort,
+    bank: &mut B,
+    table: &mut Table,
+    given: &[(u64, Sector)],
+    entry: &mut Entry,
+) -> Result<(), Refusal>
+    requires its_slots { HasItsSlots table.old (B.panel bank.old) }
+    requires may { MayCommit table.old given.now }
+{
+    let placed = Places::of(&table.geometry, given);
+    let places = placed.as_slice();
+    let mut rows = RunsBuilder::new();
+    if !plan_rows(&table.geometry, places, &mut rows) {
+        panic!(rt; "up to 32 sectors fit an entry");
+    }
+    form_rows(
+        bank,
+        table,
+        &Writes {
+            sectors: given,
+            places,
+            rows: &rows,
+        },
+        entry,
+    )
 }
 
 // The forming of the rows of these logical sectors, each full of one byte, in a set of these slots, whose members have
@@ -84,7 +116,7 @@ fn check_forming(rt: &(impl Abort + AllocGlobal), case: &Case, given: &[(u64, Se
     let mut entry = entry_of(rt, &[]);
     check_slots(rt, &table, &bank);
     check_sectors(rt, &table, given);
-    let answer = form_rows(&mut bank, &mut table, given, &mut entry);
+    let answer = form(rt, &mut bank, &mut table, given, &mut entry);
     same(rt, (answer, bank.now()), (case.answer, case.calls));
     same(rt, table, table_of(rt, case.table.0, &case.table.1));
     if answer.is_ok() {
@@ -518,7 +550,7 @@ fn check_reads(
     let mut entry = entry_of(rt, &[]);
     check_slots(rt, &table, &bank);
     check_sectors(rt, &table, &given);
-    let answer = form_rows(&mut bank, &mut table, &given, &mut entry);
+    let answer = form(rt, &mut bank, &mut table, &given, &mut entry);
     same(rt, (answer, bank.now()), (Ok(()), reads));
     check_parity(rt, &entry, set.parity, byte);
 }

@@ -1,7 +1,9 @@
 pub mod Cuts
 pub mod GivenSectors
+pub mod Kept
 pub mod Masks
 pub mod OnePlan
 pub mod Order
 pub mod Placing
 pub mod PlannedRows
+pub mod Staged

@@ -57,6 +57,16 @@ impl Places {
         places
     }
 
+    /// The same places once more.
+    pub fn copy(&self) -> Places
+        ensures { places_in result ≡ places_in self.now }
+    {
+        match ArrayVec::try_from(self.list.as_slice()) {
+            Ok(list) => Places { list },
+            Err(_) => unreachable!(),
+        }
+    }
+
     /// Takes all places out.
     pub fn clear(&mut self)
         ensures { places_in self.new ≡ [] }

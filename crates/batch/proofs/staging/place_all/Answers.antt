@@ -1,0 +1,8 @@
+use Rattle.batch.specs.Listed.{places_in}
+use Rattle.batch.proofs.Staged.{added_more}
+use Rattle.batch.proofs.staging.place_all.Goals as goal
+
+pub loop-sector-preserved : goal.loop-sector-preserved
+loop-sector-preserved c =
+    added_more c.args.geometry.now c.args.most c.args.sectors.now c.loop-sector.sector-index c.args.all.now c.loop-sector.all c.place_one.new.all
+    (places_in c.args.places.now) (places_in c.loop-sector.places) (places_in c.place_one.new.places) c.loop-sector.invariant c.if-not-place_one.ensures

@@ -4,6 +4,7 @@ ghost use Rattle.layout_map.specs.declared.format.Format.TheVariants.{One};
 ghost use Rattle.layout_map.specs.declared.sizes.TheConstants.{ENTRY_ROWS};
 ghost use Rattle.sector_model.specs.declared.calls.TheConstants.{GREATEST_COUNT};
 ghost use Rattle.stripe_journal.specs.Entries.{IsFormOf, ListsItsRows, numbers_of};
+ghost use Rattle.batch.specs.Batches.{waiting};
 ghost use Rattle.entry_runs.specs.Built.{runs_in};
 ghost use Rattle.entry_runs.specs.WrittenOut.{rows_of_runs};
 ghost use Rattle.array_io.specs.Believed.ArrayCalls.{Commits, MayCommit, MayForm};
@@ -14,7 +15,7 @@ ghost use Rattle.array_io.specs.Steps.FormingRows.{IsPlanned};
 use super::put::{put_on_journals, put_on_members};
 use crate::Array;
 use crate::forming::{Writes, form_rows};
-use batch::{Places, plan_rows};
+use batch::{Batch, Places, plan_rows};
 use entry_runs::RunsBuilder;
 use sector_model::{Bank, GREATEST_COUNT, Refusal, Sector};
 use stripe_journal::{Entry, Seal};
@@ -47,6 +48,22 @@ impl<B: Bank> Array<B> {
             sectors,
             places,
             rows: &rows,
+        })
+    }
+
+    /// Writes the sectors of a batch, 1 at least, of a set of this geometry (conditions), by one entry: as `commit` does
+    /// those that it is given. Refused as `commit` is.
+    pub fn commit_batch(&mut self, batch: &Batch) -> Result<(), Refusal>
+        requires some { 1 ≤ length (waiting batch.now) }
+        requires same { batch.now.geometry ≡ self.old.table.geometry }
+        ensures honest { IsHonest self.old ↔ IsHonest self.new }
+        ensures commits { Commits (IsHonest self.old) (waiting batch.now) (array_view self.old) (array_view self.new)
+            result }
+    {
+        self.commit_planned(&Writes {
+            sectors: batch.sectors(),
+            places: batch.places(),
+            rows: batch.runs(),
         })
     }
 

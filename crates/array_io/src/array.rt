@@ -10,6 +10,7 @@ mod commit;
 pub(crate) mod mark;
 mod put;
 pub(crate) mod read;
+mod zeroing;
 
 pub use self::mark::{is_other_out, mark_slot};
 pub use self::put::{done_or_fail_slot, put_on_journal, put_on_members};

@@ -231,11 +231,7 @@ fn form_row<B: Bank>(
 }
 
 // Puts the parity of each row in its place in the entry, which holds it.
-fn form_parities<B: Bank>(
-    bank: &mut B,
-    table: &mut Table,
-    entry: &mut Entry,
-) -> Result<(), Refusal>
+fn form_parities<B: Bank>(bank: &mut B, table: &mut Table, entry: &mut Entry) -> Result<(), Refusal>
     requires its_slots { HasItsSlots table.old (B.panel bank.old) }
     requires rows { AreRowsOfSet table.old.geometry (numbers_of entry.old) }
     requires held { (i member : ℕ) → i < length (numbers_of entry.old)

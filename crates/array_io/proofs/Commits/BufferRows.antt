@@ -6,7 +6,6 @@ use Rattle.std.proofs.lemmas.Bool.{cases_eq}
 use Rattle.std.proofs.lemmas.List.{ext_get_or, get_or-set_same, get_or-set_other, length-set}
 use Rattle.std.proofs.lemmas.List.FromFn.{fill_by_all, get_or-map-range_with_len, length-map-range_with_len}
 use Rattle.sector_model.specs.History.{Bytes}
-use Rattle.layout_map.specs.declared.geometry.Geometry.{Geometry}
 use Rattle.layout_map.specs.declared.sizes.TheConstants.{MOST_MEMBERS}
 use Rattle.parity.specs.Xor.{IsSoundRow, xor_of, xor_of_all, zero_sector}
 use Rattle.parity.proofs.Laws.{length-xor_of, length-xor_of_all, xor_of-assoc, xor_of-comm, xor_of-self, xor_of-zero_right, xor_of-zero-xor_of_all}
@@ -17,7 +16,7 @@ use Rattle.stripe_journal.specs.Forms.{has_bit, mask_at}
 use Rattle.stripe_journal.proofs.Entries.{sector_elsewhere, sector_there}
 use Rattle.degraded.proofs.Others.{map-range}
 use Rattle.degraded.proofs.Sums.{xor_members-more}
-use Rattle.array_io.specs.Steps.FormingRows.{Given, IsTouchedBy, row_with, sector_with}
+use Rattle.array_io.specs.Steps.FormingRows.{row_with, sector_with}
 
 -- a member's sector that the entry holds, and one that it doesn't
 pub held_with : (entry : Entry) (i : ℕ) (values : List Bytes) (member : ℕ) → has_bit (row_mask entry i) member ≡ true
@@ -154,11 +153,3 @@ changes_all members entry i values long sound =
     fill_by_all (λ (m : ℕ). slice_index_or values m []) values members [] long (λ k within. refl) in
     ap (λ (s : Bytes). xor_of s (xor_of_all (row_with members entry i values))) (sym (ap xor_of_all by_member) ∙ sound)
     ∙ xor_of-zero-xor_of_all (row_with members entry i values)
-
--- what lies in a row, among more of the given sectors
-pub touched_more : (geometry : Geometry) (sectors : Given) (few many row : ℕ) → few ≤ many → IsTouchedBy geometry sectors few row
-    → IsTouchedBy geometry sectors many row
-touched_more geometry sectors few many row most touched = record {
-  member = touched.member;
-  given = record { which = touched.given.which; within = omega (arith, touched.given.within); lies = touched.given.lies };
-}

@@ -13,7 +13,7 @@ use Rattle.superblock.specs.Counted.{Content, IsInFull}
 use Rattle.superblock.specs.NextTables.{slots_of}
 use Rattle.stripe_journal.specs.declared.seal.Seal.{Seal}
 use Rattle.stripe_journal.specs.Body.{place_in}
-use Rattle.stripe_journal.specs.Forms.{holds, rank, rows_in}
+use Rattle.stripe_journal.specs.Forms.{holds, rows_in}
 use Rattle.stripe_journal.specs.Seals.{row_at}
 use Rattle.stripe_journal.specs.Entries.{body_start}
 use Rattle.stripe_journal.specs.LastEntry.{Entry, IsGreatest, IsLastEntry, IsLastSealed, number_of, sector_in, sector_of_last}

@@ -19,7 +19,7 @@ use Rattle.degraded.specs.RowValue.{AreSound, Rows, logical_list, row_values, va
 use Rattle.array_io.specs.Believed.ArrayCalls.{written}
 use Rattle.array_io.specs.Steps.Forming.{IsAmong, IsFormed, row_of_logical}
 use Rattle.array_io.specs.Steps.FormingRows.{Given, logical_at, bytes_at, row_with, sector_with, HasLogical, IsChanged, AreApart, AreOfSet, AreRowsOf}
-use Rattle.array_io.specs.Steps.FormingRows.{HoldsChanged, HoldsGiven, IsTouchedBy, FormsListed}
+use Rattle.array_io.specs.Steps.FormingRows.{HoldsChanged, HoldsGiven, IsTouched, FormsListed}
 use Rattle.array_io.proofs.Commits.BufferRows.{held_with, lacking_with, length-row_with, member_with}
 use Rattle.array_io.proofs.Commits.ChangedRows.{two_bits}
 use Rattle.array_io.proofs.Commits.EntryValues.{values_of}
@@ -175,7 +175,7 @@ forms_list geometry base sectors entry forms apart of_set width sound whole = re
 }
 
 -- Each row holds two sectors at least: a given one, and the parity.
-pub two_changed : (geometry : Geometry) (sectors : Given) (row mask : ℕ) → IsTouchedBy geometry sectors (length sectors) row
+pub two_changed : (geometry : Geometry) (sectors : Given) (row mask : ℕ) → IsTouched geometry sectors row
     → ((member : ℕ) → (has_bit mask member ≡ true) ↔ IsChanged geometry sectors row member) → 2 ≤ count_ones mask
 two_changed geometry sectors row mask touched changed =
     let parity = parity_is_there row geometry.limits in

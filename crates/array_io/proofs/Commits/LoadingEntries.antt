@@ -1,8 +1,7 @@
 -- Sectors that are read into the rows of an entry.
-use Rattle.std.proofs.Common.{◌≡◌, ◌≢◌, inl, inr, ℕ, ◌+◌, ◌<◌, ◌≤◌, Bool, true, false, cond, List, [], refl, sym, ◌∙◌, ap, arith, ◌∷◌, ◌++◌}
-use Rattle.std.proofs.Common.{length, take, get_or}
+use Rattle.std.proofs.Common.{◌≡◌, ◌≢◌, inl, inr, ℕ, ◌+◌, ◌<◌, Bool, true, false, cond, List, refl, sym, ◌∙◌, ap, arith}
+use Rattle.std.proofs.Common.{length}
 use Rattle.std.specs.Prelude.{◌||◌, Ok, Err}
-use Rattle.std.proofs.lemmas.Grind.{common_steps}
 use Rattle.std.proofs.lemmas.Bool.{cases_eq, false≢true, ne_eqb}
 use Rattle.sector_model.specs.declared.sector.Stop.{Stop}
 use Rattle.sector_model.specs.declared.sector.Stop.TheVariants.{Down, Worn}
@@ -13,9 +12,8 @@ use Rattle.sector_model.specs.Reads.{HasRead}
 use Rattle.sector_model.proofs.Reading.{seen_read}
 use Rattle.layout_map.specs.declared.sizes.TheConstants.{MOST_MEMBERS}
 use Rattle.stripe_journal.specs.declared.entry.Entry.{Entry}
-use Rattle.stripe_journal.specs.declared.form.Form.{Form}
-use Rattle.stripe_journal.specs.Entries.{form_of, numbers_of, row_mask, sector_at, with_sector}
-use Rattle.stripe_journal.specs.Forms.{count_held, has_bit, in_body}
+use Rattle.stripe_journal.specs.Entries.{numbers_of, row_mask, sector_at, with_sector}
+use Rattle.stripe_journal.specs.Forms.{count_held, has_bit}
 use Rattle.stripe_journal.proofs.Entries.{sector_there, sector_elsewhere}
 
 -- what a read gives after others is what it would have given before them

@@ -1,20 +1,19 @@
 -- Rows that are planned by where given sectors lie are the rows of these, and their masks tell what a commit of them changes.
-use Rattle.std.proofs.Common.{◌≡◌, ◌↔◌, inl, inr, ℕ, ◌<◌, ◌≤◌, true, List, length, refl, sym, ◌∙◌, ap, subst, arith}
+use Rattle.std.proofs.Common.{◌≡◌, inl, inr, ℕ, ◌<◌, ◌≤◌, List, length, refl, sym, ◌∙◌, ap, subst, arith}
 use Rattle.std.specs.List.Sorted.{IsStrictlyIncreasing}
 use Rattle.std.proofs.lemmas.Bool.{cases_eq, cases_lt}
 use Rattle.layout_map.specs.declared.geometry.Geometry.{Geometry}
-use Rattle.layout_map.specs.declared.sizes.TheConstants.{MOST_MEMBERS}
 use Rattle.layout_map.proofs.Places.{place_is_one, place_member_below, place_row_below}
 use Rattle.entry_runs.specs.Built.{runs_in}
 use Rattle.batch.specs.declared.placed.Placed.{Placed}
 use Rattle.batch.specs.Places.{IsPlaced, placed_at}
 use Rattle.stripe_journal.specs.declared.entry.Entry.{Entry}
 use Rattle.stripe_journal.specs.declared.form.Form.{Form}
-use Rattle.stripe_journal.specs.Entries.{form_of, numbers_of, row_mask, sector_at}
-use Rattle.stripe_journal.specs.Forms.{has_bit, rows_in}
+use Rattle.stripe_journal.specs.Entries.{form_of, numbers_of, sector_at}
+use Rattle.stripe_journal.specs.Forms.{rows_in}
 use Rattle.stripe_journal.specs.Seals.{row_at}
 use Rattle.stripe_journal.proofs.Places.{rising_order}
-use Rattle.array_io.specs.Steps.FormingRows.{AreOfSet, AreRowsOf, Given, HasPut, HasRoomFor, HoldsChanged, HoldsGiven, IsChanged, IsGiven, IsPlanned, LiesAt}
+use Rattle.array_io.specs.Steps.FormingRows.{AreOfSet, AreRowsOf, Given, HasPut, HasRoomFor, HoldsChanged, HoldsGiven, IsGiven, IsPlanned, LiesAt}
 use Rattle.array_io.specs.Steps.FormingRows.{bytes_at, logical_at}
 
 -- entries of one form have the same rows
@@ -80,8 +79,7 @@ module _ (geometry : Geometry) (sectors : Given) (places : List Placed) (entry :
   pub planned_masks : HoldsChanged geometry sectors entry
   planned_masks i member within =
       let row = row_at (numbers_of entry) i in
-      let bits = planned.planned.bits i member within in
-      (
+      let bits = planned.planned.bits i member within in (
         λ is. elim (bits.0 is) [
           | inl placed ↦ inl (given_there row member placed)
           | inr parity ↦ inr parity

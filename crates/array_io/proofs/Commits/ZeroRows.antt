@@ -1,13 +1,10 @@
 -- Whole rows that one entry makes zero: which logical sectors these are, and that the rows are formed.
-use Rattle.std.proofs.Common.{◌≡◌, ◌≢◌, inl, inr, ℕ, zero, suc, ◌+◌, ◌<◌, ◌≤◌, ◌==◌, Bool, true, false, cond, List, [], ◌∷◌, length, replicate, refl, sym, ◌∙◌, ap, subst, arith}
-use Rattle.std.specs.Prelude.{◌||◌, nat_lt, slice_index_or}
+use Rattle.std.proofs.Common.{◌≡◌, inl, inr, ℕ, zero, suc, ◌<◌, ◌==◌, Bool, true, false, cond, List, [], ◌∷◌, length, refl, sym, ◌∙◌, ap, subst, arith}
+use Rattle.std.specs.Prelude.{◌||◌}
 use Rattle.std.proofs.lemmas.Bool.{cases_eq, eq-eqb, eqb-true, or_left, or_right}
-use Rattle.sector_model.specs.History.{Bytes}
 use Rattle.layout_map.specs.declared.geometry.Geometry.{Geometry}
-use Rattle.layout_map.specs.Placement.{IsPlace, data_sectors_of, rows_of}
+use Rattle.layout_map.specs.Placement.{data_sectors_of}
 use Rattle.parity.specs.Xor.{zero_sector}
-use Rattle.parity.proofs.Laws.{sound_zeros}
-use Rattle.array_io.specs.Believed.ArrayCalls.{written}
 use Rattle.array_io.specs.Believed.ZeroRows.{is_row, row_of_logical, zeros_below, zeros_in}
 use Rattle.array_io.specs.Steps.FormingRows.{AreApart, AreOfSet, Given, HasLogical, HasRow, bytes_at, logical_at}
 use Rattle.stripe_journal.specs.Seals.{row_at}

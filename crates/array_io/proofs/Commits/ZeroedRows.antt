@@ -1,5 +1,5 @@
 -- An entry whose rows are all zero is formed: its values are zeros.
-use Rattle.std.proofs.Common.{◌≡◌, ℕ, ◌+◌, ◌%◌, ◌<◌, ◌≤◌, ◌==◌, Bool, true, false, cond, List, [], length, replicate, refl, sym, ◌∙◌, ap, subst, arith}
+use Rattle.std.proofs.Common.{◌≡◌, ℕ, ◌+◌, ◌<◌, ◌≤◌, Bool, true, cond, List, [], length, replicate, refl, sym, ◌∙◌, ap, subst, arith}
 use Rattle.std.specs.Prelude.{nat_lt, slice_index_or}
 use Rattle.std.specs.List.Sorted.{IsStrictlyIncreasing}
 use Rattle.std.proofs.lemmas.Bool.{both_ways, eq-eqb, lt-ltb, ltb-true}
@@ -8,7 +8,7 @@ use Rattle.sector_model.specs.History.{Bytes, History}
 use Rattle.sector_model.specs.Readable.{readable}
 use Rattle.layout_map.specs.declared.geometry.Geometry.{Geometry}
 use Rattle.layout_map.specs.declared.sizes.TheConstants.{MOST_MEMBERS}
-use Rattle.layout_map.specs.Placement.{IsPlace, data_sectors_of, rows_of}
+use Rattle.layout_map.specs.Placement.{rows_of}
 use Rattle.layout_map.proofs.Places.{place_member_below}
 use Rattle.parity.specs.Xor.{IsSoundRow, zero_sector}
 use Rattle.parity.proofs.Laws.{sound_zeros, zero_sector-replicate}
@@ -17,16 +17,13 @@ use Rattle.stripe_journal.specs.declared.entry.Entry.{Entry}
 use Rattle.stripe_journal.specs.declared.seal.Seal.{Seal}
 use Rattle.stripe_journal.specs.Entries.{IsEntryOf, IsFormOf, body_of, numbers_of, row_mask}
 use Rattle.stripe_journal.specs.Forms.{has_zeros, holds, in_body, rank, rows_in}
-use Rattle.stripe_journal.specs.LastSealed.{RowsHold}
 use Rattle.stripe_journal.specs.Seals.{row_at}
 use Rattle.stripe_journal.proofs.HeldEntries.{entry_of_form, length_of_seal}
-use Rattle.degraded.specs.RowValue.{Rows, logical_list, value}
+use Rattle.degraded.specs.RowValue.{Rows, logical_list}
 use Rattle.array_io.specs.Believed.ArrayCalls.{written}
 use Rattle.array_io.specs.Believed.Settled.{rows_by}
-use Rattle.array_io.specs.Believed.ZeroRows.{row_of_logical, zeros_in}
+use Rattle.array_io.specs.Believed.ZeroRows.{zeros_in}
 use Rattle.array_io.specs.Steps.Forming.{IsFormed}
-use Rattle.array_io.specs.Steps.FormingRows.{bytes_at, logical_at}
-use Rattle.array_io.specs.Steps.Putting.{held_sector}
 use Rattle.array_io.proofs.Commits.CommittingBegins.{IsFormedNext}
 use Rattle.array_io.proofs.Commits.FormedEntry.{written_given}
 use Rattle.array_io.proofs.Commits.FormedRows.{length-logical_list}

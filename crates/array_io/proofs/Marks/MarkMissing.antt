@@ -13,7 +13,6 @@ use Rattle.sector_model.specs.History.{Bytes, History}
 use Rattle.sector_model.specs.Moments.{here}
 use Rattle.sector_model.proofs.Panels.{later_same}
 use Rattle.sector_model.proofs.Steps.{throughout_last}
-use Rattle.layout_map.specs.declared.format.Format.TheVariants.{One}
 use Rattle.layout_map.specs.declared.geometry.Geometry.{Geometry}
 use Rattle.layout_map.specs.declared.sizes.TheConstants.{SUPERBLOCK_PLACES}
 use Rattle.superblock.proofs.LeastSectors.{four_least}

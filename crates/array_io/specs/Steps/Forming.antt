@@ -9,7 +9,6 @@ use Rattle.stripe_journal.specs.Seals.{row_at}
 use Rattle.degraded.specs.RowValue.{Rows, logical_list}
 use Rattle.array_io.specs.Believed.ArrayCalls.{written}
 use Rattle.array_io.specs.Believed.ZeroRows.{row_of_logical}
-
 pub use Rattle.array_io.specs.Believed.ZeroRows.{row_of_logical}
 
 -- the row is one of these

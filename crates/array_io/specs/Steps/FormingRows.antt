@@ -1,5 +1,5 @@
 -- What stands in an entry once the rows of given logical sectors are formed in it.
-use Rattle.std.specs.Prelude.{◌≡◌, ◌≢◌, ◌⊎◌, ◌↔◌, ℕ, ◌<◌, ◌≤◌, true, if◌then◌else◌, List, [], length, map, slice_index_or}
+use Rattle.std.specs.Prelude.{◌≡◌, ◌↔◌, ℕ, ◌<◌, ◌≤◌, true, if◌then◌else◌, List, [], length, map, slice_index_or}
 use Rattle.std.specs.List.{range_with_len}
 use Rattle.std.specs.List.Sorted.{IsStrictlyIncreasing}
 use Rattle.sector_model.specs.History.{Bytes}
@@ -10,42 +10,29 @@ use Rattle.parity.specs.Xor.{IsSoundRow}
 use Rattle.entry_runs.specs.declared.run.Run.{Run}
 use Rattle.entry_runs.specs.WrittenOut.{masks_of_runs, rows_of_runs}
 use Rattle.batch.specs.declared.placed.Placed.{Placed}
+use Rattle.batch.specs.Changes.{IsChanged, IsGiven}
 use Rattle.batch.specs.Places.{AreApart, AreOfSet, ArePlacesOf, ArePlanned, AreRising, Given, HasParityOn, HasRow, LiesAt, bytes_at, logical_at, placed_at}
 use Rattle.stripe_journal.specs.declared.entry.Entry.{Entry}
 use Rattle.stripe_journal.specs.Entries.{numbers_of, row_mask, sector_at}
 use Rattle.stripe_journal.specs.Forms.{has_bit}
 use Rattle.stripe_journal.specs.Seals.{row_at}
-
 pub use Rattle.batch.specs.Places.{AreApart, AreOfSet, Given, HasParityOn, HasRow, LiesAt, bytes_at, logical_at}
-
--- one of the first so many of the given sectors lies there
-pub record IsGivenBy (geometry : Geometry) (sectors : Given) (count row member : ℕ) : Type 0 where
-  pub which : ℕ
-  pub within : which < count
-  pub lies : LiesAt geometry (logical_at sectors which) row member
-
--- a given sector lies there
-abbrev pub IsGiven : Geometry → Given → (row member : ℕ) → Type 0
-IsGiven geometry sectors row member = IsGivenBy geometry sectors (length sectors) row member
+pub use Rattle.batch.specs.Changes.{IsChanged, IsGiven}
 
 -- each of the given sectors lies in one of the rows
 abbrev pub HaveRows : Geometry → Given → List ℕ → Type 0
 HaveRows geometry sectors rows = (k row member : ℕ) → k < length sectors → LiesAt geometry (logical_at sectors k) row member → HasRow rows row
 
--- one of the first so many of the given sectors lies in the row
-pub record IsTouchedBy (geometry : Geometry) (sectors : Given) (count row : ℕ) : Type 0 where
+-- one of the given sectors lies in the row
+pub record IsTouched (geometry : Geometry) (sectors : Given) (row : ℕ) : Type 0 where
   pub member : ℕ
-  pub given : IsGivenBy geometry sectors count row member
+  pub given : IsGiven geometry sectors row member
 
 -- the logical sector is one of those given
 pub record HasLogical (sectors : Given) (logical : ℕ) : Type 0 where
   pub which : ℕ
   pub within : which < length sectors
   pub is : logical_at sectors which ≡ logical
-
--- a commit changes the member's sector in the row: it is given, or the row's parity
-abbrev pub IsChanged : Geometry → Given → (row member : ℕ) → Type 0
-IsChanged geometry sectors row member = IsGiven geometry sectors row member ⊎ HasParityOn geometry row member
 
 -- The entry holds of each of its rows the sectors that change, and no other.
 abbrev pub HoldsChanged : Geometry → Given → Entry → Type 0
@@ -63,7 +50,7 @@ pub record AreRowsOf (geometry : Geometry) (sectors : Given) (rows : List ℕ) :
   pub rising : IsStrictlyIncreasing rows
   pub of_set : AreRowsOfSet geometry rows
   pub each : HaveRows geometry sectors rows
-  pub only : (i : ℕ) → i < length rows → IsTouchedBy geometry sectors (length sectors) (row_at rows i)
+  pub only : (i : ℕ) → i < length rows → IsTouched geometry sectors (row_at rows i)
 
 -- The given sectors have these places, and the rows that a commit of them changes are those of these runs.
 pub record IsPlanned (geometry : Geometry) (sectors : Given) (places : List Placed) (runs : List Run) : Type 0 where

@@ -6,9 +6,7 @@ ghost use Rattle.sector_model.specs.declared.calls.TheConstants.{GREATEST_COUNT}
 ghost use Rattle.stripe_journal.specs.Entries.{IsFormOf, ListsItsRows, numbers_of};
 ghost use Rattle.batch.specs.Batches.{waiting};
 ghost use Rattle.entry_runs.specs.Built.{runs_in};
-ghost use Rattle.entry_runs.specs.WrittenOut.{rows_of_runs};
 ghost use Rattle.array_io.specs.Believed.ArrayCalls.{Commits, MayCommit, MayForm};
-ghost use Rattle.array_io.specs.Believed.ZeroRows.{MayZero, zeros_in};
 ghost use Rattle.array_io.specs.Believed.OpenArray.{IsHonest, array_view};
 ghost use Rattle.array_io.specs.Steps.FormingRows.{IsPlanned};
 
@@ -67,29 +65,6 @@ impl<B: Bank> Array<B> {
         })
     }
 
-    /// Makes all data of whole rows zero: at each moment a crash leaves all of them as they were or all zero, and after
-    /// `Ok` zero. They are one entry of the journal that has no body: its seal alone says which rows are zero. No sector
-    /// is read; each member's sector of each row is written once, zero, parity among them.
-    ///
-    /// The rows are runs of zeros, with 1 row at least, of a set of format 2 (conditions). Refused as `commit` is.
-    pub fn commit_zeros(&mut self, rows: &RunsBuilder) -> Result<(), Refusal>
-        requires { MayZero self.old.table (runs_in rows.now) }
-        ensures honest { IsHonest self.old ↔ IsHonest self.new }
-        ensures commits { Commits (IsHonest self.old)
-            (zeros_in self.old.table.geometry (rows_of_runs (runs_in rows.now))) (array_view self.old)
-            (array_view self.new) result }
-    {
-        if self.entry >= GREATEST_COUNT {
-            return Err(Refusal::Worn);
-        }
-        self.buffer.set_rows(rows);
-        let seal = next_seal(&self.table, self.entry, &self.buffer);
-        put_on_journals(&mut self.bank, &mut self.table, &seal, &self.buffer)?;
-        put_on_members(&mut self.bank, &mut self.table, &seal, &self.buffer)?;
-        self.entry += 1;
-        Ok(())
-    }
-
     // Writes logical sectors of the set, 1 at least and none twice, whose rows are planned (conditions), by one entry.
     fn commit_planned(&mut self, writes: &Writes) -> Result<(), Refusal>
         requires may { MayForm self.old.table writes.now.sectors.now }
@@ -111,8 +86,9 @@ impl<B: Bank> Array<B> {
     }
 }
 
-// The seal of an entry, with the number after this one.
-fn next_seal(table: &Table, number: u64, entry: &Entry) -> Seal
+/// The seal of an entry, with the number after this one. The entry has 1 row at least, and in a set of format 1 what
+/// `ListsItsRows` says (conditions).
+pub(super) fn next_seal(table: &Table, number: u64, entry: &Entry) -> Seal
     requires room { number < GREATEST_COUNT }
     requires least { 1 ≤ length (numbers_of entry.now) }
     requires listed { table.now.geometry.format ≡ One → ListsItsRows entry.now }

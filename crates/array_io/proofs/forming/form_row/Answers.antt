@@ -1,7 +1,6 @@
-use Rattle.std.proofs.Common.{◌≡◌, ◌≢◌, ℕ, ◌<◌, ◌≤◌, true, List, length, refl, sym, ◌∙◌, ap, subst, arith}
+use Rattle.std.proofs.Common.{◌≡◌, ◌≢◌, ℕ, ◌<◌, ◌≤◌, true, length, sym, ◌∙◌, ap, subst, arith}
 use Rattle.std.proofs.lemmas.Result.{err_from_is_err_and}
 use Rattle.layout_map.specs.declared.sizes.TheConstants.{MOST_MEMBERS}
-use Rattle.parity.specs.Xor.{IsSoundRow}
 use Rattle.stripe_journal.specs.Entries.{numbers_of, row_mask}
 use Rattle.stripe_journal.specs.Forms.{has_bit}
 use Rattle.stripe_journal.proofs.Entries.{sector_elsewhere}

@@ -1,5 +1,5 @@
-use Rattle.std.proofs.Common.{◌≡◌, ℕ, Bool, true, false, List, [], Option, Some, None, refl, ap, sym, ◌∙◌, arith}
-use Rattle.std.specs.Prelude.{◌&&◌, IfSome, slice_index_or}
+use Rattle.std.proofs.Common.{◌≡◌, ℕ, Bool, true, false, List, Option, Some, None, refl, ap, sym, ◌∙◌, arith}
+use Rattle.std.specs.Prelude.{◌&&◌, IfSome}
 use Rattle.sector_model.specs.History.{Bytes}
 use Rattle.superblock.specs.Tables.{state_at}
 use Rattle.stripe_journal.specs.Entries.{holds_sector, mask_holds, numbers_of, row_mask, sector_of_mask, sector_of_row}

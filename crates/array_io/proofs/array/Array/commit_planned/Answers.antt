@@ -53,8 +53,12 @@ pub next_seal-seal-requires-clause-listed : goal.next_seal-seal-requires-clause-
 next_seal-seal-requires-clause-listed g c = λ one.
     let same = (c.in_ok-form_rows.ensures.steps (g.B.Bank.panel c.args.self.now.bank).devices c.args.self.now.entry).goes_on.not_older.same_geometry in
     record {
-      few = omega (arith, c.in_ok-form_rows.ensures.rows.few, c.requires.may.few (ap (λ (s : Geometry). s.format)
-          (sym {a = c.form_rows.new.table.geometry} same) ∙ one));
+      few = omega (
+        arith,
+        c.in_ok-form_rows.ensures.rows.few,
+        c.requires.may.few (ap (λ (s : Geometry). s.format)
+            (sym {a = c.form_rows.new.table.geometry} same) ∙ one),
+      );
       two = two_held c.args.self.now.table.geometry c.args.writes.now.sectors.now c.form_rows.new.entry c.in_ok-form_rows.ensures.rows
           c.in_ok-form_rows.ensures.held;
     }

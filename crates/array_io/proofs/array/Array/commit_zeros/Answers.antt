@@ -1,5 +1,5 @@
 use Rattle.std.proofs.lemmas.Result.{err_from_is_err_and}
-use Rattle.std.proofs.Common.{◌≡◌, Err, Ok, ◌<◌, ℕ, List, length, refl, sym, ◌∙◌, ap, subst, arith}
+use Rattle.std.proofs.Common.{◌≡◌, Err, Ok, ◌<◌, ℕ, List, length, refl, sym, ◌∙◌, subst}
 use Rattle.layout_map.specs.declared.format.Format.TheVariants.{One, Two}
 use Rattle.layout_map.specs.declared.geometry.Geometry.{Geometry}
 use Rattle.layout_map.specs.Placement.{rows_of}
@@ -8,7 +8,7 @@ use Rattle.entry_runs.specs.Built.{runs_in}
 use Rattle.entry_runs.specs.WrittenOut.{rows_of_runs}
 use Rattle.superblock.specs.declared.table.Table.{Table}
 use Rattle.stripe_journal.specs.declared.entry.Entry.{Entry}
-use Rattle.stripe_journal.specs.Entries.{numbers_of, row_mask}
+use Rattle.stripe_journal.specs.Entries.{numbers_of}
 use Rattle.stripe_journal.specs.Seals.{row_at}
 use Rattle.stripe_journal.proofs.HeldEntries.{body_fits, entry_of_form}
 use Rattle.array_io.specs.Believed.Holds.{row_count}

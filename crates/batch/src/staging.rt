@@ -33,7 +33,8 @@ fn place_one(
     requires most { most ≤ MOST_PLACES }
     requires held { AreHeld geometry.now all.old (places_in places.old) }
     requires of_set { sector.now.0 < data_sectors_of geometry.now.members geometry.now.chunk geometry.now.stripes }
-    ensures { IsAdded geometry.now most sector.now all.old all.new (places_in places.old) (places_in places.new) result }
+    ensures { IsAdded geometry.now most sector.now all.old all.new (places_in places.old) (places_in places.new)
+        result }
 {
     let place = geometry.place(sector.0);
     let row = place.row as u32;

@@ -48,7 +48,8 @@ same_wait : (batch : Batch) (put : Given) → length put ≡ length batch.sector
     → first_of (places_in batch.places) (with_items batch.sectors put).items ≡ waiting batch
 same_wait batch put long kept =
     ap (first_of (places_in batch.places)) (over batch.sectors put long)
-    ∙ same_first batch.sectors.items put (places_in batch.places) long (omega (arith, batch.held.as_many, batch.held.long, most_below batch.geometry.format)) kept
+    ∙ same_first batch.sectors.items put (places_in batch.places) long
+    (omega (arith, batch.held.as_many, batch.held.long, most_below batch.geometry.format)) kept
 
 pub invariant_of-self : goal.invariant_of-self
 invariant_of-self c =
@@ -104,7 +105,8 @@ done batch copy lent given mid over_mid new limit more same is most_is mid_is ad
     let whole : length mid ≡ length batch.sectors.items = mid_long ∙ ap length is in
     let back : over_mid ≡ mid = mid_is ∙ over batch.sectors mid whole in
     record {
-      added = subst (λ (places : List Placed). AreAdded batch.geometry (most_of batch.geometry.format) given (length given) batch.sectors.items mid places more) same
+      added = subst
+          (λ (places : List Placed). AreAdded batch.geometry (most_of batch.geometry.format) given (length given) batch.sectors.items mid places more) same
           (subst (λ (all : Given). AreAdded batch.geometry (most_of batch.geometry.format) given (length given) all mid copy more) is
           (subst (λ (n : ℕ). AreAdded batch.geometry n given (length given) lent mid copy more) most_is added));
       put = subst (λ (all : Given). ArePut given (length given) (length more) all new) back put;
@@ -142,8 +144,8 @@ pub invariant_of-self-2 : goal.invariant_of-self-2
 invariant_of-self-2 c =
     let batch = c.args.self.now in
     let more = places_in c.place_all.new.places in
-    let is = done batch (places_in c.copy-places.result) c.deref_mut.result.now c.args.sectors.now c.place_all.new.all c.deref_mut-2.result.now c.put_all.new.all
-    c.most_places-most.result more c.copy-places.ensures c.deref_mut.ensures.value c.most_places-most.ensures c.deref_mut-2.ensures.value
+    let is = done batch (places_in c.copy-places.result) c.deref_mut.result.now c.args.sectors.now c.place_all.new.all c.deref_mut-2.result.now
+    c.put_all.new.all c.most_places-most.result more c.copy-places.ensures c.deref_mut.ensures.value c.most_places-most.ensures c.deref_mut-2.ensures.value
     (c.if-not-place_all.ensures.added refl) c.put_all.ensures c.place_all.auto.all c.put_all.auto.all in
     record {
       held = done_keeps batch c.args.sectors.now c.place_all.new.all c.put_all.new.all more is;
@@ -156,8 +158,8 @@ pub returns-clause-staged : goal.returns-clause-staged
 returns-clause-staged c = λ yes.
     let batch = c.args.self.now in
     let more = places_in c.place_all.new.places in
-    let is = done batch (places_in c.copy-places.result) c.deref_mut.result.now c.args.sectors.now c.place_all.new.all c.deref_mut-2.result.now c.put_all.new.all
-    c.most_places-most.result more c.copy-places.ensures c.deref_mut.ensures.value c.most_places-most.ensures c.deref_mut-2.ensures.value
+    let is = done batch (places_in c.copy-places.result) c.deref_mut.result.now c.args.sectors.now c.place_all.new.all c.deref_mut-2.result.now
+    c.put_all.new.all c.most_places-most.result more c.copy-places.ensures c.deref_mut.ensures.value c.most_places-most.ensures c.deref_mut-2.ensures.value
     (c.if-not-place_all.ensures.added refl) c.put_all.ensures c.place_all.auto.all c.put_all.auto.all in
     done_staged batch c.args.sectors.now c.place_all.new.all c.put_all.new.all more is
 
@@ -165,8 +167,8 @@ pub returns-clause-most : goal.returns-clause-most
 returns-clause-most c = λ yes.
     let batch = c.args.self.now in
     let more = places_in c.place_all.new.places in
-    let is = done batch (places_in c.copy-places.result) c.deref_mut.result.now c.args.sectors.now c.place_all.new.all c.deref_mut-2.result.now c.put_all.new.all
-    c.most_places-most.result more c.copy-places.ensures c.deref_mut.ensures.value c.most_places-most.ensures c.deref_mut-2.ensures.value
+    let is = done batch (places_in c.copy-places.result) c.deref_mut.result.now c.args.sectors.now c.place_all.new.all c.deref_mut-2.result.now
+    c.put_all.new.all c.most_places-most.result more c.copy-places.ensures c.deref_mut.ensures.value c.most_places-most.ensures c.deref_mut-2.ensures.value
     (c.if-not-place_all.ensures.added refl) c.put_all.ensures c.place_all.auto.all c.put_all.auto.all in
     done_long batch c.args.sectors.now c.place_all.new.all c.put_all.new.all more is
 

@@ -138,7 +138,8 @@ waiting_long batch = length-take-le (length (places_in batch.places)) batch.sect
 
 -- rows and masks
 
-pub planned_of : (geometry : Geometry) (places : List Placed) (rows masks : List ℕ) → KeepsPlan geometry places rows masks → ArePlanned geometry places rows masks
+pub planned_of : (geometry : Geometry) (places : List Placed) (rows masks : List ℕ) → KeepsPlan geometry places rows masks
+    → ArePlanned geometry places rows masks
 planned_of geometry places rows masks keeps = record {
   rising = keeps.rising;
   as_many = keeps.as_many;
@@ -157,7 +158,8 @@ planned_of geometry places rows masks keeps = record {
   );
 }
 
-pub keeps_plan : (geometry : Geometry) (places : List Placed) (rows masks : List ℕ) → ArePlanned geometry places rows masks → KeepsPlan geometry places rows masks
+pub keeps_plan : (geometry : Geometry) (places : List Placed) (rows masks : List ℕ) → ArePlanned geometry places rows masks
+    → KeepsPlan geometry places rows masks
 keeps_plan geometry places rows masks planned = record {
   rising = planned.rising;
   as_many = planned.as_many;

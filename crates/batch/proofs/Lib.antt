@@ -6,4 +6,5 @@ pub mod OnePlan
 pub mod Order
 pub mod Placing
 pub mod PlannedRows
+pub mod Refusals
 pub mod Staged

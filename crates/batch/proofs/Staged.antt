@@ -112,11 +112,13 @@ module _ (geometry : Geometry) (all : Given) (places : List Placed) (held : AreH
         has = λ yes. record { which = at; within = is.0; is = is.1 };
         only = λ k from before. absurd (omega (arith, from, before));
         full = λ no. absurd (cc);
+        none = λ no. absurd (cc);
       }
 
   -- one that doesn't has none where there is no room
-  pub added_not : (limit : ℕ) (sector : ℕ × Bytes) → limit ≤ length places → IsAdded geometry limit sector all all places places false
-  added_not limit sector full = record {
+  pub added_not : (limit row member : ℕ) (sector : ℕ × Bytes) → LiesAt geometry sector.0 row member → ¬ IsPlaced places row member → limit ≤ length places
+      → IsAdded geometry limit sector all all places places false
+  added_not limit row member sector lies alone full = record {
     held = held;
     least = omega arith;
     most = omega arith;
@@ -125,6 +127,7 @@ module _ (geometry : Geometry) (all : Given) (places : List Placed) (held : AreH
     has = λ yes. absurd (cc);
     only = λ k from before. absurd (omega (arith, from, before));
     full = λ no. full;
+    none = λ no has. alone (waits_placed sector.0 row member lies has);
   }
 
   -- and else one after them
@@ -179,6 +182,7 @@ module _ (geometry : Geometry) (all : Given) (places : List Placed) (held : AreH
             let is : k ≡ n = omega (arith, from, inside, inserted.more) in
             ap (logical_at new) is ∙ ap (λ (s : ℕ × Bytes). s.0) last;
         full = λ no. absurd (cc);
+        none = λ no. absurd (cc);
       }
 
   -- the data of one that waits is put where it waits

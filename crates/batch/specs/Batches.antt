@@ -11,7 +11,8 @@ use Rattle.batch.specs.Staging.{first_of, most_of}
 abbrev pub waiting : Batch → Given
 waiting batch = first_of (places_in batch.places) batch.sectors.items
 
--- Each batch is so: its sectors are of the set, not too many, and none is there twice, these are their places, and these runs have the rows that a commit changes.
+-- Each batch is so: its sectors are of the set, not too many, and none is there twice; these are their places; and these runs have the rows that a commit
+-- changes.
 pub record IsBatch (batch : Batch) : Type 0 where
   pub few : length (waiting batch) ≤ most_of batch.geometry.format
   pub of_set : AreOfSet batch.geometry (waiting batch)

@@ -7,10 +7,13 @@ use Rattle.layout_map.specs.declared.format.Format.{Format}
 use Rattle.layout_map.specs.declared.format.Format.TheVariants.{One, Two}
 use Rattle.layout_map.specs.declared.geometry.Geometry.{Geometry}
 use Rattle.layout_map.specs.Placement.{data_sectors_of}
+use Rattle.entry_runs.specs.declared.run.Run.{Run}
 use Rattle.entry_runs.specs.Body.{has_bit}
+use Rattle.entry_runs.specs.Runs.{FitEntry}
+use Rattle.entry_runs.specs.WrittenOut.{masks_of_runs, rows_of_runs}
 use Rattle.batch.specs.declared.placed.Placed.{Placed}
 use Rattle.batch.specs.declared.places.TheConstants.{MOST_PLACES}
-use Rattle.batch.specs.Places.{AreApart, AreOfSet, ArePlacesOf, Given, HasParityOn, LiesAt, bytes_at, logical_at, placed_at, row_of}
+use Rattle.batch.specs.Places.{AreApart, AreOfSet, ArePlacesOf, ArePlanned, Given, HasParityOn, LiesAt, bytes_at, logical_at, placed_at, row_of}
 
 -- the most sectors of an entry of a set of this format
 abbrev pub most_of : Format → ℕ
@@ -64,6 +67,7 @@ pub record IsAdded (geometry : Geometry) (limit : ℕ) (sector : ℕ × Bytes) (
   pub has : result ≡ true → HasLogical new (length more) sector.0
   pub only : (k : ℕ) → length places ≤ k → k < length more → logical_at new k ≡ sector.0
   pub full : result ≡ false → limit ≤ length places
+  pub none : result ≡ false → ¬ HasLogical old (length places) sector.0
 
 -- The first so many given sectors have places after those that have one, where they had none.
 pub record AreAdded (geometry : Geometry) (limit : ℕ) (given : Given) (count : ℕ) (old new : Given) (places more : List Placed) : Type 0 where
@@ -74,6 +78,21 @@ pub record AreAdded (geometry : Geometry) (limit : ℕ) (given : Given) (count :
   pub kept : (k : ℕ) → k < length places → sector_at new k ≡ sector_at old k
   pub has : (i : ℕ) → i < count → HasLogical new (length more) (logical_at given i)
   pub only : (k : ℕ) → length places ≤ k → k < length more → HasLogical given count (logical_at new k)
+
+-- There is no room for one of the given sectors, which does not wait yet: with those before it as many have a place as may have one.
+pub record IsFull (geometry : Geometry) (limit : ℕ) (given old : Given) (places : List Placed) : Type 0 where
+  pub count : ℕ
+  pub inside : count < length given
+  pub mid : Given
+  pub more : List Placed
+  pub added : AreAdded geometry limit given count old mid places more
+  pub full : limit ≤ length more
+  pub none : ¬ HasLogical mid (length more) (logical_at given count)
+
+-- No entry of the set could have all that would wait.
+abbrev pub NoneFits : Geometry → (old given : Given) → Type 0
+NoneFits geometry old given = (new : Given) (places : List Placed) (fit : List Run) → IsStaged old given new → length new ≤ most_of geometry.format
+    → ArePlacesOf geometry new places → FitEntry fit → ¬ ArePlanned geometry places (rows_of_runs fit) (masks_of_runs fit)
 
 -- Where one of so many sectors that wait is this one, its bytes are put there.
 pub record IsPut (sector : ℕ × Bytes) (count : ℕ) (old new : Given) : Type 0 where

@@ -32,7 +32,7 @@ impl Batch {
     ghost use Rattle.batch.specs.Batches.{waiting};
     ghost use Rattle.batch.specs.Listed.{places_in};
     ghost use Rattle.batch.specs.Places.{AreApart, AreOfSet};
-    ghost use Rattle.batch.specs.Staging.{IsStaged, most_of};
+    ghost use Rattle.batch.specs.Staging.{IsStaged, NoneFits, most_of};
 
     /// A batch in which no sector waits, of a set of this geometry. `Memory` where there is none for its 2,048 sectors,
     /// which are 1 MiB.
@@ -116,6 +116,7 @@ impl Batch {
         ensures places { result ≡ false → self.new.places ≡ self.old.places }
         ensures runs { result ≡ false → self.new.runs ≡ self.old.runs }
         ensures geometry { self.new.geometry ≡ self.old.geometry }
+        ensures none { result ≡ false → NoneFits self.old.geometry (waiting self.old) sectors.now }
         ensures few { length (waiting self.old) + length sectors.now ≤ 32 → result ≡ true }
     {
         let most = most_places(self.geometry.format);

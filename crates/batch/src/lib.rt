@@ -11,3 +11,6 @@ pub use batch::{Batch, MOST_AT_ONCE};
 pub use placed::Placed;
 pub use places::{MOST_PLACES, Places};
 pub use planning::plan_rows;
+
+#[cfg(test)]
+mod tests;

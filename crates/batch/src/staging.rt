@@ -1,10 +1,10 @@
 //! Sectors put among those that wait, and their data.
-ghost use Rattle.std.specs.Prelude.{◌≡◌, ◌≢◌, ◌+◌, ◌≤◌, ◌<◌, ℕ, length, true};
+ghost use Rattle.std.specs.Prelude.{◌≡◌, ◌≢◌, ◌+◌, ◌≤◌, ◌<◌, ℕ, false, length, true};
 ghost use Rattle.layout_map.specs.Placement.{data_sectors_of};
 ghost use Rattle.batch.specs.Listed.{places_in};
 ghost use Rattle.batch.specs.Places.{AreApart, AreOfSet, bytes_at, logical_at};
-ghost use Rattle.batch.specs.Staging.{AreAdded, AreHeld, ArePut, HasLogical, IsAdded, IsPut};
-ghost use Rattle.batch.specs.Staging.{most_of, sector_at};
+ghost use Rattle.batch.specs.Staging.{AreAdded, AreHeld, ArePut, HasLogical, IsAdded, IsFull};
+ghost use Rattle.batch.specs.Staging.{IsPut, most_of, sector_at};
 
 use crate::{MOST_PLACES, Placed, Places};
 use layout_map::{Format, Geometry};
@@ -33,7 +33,8 @@ fn place_one(
     requires most { most ≤ MOST_PLACES }
     requires held { AreHeld geometry.now all.old (places_in places.old) }
     requires of_set { sector.now.0 < data_sectors_of geometry.now.members geometry.now.chunk geometry.now.stripes }
-    ensures { IsAdded geometry.now most sector.now all.old all.new (places_in places.old) (places_in places.new) result }
+    ensures { IsAdded geometry.now most sector.now all.old all.new (places_in places.old) (places_in places.new)
+        result }
 {
     let place = geometry.place(sector.0);
     let row = place.row as u32;
@@ -69,6 +70,7 @@ pub(crate) fn place_all(
     ensures added { result ≡ true → AreAdded geometry.now most sectors.now (length sectors.now) all.old all.new
         (places_in places.old) (places_in places.new) }
     ensures kept { (k : ℕ) → k < length (places_in places.old) → sector_at all.new k ≡ sector_at all.old k }
+    ensures full { result ≡ false → IsFull geometry.now most sectors.now all.old (places_in places.old) }
     ensures few { length (places_in places.old) + length sectors.now ≤ most → result ≡ true }
 {
     for sector in sectors {

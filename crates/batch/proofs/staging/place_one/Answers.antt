@@ -7,7 +7,7 @@ use Rattle.batch.specs.Among.{IsPlacedAs}
 use Rattle.batch.specs.Listed.{places_in}
 use Rattle.batch.specs.Staging.{IsAdded}
 use Rattle.batch.proofs.Placing.{IsInserted}
-use Rattle.batch.proofs.Staged.{added_one, added_there}
+use Rattle.batch.proofs.Staged.{added_not, added_one, added_there}
 use Rattle.batch.proofs.staging.place_one.Goals as goal
 
 some_found : (found : Option ℕ) (P : ℕ → Type 0) → true ≡ is_some found → IfSome found P → (at : ℕ) × P at
@@ -45,3 +45,11 @@ returns c =
     (omega (arith, at, c.if-at-most.false, c.requires.most, c.requires.long)) (omega (arith, at, c.if-at-most.false)) c.requires.of_set
     c.place-place.ensures.placed (c.find.ensures.none (none_found c.find.result c.if-is_some.ensures))
     c.insert.new.self.rising (subst (λ (n : ℕ). IsInserted places (placed n) more) at inserted))
+
+pub returns-then-at-most : goal.returns-then-at-most
+returns-then-at-most c =
+    let place = c.place-place.result in
+    let places = places_in c.args.places.now in
+    added_not c.args.geometry.now c.args.all.now places c.requires.held c.args.most place.row place.member c.args.sector.now
+    c.place-place.ensures.placed (c.find.ensures.none (none_found c.find.result c.if-is_some.ensures))
+    (omega (arith, c.if-at-most.true, c.len-at.ensures.count))

@@ -9,8 +9,11 @@ use Rattle.batch.specs.declared.placed.Placed.{Placed}
 use Rattle.batch.specs.Listed.{places_in}
 use Rattle.batch.specs.Batches.{waiting}
 use Rattle.batch.specs.Places.{ArePlanned, Given}
-use Rattle.batch.specs.Staging.{AreAdded, AreHeld, ArePut, IsStaged, KeepsPlaces, first_of, most_of, sector_at}
+use Rattle.batch.specs.Staging.{IsFull, NoneFits, AreAdded, AreHeld, ArePut, IsStaged, KeepsPlaces, first_of, most_of, sector_at}
 use Rattle.batch.proofs.Kept.{held_of, keeps_places, keeps_plan, most_below, same_first, still_keeps}
+use Rattle.entry_runs.specs.Runs.{FitEntry}
+use Rattle.entry_runs.specs.declared.run.Run.{Run}
+use Rattle.batch.proofs.Refusals.{planned_there, too_many}
 use Rattle.batch.proofs.Staged.{all_staged, held_same, held_taken}
 use Rattle.batch.proofs.batch.Batch.stage.Goals as goal
 
@@ -45,7 +48,8 @@ same_wait : (batch : Batch) (put : Given) → length put ≡ length batch.sector
     → first_of (places_in batch.places) (with_items batch.sectors put).items ≡ waiting batch
 same_wait batch put long kept =
     ap (first_of (places_in batch.places)) (over batch.sectors put long)
-    ∙ same_first batch.sectors.items put (places_in batch.places) long (omega (arith, batch.held.as_many, batch.held.long, most_below batch.geometry.format)) kept
+    ∙ same_first batch.sectors.items put (places_in batch.places) long
+    (omega (arith, batch.held.as_many, batch.held.long, most_below batch.geometry.format)) kept
 
 pub invariant_of-self : goal.invariant_of-self
 invariant_of-self c =
@@ -101,7 +105,8 @@ done batch copy lent given mid over_mid new limit more same is most_is mid_is ad
     let whole : length mid ≡ length batch.sectors.items = mid_long ∙ ap length is in
     let back : over_mid ≡ mid = mid_is ∙ over batch.sectors mid whole in
     record {
-      added = subst (λ (places : List Placed). AreAdded batch.geometry (most_of batch.geometry.format) given (length given) batch.sectors.items mid places more) same
+      added = subst
+          (λ (places : List Placed). AreAdded batch.geometry (most_of batch.geometry.format) given (length given) batch.sectors.items mid places more) same
           (subst (λ (all : Given). AreAdded batch.geometry (most_of batch.geometry.format) given (length given) all mid copy more) is
           (subst (λ (n : ℕ). AreAdded batch.geometry n given (length given) lent mid copy more) most_is added));
       put = subst (λ (all : Given). ArePut given (length given) (length more) all new) back put;
@@ -139,8 +144,8 @@ pub invariant_of-self-2 : goal.invariant_of-self-2
 invariant_of-self-2 c =
     let batch = c.args.self.now in
     let more = places_in c.place_all.new.places in
-    let is = done batch (places_in c.copy-places.result) c.deref_mut.result.now c.args.sectors.now c.place_all.new.all c.deref_mut-2.result.now c.put_all.new.all
-    c.most_places-most.result more c.copy-places.ensures c.deref_mut.ensures.value c.most_places-most.ensures c.deref_mut-2.ensures.value
+    let is = done batch (places_in c.copy-places.result) c.deref_mut.result.now c.args.sectors.now c.place_all.new.all c.deref_mut-2.result.now
+    c.put_all.new.all c.most_places-most.result more c.copy-places.ensures c.deref_mut.ensures.value c.most_places-most.ensures c.deref_mut-2.ensures.value
     (c.if-not-place_all.ensures.added refl) c.put_all.ensures c.place_all.auto.all c.put_all.auto.all in
     record {
       held = done_keeps batch c.args.sectors.now c.place_all.new.all c.put_all.new.all more is;
@@ -153,8 +158,8 @@ pub returns-clause-staged : goal.returns-clause-staged
 returns-clause-staged c = λ yes.
     let batch = c.args.self.now in
     let more = places_in c.place_all.new.places in
-    let is = done batch (places_in c.copy-places.result) c.deref_mut.result.now c.args.sectors.now c.place_all.new.all c.deref_mut-2.result.now c.put_all.new.all
-    c.most_places-most.result more c.copy-places.ensures c.deref_mut.ensures.value c.most_places-most.ensures c.deref_mut-2.ensures.value
+    let is = done batch (places_in c.copy-places.result) c.deref_mut.result.now c.args.sectors.now c.place_all.new.all c.deref_mut-2.result.now
+    c.put_all.new.all c.most_places-most.result more c.copy-places.ensures c.deref_mut.ensures.value c.most_places-most.ensures c.deref_mut-2.ensures.value
     (c.if-not-place_all.ensures.added refl) c.put_all.ensures c.place_all.auto.all c.put_all.auto.all in
     done_staged batch c.args.sectors.now c.place_all.new.all c.put_all.new.all more is
 
@@ -162,7 +167,43 @@ pub returns-clause-most : goal.returns-clause-most
 returns-clause-most c = λ yes.
     let batch = c.args.self.now in
     let more = places_in c.place_all.new.places in
-    let is = done batch (places_in c.copy-places.result) c.deref_mut.result.now c.args.sectors.now c.place_all.new.all c.deref_mut-2.result.now c.put_all.new.all
-    c.most_places-most.result more c.copy-places.ensures c.deref_mut.ensures.value c.most_places-most.ensures c.deref_mut-2.ensures.value
+    let is = done batch (places_in c.copy-places.result) c.deref_mut.result.now c.args.sectors.now c.place_all.new.all c.deref_mut-2.result.now
+    c.put_all.new.all c.most_places-most.result more c.copy-places.ensures c.deref_mut.ensures.value c.most_places-most.ensures c.deref_mut-2.ensures.value
     (c.if-not-place_all.ensures.added refl) c.put_all.ensures c.place_all.auto.all c.put_all.auto.all in
     done_long batch c.args.sectors.now c.place_all.new.all c.put_all.new.all more is
+
+-- where there is no room, none fits
+full_refused : (batch : Batch) (copy : List Placed) (lent given : Given) (limit : ℕ) → copy ≡ places_in batch.places → lent ≡ batch.sectors.items
+    → limit ≡ most_of batch.geometry.format → IsFull batch.geometry limit given lent copy → NoneFits batch.geometry (waiting batch) given
+full_refused batch copy lent given limit same is most_is full =
+    let here : IsFull batch.geometry limit given batch.sectors.items (places_in batch.places) =
+    subst (λ (places : List Placed). IsFull batch.geometry limit given batch.sectors.items places) same
+    (subst (λ (all : Given). IsFull batch.geometry limit given all copy) is full) in
+    λ new places fit staged few placed fits planned.
+    too_many batch.geometry limit given here.count batch.sectors.items here.mid (places_in batch.places) here.more (held_now batch) here.added
+    (omega (arith, here.inside)) new places staged placed here.inside here.full here.none (omega (arith, few, most_is))
+
+-- where no runs have the rows, none fits
+unplanned_refused : (batch : Batch) (copy : List Placed) (lent given mid : Given) (limit : ℕ) (more slice : List Placed) → copy ≡ places_in batch.places
+    → lent ≡ batch.sectors.items → slice ≡ more → AreAdded batch.geometry limit given (length given) lent mid copy more
+    → ((fit : List Run) → FitEntry fit → ¬ ArePlanned batch.geometry slice (rows_of_runs fit) (masks_of_runs fit))
+    → NoneFits batch.geometry (waiting batch) given
+unplanned_refused batch copy lent given mid limit more slice same is lent_is added none =
+    let here : AreAdded batch.geometry limit given (length given) batch.sectors.items mid (places_in batch.places) more =
+    subst (λ (places : List Placed). AreAdded batch.geometry limit given (length given) batch.sectors.items mid places more) same
+    (subst (λ (all : Given). AreAdded batch.geometry limit given (length given) all mid copy more) is added) in
+    λ new places fit staged few placed fits planned.
+    none fit fits (subst (λ (list : List Placed). ArePlanned batch.geometry list (rows_of_runs fit) (masks_of_runs fit)) (sym lent_is)
+    (planned_there batch.geometry limit given (length given) batch.sectors.items mid (places_in batch.places) more (held_now batch) here
+    (omega arith) new places staged placed refl (rows_of_runs fit) (masks_of_runs fit) planned))
+
+pub returns-then-not-place_all-clause-none : goal.returns-then-not-place_all-clause-none
+returns-then-not-place_all-clause-none c = λ no.
+    full_refused c.args.self.now (places_in c.copy-places.result) c.deref_mut.result.now c.args.sectors.now c.most_places-most.result
+    c.copy-places.ensures c.deref_mut.ensures.value c.most_places-most.ensures (c.if-not-place_all.ensures.full refl)
+
+pub returns-then-not-plan_rows-clause-none : goal.returns-then-not-plan_rows-clause-none
+returns-then-not-plan_rows-clause-none c = λ no.
+    unplanned_refused c.args.self.now (places_in c.copy-places.result) c.deref_mut.result.now c.args.sectors.now c.place_all.new.all
+    c.most_places-most.result (places_in c.place_all.new.places) c.as_slice.result.now c.copy-places.ensures c.deref_mut.ensures.value c.as_slice.ensures
+    (c.if-not-place_all.ensures.added refl) (c.if-not-plan_rows.ensures.none refl)

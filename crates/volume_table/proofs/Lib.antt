@@ -41,6 +41,7 @@ pub mod Scrubbed
 pub mod ScrubbedSet
 pub mod SetLemmas
 pub mod ShowsLemmas
+pub mod StagedWrites
 pub mod StatusTold
 pub mod StepLemmas
 pub mod StepRows

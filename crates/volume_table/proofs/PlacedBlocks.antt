@@ -1,6 +1,9 @@
 -- Blocks with the logical sectors in which they lie: they may be committed, and are written then.
-use Rattle.std.proofs.Common.{◌≡◌, inl, inr, ℕ, ◌+◌, ◌*◌, ◌<◌, ◌≤◌, List, [], length, Option, sym, ◌∙◌, ap, subst, arith}
+use Rattle.std.proofs.Common.{◌≡◌, inl, inr, ℕ, ◌+◌, ◌*◌, ◌<◌, ◌≤◌, List, [], length, Option, refl, sym, ◌∙◌, ap, subst, arith}
 use Rattle.std.specs.Prelude.{slice_index_or}
+use Rattle.layout_map.specs.declared.geometry.Geometry.{Geometry}
+use Rattle.layout_map.specs.Placement.{data_sectors_of}
+use Rattle.batch.specs.Places.{AreOfSet}
 use Rattle.extents.specs.declared.extent_layout.ExtentLayout.{ExtentLayout}
 use Rattle.extents.specs.SetExtents.{extents_in}
 use Rattle.extents.specs.declared.owned.Owned.{Owned}
@@ -61,6 +64,17 @@ module _ (extents : ExtentLayout) (owners : List (Option Owned)) (number at : �
     };
   }
 
+-- they are of the set
+pub placed_of_set : (geometry : Geometry) (extents : ExtentLayout) (owners : List (Option Owned)) (number at : ℕ) (blocks : List Block)
+    (sectors : List (ℕ × Block)) → extents ≡ extents_in geometry → length owners ≤ extents.count
+    → AllPlaced extents owners number at (at + length blocks) → ArePlaced extents owners number at blocks sectors → AreOfSet geometry sectors
+placed_of_set geometry extents owners number at blocks sectors same sized placed are = λ i within. omega (
+  arith,
+  placed_within extents owners number at blocks sectors placed are i within,
+  subst (λ (e : ExtentLayout). e.first + length owners * e.blocks ≤ data_sectors_of geometry.members geometry.chunk geometry.stripes) (sym same)
+      (room_for geometry (length owners) (subst (λ (e : ExtentLayout). length owners ≤ e.count) same sized)),
+)
+
 -- they may be committed
 pub placed_may_commit : (table : Table) (owners : List (Option Owned)) (number at : ℕ) (blocks : List Block) (sectors : List (ℕ × Block))
     → length owners ≤ (extents_in table.geometry).count
@@ -69,11 +83,7 @@ pub placed_may_commit : (table : Table) (owners : List (Option Owned)) (number a
 placed_may_commit table owners number at blocks sectors sized least most placed are = record {
   least = omega (arith, least, are.as_many);
   most = omega (arith, most, are.as_many);
-  of_set = λ i within. omega (
-    arith,
-    placed_within (extents_in table.geometry) owners number at blocks sectors placed are i within,
-    room_for table.geometry (length owners) sized,
-  );
+  of_set = placed_of_set table.geometry (extents_in table.geometry) owners number at blocks sectors refl sized placed are;
   apart = placed_apart (extents_in table.geometry) owners number at blocks sectors placed are;
 }
 

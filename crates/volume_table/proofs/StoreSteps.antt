@@ -221,7 +221,7 @@ failures_leave old new goes table =
     (states_left old new goes (λ slot of_set. stays_or_fails old new table slot))
     ∙ ap (made (set_of new.table).states) (position_left old new table (has_rebuilding (set_of new.table).states) refl)
 
-set_is_left : (honest : Type 0) (command : Command) (old new : StoreView) (reply : Reply) (ended : Type 0) → GoesOn old.array new.array
+pub set_is_left : (honest : Type 0) (command : Command) (old new : StoreView) (reply : Reply) (ended : Type 0) → GoesOn old.array new.array
     → StaysButForFailures honest old.array new.array ended
     → ¬ ended → SetIsLeft honest (OnVolumes command) old new reply
 set_is_left honest command old new reply ended goes stays unended = record {
@@ -271,7 +271,7 @@ incarnations_left event old new (inr lost) = incarnations_marked event old.table
 -- ---- the volumes that a case stands for
 
 -- where a store is settled, its list shows the volumes by the table that it keeps
-shown_by : (store : StoreView) (lost : Option Lost) (volumes : VolumeMap) (settled : IsSettledOn store lost volumes)
+pub shown_by : (store : StoreView) (lost : Option Lost) (volumes : VolumeMap) (settled : IsSettledOn store lost volumes)
     → ShowsBy (extents_for_store store) store.keeps settled.logical volumes
 shown_by store lost volumes settled = record {
   shows = settled.shown;
@@ -298,11 +298,11 @@ one_of_both geometry volumes left W (inl shown) = record {
 one_of_both geometry volumes left W (inr shown) = record { volumes = left; among = Contains-push (volumes ∷ []) left; shown = shown }
 
 -- how a change shows in volumes that a list shows by the table kept
-abbrev ShowsEither : StoreView → (VolumeMap → VolumeMap) → Change → Type 0
+abbrev pub ShowsEither : StoreView → (VolumeMap → VolumeMap) → Change → Type 0
 ShowsEither old after passes = (V W : List Block) (volumes : VolumeMap) → ShowsBy (extents_for_store old) old.keeps V volumes → passes V W
     → Shows (extents_for_store old) W volumes ⊎ Shows (extents_for_store old) W (after volumes)
 
-moments : (honest : Type 0) (entries : ℕ) (passes leaves : Change) (old new : StoreView) (result : Answer) (after : VolumeMap → VolumeMap)
+pub moments : (honest : Type 0) (entries : ℕ) (passes leaves : Change) (old new : StoreView) (result : Answer) (after : VolumeMap → VolumeMap)
     → ChangesList honest entries passes leaves old.array new.array result → ShowsEither old after passes
     → honest → (lost : Option Lost) (volumes : VolumeMap) → IsSettledOn old lost volumes
     → StandsThroughout old.array.table old.array.panel.devices lost (volumes ∷ after volumes ∷ []) old.array.history new.array.history
@@ -312,7 +312,7 @@ moments honest entries passes leaves old new result after changes on_the_way fai
     new.array.history (changes.moments fair lost settled.logical settled.rests)
 
 -- after a row of calls that was answered the store is settled on the volumes that its new list shows by its new table
-settled_then : (honest : Type 0) (entries : ℕ) (passes leaves : Change) (old new : StoreView) (after : VolumeMap → VolumeMap) → new.ended ≡ None
+pub settled_then : (honest : Type 0) (entries : ℕ) (passes leaves : Change) (old new : StoreView) (after : VolumeMap → VolumeMap) → new.ended ≡ None
     → ChangesList honest entries passes leaves old.array new.array (Ok tt)
     → ((V W : List Block) (volumes : VolumeMap) → ShowsBy (extents_for_store old) old.keeps V volumes → leaves V W
     → ShowsBy (extents_for_store old) new.keeps W (after volumes))

@@ -58,7 +58,7 @@ table_stays {extents} version owners number at blocks before left is =
     (omega (arith, below, same, table_length_most version, extents.limits.above))))
 
 -- a list with blocks written shows the volumes after the write, by the same table
-write_shows : (extents : ExtentLayout) (table : VolumeTable) (owners : List (Option Owned)) (name : List ℕ) (number at : ℕ) (blocks before left : List Block)
+pub write_shows : (extents : ExtentLayout) (table : VolumeTable) (owners : List (Option Owned)) (name : List ℕ) (number at : ℕ) (blocks before left : List Block)
     (volumes : VolumeMap)
     → AreKept extents table owners → HasRecordAt table.records name number → All IsBlock blocks → ShowsBy extents table before volumes
     → None ≡ refusal_of extents (Write name at blocks) volumes → IsWrittenAt extents owners number at blocks before left

@@ -22,6 +22,8 @@ pub mod Stands
 pub mod StoreCalls
 pub mod StoreChanges
 pub mod StoreFunctions
+pub mod StagedBlocks
+pub mod Staging
 pub mod Stretches
 pub mod VolumeStep
 pub mod Volumes

@@ -26,6 +26,7 @@ mod replacing;
 mod running;
 mod saving;
 mod scrubbing;
+mod staging;
 mod status;
 mod upgrading;
 mod writing;

@@ -1,16 +1,19 @@
 //! The blocks of a volume are written where they lie.
-ghost use Rattle.std.specs.Prelude.{◌≡◌, ◌≤◌, ◌<◌, ◌+◌, ◌-◌, ◌↔◌, ℕ, length};
+ghost use Rattle.std.specs.Prelude.{◌≡◌, ◌≤◌, ◌<◌, ◌+◌, ◌-◌, ◌↔◌, ℕ, false, length, true};
+ghost use Rattle.batch.specs.Batches.{waiting};
 ghost use Rattle.array_io.specs.Believed.OpenArray.{IsHonest, array_view};
 ghost use Rattle.extents.specs.declared.record.TheConstants.{MOST_BLOCKS};
 ghost use Rattle.volume_table.specs.ListChanges.{ChangesList, IsSameOr};
 ghost use Rattle.extents.specs.ExtentMaps.{HasPlace, place_of};
 ghost use Rattle.extents.specs.SetExtents.{extents_in};
 ghost use Rattle.volume_table.specs.StoreChanges.{AllPlaced, ArePlaced, IsPartlyZero, IsWrittenAt, IsZeroed};
+ghost use Rattle.volume_table.specs.StagedBlocks.{StagesBlocks};
 ghost use Rattle.volume_table.specs.Stretches.{IsDirtyBlock, IsStretch};
 
 use crate::event::MOST_BLOCKS_AT_ONCE;
 use array_io::Array;
 use arrayvec::ArrayVec;
+use batch::Batch;
 use extents::{ExtentLayout, ExtentMap};
 use sector_model::{Bank, Refusal, Sector};
 
@@ -39,6 +42,33 @@ pub fn write_blocks<B: Bank>(
     let extents = ExtentLayout::of(&array.table.geometry);
     let sectors = placed(&extents, map, volume, at, blocks);
     array.commit(&sectors)
+}
+
+/// Has 1 to 32 blocks of a volume from block `at` on wait in a batch. `false` as `Batch::stage` answers it.
+///
+/// The map is that of the set's extents, and each of the blocks has an extent of the volume (conditions).
+pub fn stage_blocks(
+    extents: &ExtentLayout,
+    map: &ExtentMap,
+    batch: &mut Batch,
+    volume: u8,
+    at: u32,
+    blocks: &[Sector],
+) -> bool
+    requires of_set { extents.now ≡ extents_in batch.old.geometry }
+    requires sized { length map.now ≤ extents.now.count }
+    requires least { 1 ≤ length blocks.now }
+    requires most { length blocks.now ≤ MOST_BLOCKS_AT_ONCE }
+    requires within { at + length blocks.now ≤ MOST_BLOCKS }
+    requires placed { AllPlaced extents.now map.now volume at (at + length blocks.now) }
+    ensures staged { result ≡ true → StagesBlocks extents.now map.now volume at blocks.now (waiting batch.old)
+        (waiting batch.new) }
+    ensures kept { result ≡ false → waiting batch.new ≡ waiting batch.old }
+    ensures few { length (waiting batch.old) + length blocks.now ≤ 32 → result ≡ true }
+    ensures geometry { batch.new.geometry ≡ batch.old.geometry }
+{
+    let sectors = placed(extents, map, volume, at, blocks);
+    batch.stage(&sectors)
 }
 
 // The blocks with the logical sectors in which they lie in a set whose extents lie so.

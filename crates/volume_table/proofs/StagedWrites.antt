@@ -25,7 +25,7 @@ use Rattle.volume_table.specs.Admission.{AreKept, HasRecordAt, ShowsBy}
 use Rattle.volume_table.specs.ListChanges.{Change, ChangesList, IsSame, IsSameOr}
 use Rattle.volume_table.specs.Shows.{HasWritten, Shows}
 use Rattle.volume_table.specs.StagedBlocks.{StagesBlocks}
-use Rattle.volume_table.specs.Staging.{AreDone, CommitsWrites, HoldsWrites, LieWithin, RefusesStaging, Staged, Stages, after_all}
+use Rattle.volume_table.specs.Staging.{AreDone, CommitsStaged, CommitsWrites, HoldsWrites, LieWithin, RefusesStaging, Staged, Stages, after_all}
 use Rattle.volume_table.specs.Stands.{IsSettledOn, StoreView}
 use Rattle.volume_table.specs.StoreCalls.{extents_for_store}
 use Rattle.volume_table.specs.StoreChanges.{AllPlaced, ArePlaced, IsWrittenAt}
@@ -310,3 +310,14 @@ none_committed honest writes store going holds =
     (λ V W volumes shown same. subst (λ (l : List Block). ShowsBy (extents_for_store store) store.keeps l (after_all (extents_for_store store) writes volumes))
     (sym same) (holds.shows V volumes (λ k within. absurd (omega (arith, within))) shown))
     refl going (changes_none honest 1 IsSame IsSame store.array (λ V. refl) (λ V. refl))
+
+-- of a store that no refusal ended
+pub not_ended_yet : (honest : Type 0) (writes : List Command) (old new : StoreView) (answer : Answer) → old.ended ≡ None
+    → CommitsWrites honest writes old new answer → CommitsStaged honest writes old new answer
+not_ended_yet honest writes old new answer going commits = record {
+  ended = λ refusal is. absurd (none_is_some (sym going ∙ is));
+  going = λ is. commits;
+}
+  where
+    none_is_some : {r : Refusal} → None ≡ Some r → ⊥
+    none_is_some is = cc

@@ -1,6 +1,6 @@
 -- The theorem over all runs, by induction on them.
 use Rattle.std.proofs.Common.{◌≡◌, inl, inr, ℕ, ◌+◌, List, [], ◌∷◌, ◌++◌, length, None, refl, sym, ◌∙◌, ap, subst, subst₂, arith}
-use Rattle.std.specs.Prelude.{Contains, fold}
+use Rattle.std.specs.Prelude.{Contains, fold, map}
 use Rattle.std.proofs.Math.Logic.{∥∥₁_map}
 use Rattle.std.proofs.Math.Seq.{take-append_seam, take-length}
 use Rattle.std.proofs.lemmas.List.{length-append}
@@ -25,17 +25,19 @@ use Rattle.array_io.specs.Believed.Views.{ArrayView, RestsOn}
 use Rattle.recovery.specs.Making as recovery
 use Rattle.recovery.specs.Making.{IsQuietBeyond, Makes}
 use Rattle.volume_table.specs.Volumes.{VolumeMap, no_volumes}
-use Rattle.volume_table.specs.VolumeStep.{Event, Fail, OnSet, OnVolumes, RebuildStep, Replace, Reply, Scrub, after, left_by}
+use Rattle.volume_table.specs.VolumeStep.{Command, Event, Fail, OnSet, OnVolumes, RebuildStep, Replace, Reply, Scrub, after, left_by, volumes_after}
 use Rattle.volume_table.specs.Shows.{Shows}
 use Rattle.volume_table.specs.Stands.{StandsNow, StandsThroughout, StoreView}
 use Rattle.volume_table.specs.StoreCalls.{GoesThrough, lost_in}
+use Rattle.volume_table.specs.Staging.{AreDone, CommitsWrites, after_all}
+use Rattle.array_io.specs.Believed.ArrayCalls.{Answer}
 use Rattle.volume_table.specs.Opening.{IsNoOpening, Opened, Opens, Outcome, Returned, bank_after}
 use Rattle.volume_table.specs.Runs.{Does, Fate, IsAssembled, IsDone, IsServing, Run, Runs, Serving, Session, World, assembled, between_events, in_assembling}
-use Rattle.volume_table.specs.Runs.{in_event, in_opening, next_run, no_more, none_done, only_read, then_done, unopened}
+use Rattle.volume_table.specs.Runs.{AreCommitted, in_commit, in_event, in_opening, next_run, no_more, none_done, only_read, then_committed, then_done, unopened}
 use Rattle.volume_table.specs.Headline.{AreRight, Before, Headline, IsAfterPrefix, IsOpenedUnlessWorn, IsRight, RunKeeps, RunsKeep, SessionKeeps}
 use Rattle.volume_table.specs.Headline.{nothing_before, nothing_lost}
 use Rattle.volume_table.proofs.Assembled.{assembled_unless_worn, assembling_holds, assembling_stands, may_start, reading_holds}
-use Rattle.volume_table.proofs.SingleFailure.{not_two, opening_not_two}
+use Rattle.volume_table.proofs.SingleFailure.{commit_not_two, not_two, opening_not_two}
 use Rattle.volume_table.proofs.FreshLemmas.{fresh_set_shows_none}
 use Rattle.volume_table.proofs.Opened.{IsSafeArray, IsSafeStore, holds_readable, rests_on, stands_at_rest, store_after}
 use Rattle.volume_table.proofs.SafeWorlds.{IsSafe, begins_safe, goes_over, same_slots, crashes_safe}
@@ -85,9 +87,45 @@ right_answer made devices (OnSet Scrub) reply old new volumes safe done = λ com
     set.are.rows set.left (set.are.unsound tt)
     complete (safe_after made devices (OnSet Scrub) reply old new volumes safe done).settled.rests.sound
 
+-- a store is safe after writes that were committed together
+safe_committed : (made : Table) (devices : ℕ) (writes : List Command) (old new : Serving) (volumes : VolumeMap) → IsSafeStore made devices old volumes
+    → AreCommitted (slots_of made) writes old new → IsSafeStore made devices new (after_all (extents_in made.geometry) writes volumes)
+safe_committed made devices writes old new volumes safe done =
+    let commits = done.commits.going safe.settled.going in
+    let moments = subst (λ (d : ℕ). StandsThroughout old.store.array.table d old.fate.lost
+    (volumes ∷ after_all (extents_in old.store.array.table.geometry) writes volumes ∷ []) old.store.array.history new.store.array.history) safe.of_bank
+    (commits.moments tt old.fate.lost volumes safe.settled) in
+    subst (λ (e : ExtentLayout). IsSafeStore made devices new (after_all e writes volumes)) (same_extents made old.store.array.table safe.not_older)
+    (store_after made devices old.store.array.table old.fate.lost
+    (volumes ∷ after_all (extents_in old.store.array.table.geometry) writes volumes ∷ []) old.fate new
+    (after_all (extents_in old.store.array.table.geometry) writes volumes)
+    safe.not_older commits.goes_on.not_older (commits.goes_on.later.devices ∙ safe.of_bank) safe.replaced done.goes_over
+    (throughout_last new.store.array.history moments)
+    (commits.settled tt refl old.fate.lost volumes safe.settled))
+
+-- and each of them was done as the volume machine does it
+right_writes : (made : Table) (devices : ℕ) (writes : List Command) (old new : Serving) (volumes : VolumeMap) → IsSafeStore made devices old volumes
+    → AreCommitted (slots_of made) writes old new → AreDone (extents_in made.geometry) writes volumes
+right_writes made devices writes old new volumes safe done =
+    subst (λ (e : ExtentLayout). AreDone e writes volumes) (same_extents made old.store.array.table safe.not_older)
+    ((done.commits.going safe.settled.going).done old.fate.lost volumes safe.settled)
+
 -- the volumes after some events
 abbrev pub left_by_all : ExtentLayout → List Event → VolumeMap → VolumeMap
 left_by_all extents events volumes = fold (λ left event. left_by extents event left) volumes events
+
+-- commands on volumes are such events
+commands_left : (extents : ExtentLayout) (writes : List Command) (volumes : VolumeMap)
+    → left_by_all extents (map OnVolumes writes) volumes ≡ after_all extents writes volumes
+commands_left extents [] volumes = refl
+commands_left extents (write ∷ writes) volumes = commands_left extents writes (volumes_after extents write volumes)
+
+-- and events may come after them
+then_left : (extents : ExtentLayout) (writes : List Command) (events : List Event) (volumes : VolumeMap)
+    → left_by_all extents (map OnVolumes writes ++ events) volumes ≡ left_by_all extents events (after_all extents writes volumes)
+then_left extents writes events volumes =
+    fold-append (λ (left : VolumeMap) (e : Event). left_by extents e left) volumes (map OnVolumes writes) events
+    ∙ ap (left_by_all extents events) (commands_left extents writes volumes)
 
 -- events that are done leave a safe store, and were answered rightly
 record AllDone (made : Table) (devices : ℕ) {events : List Event} {replies : List Reply} {old new : Serving}
@@ -102,6 +140,12 @@ all_done made devices none_done volumes safe = record { safe = safe; right = tt 
 all_done made devices (then_done {old = old} mid event reply done rest) volumes safe =
     let then = all_done made devices rest (left_by (extents_in made.geometry) event volumes) (safe_after made devices event reply old mid volumes safe done) in
     record { safe = then.safe; right = (right_answer made devices event reply old mid volumes safe done, then.right) }
+all_done made devices (then_committed {old = old} {new = new} {events = events} mid writes done rest) volumes safe =
+    let then = all_done made devices rest (after_all (extents_in made.geometry) writes volumes) (safe_committed made devices writes old mid volumes safe done) in
+    record {
+      safe = subst (λ (those : VolumeMap). IsSafeStore made devices new those) (sym (then_left (extents_in made.geometry) writes events volumes)) then.safe;
+      right = (right_writes made devices writes old mid volumes safe done, then.right);
+    }
 
 -- the volumes after all events, and after one more
 all_are : (extents : ExtentLayout) (volumes : VolumeMap) (events : List Event)
@@ -116,6 +160,19 @@ with_last : (extents : ExtentLayout) (volumes : VolumeMap) (events : List Event)
     → left_by extents event (left_by_all extents events volumes) ≡ after extents (events ++ event ∷ []) volumes (length (events ++ event ∷ []))
 with_last extents volumes events event =
     sym (fold-append (λ (left : VolumeMap) (e : Event). left_by extents e left) volumes events (event ∷ [])) ∙ all_are extents volumes (events ++ event ∷ [])
+
+-- and after some more, of commands that were committed together
+but_writes : (extents : ExtentLayout) (volumes : VolumeMap) (events : List Event) (writes : List Command)
+    → left_by_all extents events volumes ≡ after extents (events ++ map OnVolumes writes) volumes (length events)
+but_writes extents volumes events writes = ap (λ (l : List Event). left_by_all extents l volumes) (sym (take-append_seam events (map OnVolumes writes)))
+
+with_writes : (extents : ExtentLayout) (volumes : VolumeMap) (events : List Event) (writes : List Command)
+    → after_all extents writes (left_by_all extents events volumes)
+    ≡ after extents (events ++ map OnVolumes writes) volumes (length (events ++ map OnVolumes writes))
+with_writes extents volumes events writes =
+    sym (commands_left extents writes (left_by_all extents events volumes))
+    ∙ sym (fold-append (λ (left : VolumeMap) (e : Event). left_by extents e left) volumes events (map OnVolumes writes))
+    ∙ all_are extents volumes (events ++ map OnVolumes writes)
 
 no_map : (volumes : VolumeMap) → Contains [] volumes → ⊥
 no_map volumes (k, below, is) = omega (arith, below)
@@ -149,6 +206,25 @@ prefix_with_last extents volumes events event left among =
         has_acknowledged = omega (arith, length-append events (event ∷ []));
         is_prefix = omega arith;
         is = sym (one_of_one (left_by extents event (left_by_all extents events volumes)) left last) ∙ with_last extents volumes events event;
+      }
+    ]
+
+prefix_with_writes : (extents : ExtentLayout) (volumes : VolumeMap) (events : List Event) (writes : List Command) (left : VolumeMap)
+    → Contains (left_by_all extents events volumes ∷ after_all extents writes (left_by_all extents events volumes) ∷ []) left
+    → IsAfterPrefix extents record { volumes = volumes; events = events ++ map OnVolumes writes; acknowledged = length events } left
+prefix_with_writes extents volumes events writes left among =
+    elim (Contains-append_cases (left_by_all extents events volumes ∷ []) (after_all extents writes (left_by_all extents events volumes) ∷ []) left among) [
+      | inl before ↦ record {
+        n = length events;
+        has_acknowledged = omega arith;
+        is_prefix = omega (arith, length-append events (map OnVolumes writes));
+        is = sym (one_of_one (left_by_all extents events volumes) left before) ∙ but_writes extents volumes events writes;
+      }
+      | inr last ↦ record {
+        n = length (events ++ map OnVolumes writes);
+        has_acknowledged = omega (arith, length-append events (map OnVolumes writes));
+        is_prefix = omega arith;
+        is = sym (one_of_one (after_all extents writes (left_by_all extents events volumes)) left last) ∙ with_writes extents volumes events writes;
       }
     ]
 
@@ -216,6 +292,16 @@ stands_in_event made devices event store reply serving volumes safe goes =
     serving.store.array.history store.array.history) safe.of_bank (same_extents made serving.store.array.table safe.not_older)
     (goes.moments tt serving.fate.lost volumes safe.settled)
 
+stands_in_commit : (made : Table) (devices : ℕ) (writes : List Command) (store : StoreView) (answer : Answer) (serving : Serving) (volumes : VolumeMap)
+    (safe : IsSafeStore made devices serving volumes)
+    → CommitsWrites (Unit {0}) writes serving.store store answer
+    → Throughout (StandsNow serving.store.array.table devices serving.fate.lost (volumes ∷ after_all (extents_in made.geometry) writes volumes ∷ []))
+    serving.store.array.history store.array.history
+stands_in_commit made devices writes store answer serving volumes safe commits =
+    subst₂ (λ (d : ℕ) (e : ExtentLayout). StandsThroughout serving.store.array.table d serving.fate.lost (volumes ∷ after_all e writes volumes ∷ [])
+    serving.store.array.history store.array.history) safe.of_bank (same_extents made serving.store.array.table safe.not_older)
+    (commits.moments tt serving.fate.lost volumes safe.settled)
+
 -- a session over a safe array keeps the promise
 session_keeps : (made : Table) (devices : ℕ) (before : Before) (array : ArrayView) (fate : Fate) (volumes : VolumeMap) (left : World)
     → IsSafeArray made devices array fate volumes
@@ -264,6 +350,26 @@ session_keeps made devices before array fate volumes left safe prefix
           ∷ left_by (extents_in made.geometry) event (left_by_all (extents_in made.geometry) events volumes) ∷ []) serving.fate
           serving.store.array.history store.array.history left done.safe.not_older done.safe.replaced
           (stands_in_event made devices event store reply serving (left_by_all (extents_in made.geometry) events volumes) done.safe goes) crashes),
+    )
+session_keeps made devices before array fate volumes left safe prefix
+    (in_commit first serving events replies writes store answer opened does commits true_to crashes) later keeps =
+    let begun = safe_first made devices array fate volumes first safe opened in
+    let done = all_done made devices does volumes begun in
+    let goes = commits.going done.safe.settled.going in (
+      volumes,
+      record { after_prefix = prefix; settled = begun.settled; right = done.right },
+      λ one. commit_not_two writes serving.store store answer serving.fate.lost goes done.safe.settled.rests.lost_slot true_to
+          (subst (λ (n : ℕ). IsSingleFailure n serving.fate.lost store.array.history)
+          (sym (same_slots made serving.store.array.table done.safe.not_older)) one),
+      keeps record { volumes = volumes; events = events ++ map OnVolumes writes; acknowledged = length events }
+          (left_by_all (extents_in made.geometry) events volumes
+          ∷ after_all (extents_in made.geometry) writes (left_by_all (extents_in made.geometry) events volumes) ∷ [])
+          (prefix_with_writes (extents_in made.geometry) volumes events writes)
+          (crashes_safe made serving.store.array.table devices serving.fate.lost
+          (left_by_all (extents_in made.geometry) events volumes
+          ∷ after_all (extents_in made.geometry) writes (left_by_all (extents_in made.geometry) events volumes) ∷ []) serving.fate
+          serving.store.array.history store.array.history left done.safe.not_older done.safe.replaced
+          (stands_in_commit made devices writes store answer serving (left_by_all (extents_in made.geometry) events volumes) done.safe goes) crashes),
     )
 
 -- an array that is assembled from what is safe is safe

@@ -1,5 +1,5 @@
 -- An event is not refused for two lost slots where one is lost at most.
-use Rattle.std.proofs.Common.{◌≡◌, ◌≢◌, ◌⊎◌, inl, inr, ℕ, ◌+◌, ◌<◌, Bool, true, false, List, length, take, Option, Some, None, refl, sym, ◌∙◌, ap, subst, arith}
+use Rattle.std.proofs.Common.{◌≡◌, ◌≢◌, ◌⊎◌, inl, inr, ℕ, ◌+◌, ◌<◌, Bool, true, false, List, length, take, Option, Some, None, Err, refl, sym, ◌∙◌, ap, subst, arith}
 use Rattle.std.proofs.Common.{cond}
 use Rattle.std.specs.Prelude.{IfSome, IsSome, not, slice_set, slice_index_or, nat_le}
 use Rattle.std.proofs.lemmas.Bool.{cases_eq, cases_lt}
@@ -22,7 +22,9 @@ use Rattle.superblock.proofs.Losing.{IsOfLost, not_two_lost}
 use Rattle.array_io.specs.Believed.Settled.{IsLostSlot}
 use Rattle.array_io.specs.Believed.Views.{ArrayView, IsSlotOut, IsTwoLost, StaysButForFailures}
 use Rattle.array_io.proofs.Laws.Beginning.{state_in_sync}
-use Rattle.volume_table.specs.VolumeStep.{Event, Fail, OnSet, OnVolumes, RebuildStep, Refused, Replace, Reply, Scrub}
+use Rattle.array_io.specs.Believed.ArrayCalls.{Answer}
+use Rattle.volume_table.specs.Staging.{CommitsWrites}
+use Rattle.volume_table.specs.VolumeStep.{Command, Event, Fail, OnSet, OnVolumes, RebuildStep, Refused, Replace, Reply, Scrub}
 use Rattle.volume_table.specs.SetReplies.{set_refusal}
 use Rattle.volume_table.specs.Stands.{StoreView}
 use Rattle.volume_table.specs.StoreCalls.{GivesUp, GoesThrough, lost_in, lost_unless, no_devices, set_of}
@@ -177,6 +179,34 @@ not_two event old new reply lost goes is true_to one refused =
     not_two_lost (slots_of old.array.table) (lost_in event old.array.table lost) new.array.history one two.first two.second first second two.apart
     (out_then event old new reply lost goes is true_to two.first first two.first_out)
     (out_then event old new reply lost goes is true_to two.second second two.second_out)
+
+-- a slot that is out after a commit of writes that waited is down, or the lost one
+out_committed : (writes : List Command) (old new : StoreView) (answer : Answer) (lost : Option Lost) → CommitsWrites (Unit {0}) writes old new answer
+    → IsLostSlot old.array.table lost
+    → IsTrueTo new.array.panel new.array.history → (slot : ℕ) → slot < slots_of old.array.table → IsSlotOut new.array slot
+    → (is_down new.array.history slot ≡ true) ⊎ IsOfLost lost slot
+out_committed writes old new answer lost commits is true_to slot below (inl down) = inl (sym (true_to.down slot) ∙ down)
+out_committed writes old new answer lost commits is true_to slot below (inr out) = elim (state_in_sync (state_at old.array.table.states slot)) [
+  | inr was_out ↦ inr (of_lost lost old.array.table slot is record { of_set = below; out = was_out })
+  | inl in_sync ↦ elim (commits.spared slot below in_sync) [
+    | inl still ↦ absurd (out still)
+    | inr down ↦ inl (sym (true_to.down slot) ∙ down)
+  ]
+]
+
+-- so it is not refused for two lost slots
+pub commit_not_two : (writes : List Command) (old new : StoreView) (answer : Answer) (lost : Option Lost) → CommitsWrites (Unit {0}) writes old new answer
+    → IsLostSlot old.array.table lost
+    → IsTrueTo new.array.panel new.array.history → IsSingleFailure (slots_of old.array.table) lost new.array.history
+    → answer ≢ Err TwoLost
+commit_not_two writes old new answer lost commits is true_to one refused =
+    let two = (commits.ends TwoLost refused).1 in
+    let slots = same_slots old.array.table new.array.table commits.goes_on.not_older.same_geometry in
+    let first = subst (λ (n : ℕ). two.first < n) slots two.first_of_set in
+    let second = subst (λ (n : ℕ). two.second < n) slots two.second_of_set in
+    not_two_lost (slots_of old.array.table) lost new.array.history one two.first two.second first second two.apart
+    (out_committed writes old new answer lost commits is true_to two.first first two.first_out)
+    (out_committed writes old new answer lost commits is true_to two.second second two.second_out)
 
 -- a slot that is out after the array was given up is down, or the lost one
 out_of_array : (honest : Type 0) (old new : ArrayView) (lost : Option Lost) → StaysButForFailures honest old new (Unit {0}) → IsLostSlot old.table lost

@@ -1,5 +1,5 @@
 -- The theorem over all runs of a set, from the contracts of its calls.
-use Rattle.std.specs.Prelude.{◌≡◌, ◌≢◌, ◌⊎◌, ℕ, ◌+◌, ◌≤◌, List, [], ◌∷◌, ◌++◌, length, Option, None}
+use Rattle.std.specs.Prelude.{◌≡◌, ◌≢◌, ◌⊎◌, ℕ, ◌+◌, ◌≤◌, List, [], ◌∷◌, ◌++◌, length, map, Err, Option, None}
 use Rattle.sector_model.specs.declared.refusal.Refusal.TheVariants.{TwoLost, Worn}
 use Rattle.sector_model.specs.Bank.{Panel}
 use Rattle.layout_map.specs.declared.format.Format.{Format}
@@ -16,9 +16,10 @@ use Rattle.volume_table.specs.Volumes.{VolumeMap, no_volumes}
 use Rattle.volume_table.specs.VolumeStep.{Event, OnSet, OnVolumes, Refused, Reply, Scrub, Scrubbed, after, left_by, reply_to}
 use Rattle.volume_table.specs.Stands.{IsSettledOn, StoreView}
 use Rattle.volume_table.specs.StoreCalls.{LacksMemory, lost_in}
+use Rattle.volume_table.specs.Staging.{AreDone, after_all}
 use Rattle.volume_table.specs.Opening.{IsNoOpening, Opened, Outcome, Returned}
-use Rattle.volume_table.specs.Runs.{Does, Fate, Run, Runs, Serving, Session, none_done, then_done, World, in_assembling, assembled, unopened, in_opening}
-use Rattle.volume_table.specs.Runs.{between_events, in_event, no_more, next_run, begun_with, only_read}
+use Rattle.volume_table.specs.Runs.{Does, Fate, Run, Runs, Serving, Session, none_done, then_committed, then_done, World, in_assembling, assembled}
+use Rattle.volume_table.specs.Runs.{between_events, in_commit, in_event, in_opening, no_more, unopened, next_run, begun_with, only_read}
 use Rattle.extents.specs.declared.extent_layout.ExtentLayout.{ExtentLayout}
 use Rattle.extents.specs.SetExtents.{extents_in}
 
@@ -48,6 +49,7 @@ abbrev pub AreRight : {slots : ℕ} {events : List Event} {replies : List Reply}
 AreRight extents volumes none_done = Unit {0}
 AreRight extents volumes (then_done mid event reply done rest) = IsRight extents volumes event mid.store reply
     × AreRight extents (left_by extents event volumes) rest
+AreRight extents volumes (then_committed mid writes done rest) = AreDone extents writes volumes × AreRight extents (after_all extents writes volumes) rest
 
 -- with one slot lost at most, assembling is refused only where a counter stands at 2^62
 abbrev pub IsAssembledUnlessWorn : List ℕ → (slots : ℕ) → Option Lost → BankView → recovery.Outcome → Type 0
@@ -83,6 +85,10 @@ SessionKeeps extents slots before (in_event first serving events replies event s
     (volumes : VolumeMap) × IsServed extents before does volumes
     × (IsSingleFailure slots (lost_in event serving.store.array.table serving.fate.lost) store.array.history → reply ≢ Refused TwoLost)
     × later (record { volumes = volumes; events = events ++ event ∷ []; acknowledged = length events })
+SessionKeeps extents slots before (in_commit first serving events replies writes store answer opened does commits true_to crashes) later =
+    (volumes : VolumeMap) × IsServed extents before does volumes
+    × (IsSingleFailure slots serving.fate.lost store.array.history → answer ≢ Err TwoLost)
+    × later (record { volumes = volumes; events = events ++ map OnVolumes writes; acknowledged = length events })
 
 abbrev pub RunKeeps : (id : List ℕ) (extents : ExtentLayout) (slots : ℕ) → Before → {panel : Panel} {world left : World} → Run id slots panel world left
     → (Before → Type 0)

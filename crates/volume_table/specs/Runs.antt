@@ -1,5 +1,5 @@
 -- Runs of a set, one after another: each begins with what the one before left, and ends with a crash.
-use Rattle.std.specs.Prelude.{◌≡◌, ℕ, ◌≤◌, List, [], ◌∷◌, ◌++◌, map, Option, Some, None}
+use Rattle.std.specs.Prelude.{◌≡◌, ℕ, ◌≤◌, List, [], ◌∷◌, ◌++◌, map, Ok, Option, Some, None}
 use Rattle.sector_model.specs.Bank.{IsTrueTo, Panel}
 use Rattle.sector_model.specs.History.{Began, History, MayLeave, Slots, calls_of, cut_at}
 use Rattle.sector_model.specs.Reads.{HasRead}
@@ -11,7 +11,9 @@ use Rattle.array_io.specs.Believed.Views.{ArrayView}
 use Rattle.recovery.specs.Making as recovery
 use Rattle.recovery.specs.Making.{BankView}
 use Rattle.recovery.specs.Assembling.{Assembles}
-use Rattle.volume_table.specs.VolumeStep.{Event, Reply}
+use Rattle.array_io.specs.Believed.ArrayCalls.{Answer}
+use Rattle.volume_table.specs.VolumeStep.{Command, Done, Event, OnVolumes, Reply}
+use Rattle.volume_table.specs.Staging.{CommitsStaged}
 use Rattle.volume_table.specs.Stands.{StoreView}
 use Rattle.volume_table.specs.StoreCalls.{Applies, EndsStore, lost_in}
 use Rattle.volume_table.specs.Opening.{Opened, Opens, Outcome, bank_after}
@@ -61,18 +63,27 @@ pub record IsDone (slots : ℕ) (event : Event) (reply : Reply) (old new : Servi
   pub goes : ¬ EndsStore reply
   pub goes_over : GoesOver slots (lost_in event old.store.array.table old.fate.lost) old.fate new.store.array.table new.store.array.history new.fate
 
--- events with their replies, done one after another
+-- writes that waited together are committed: they were answered, and did not end the store
+pub record AreCommitted (slots : ℕ) (writes : List Command) (old new : Serving) : Type 0 where
+  pub commits : CommitsStaged (Unit {0}) writes old.store new.store (Ok tt)
+  pub goes_over : GoesOver slots old.fate.lost old.fate new.store.array.table new.store.array.history new.fate
+
+-- events with their replies, done one after another; writes that are committed together are each answered then
 pub data Does (slots : ℕ) : List Event → List Reply → Serving → Serving → Type 0 where
   none_done : {serving : Serving} → Does slots [] [] serving serving
   then_done : {old new : Serving} {events : List Event} {replies : List Reply} (mid : Serving) (event : Event) (reply : Reply)
       → IsDone slots event reply old mid → Does slots events replies mid new → Does slots (event ∷ events) (reply ∷ replies) old new
+  then_committed : {old new : Serving} {events : List Event} {replies : List Reply} (mid : Serving) (writes : List Command)
+      → AreCommitted slots writes old mid → Does slots events replies mid new
+      → Does slots (map OnVolumes writes ++ events) (map (λ write. Done) writes ++ replies) old new
 
 -- a store is opened over an array
 pub record IsServing (slots : ℕ) (array : ArrayView) (fate : Fate) (serving : Serving) : Type 0 where
   pub opens : Opens (Unit {0}) array (Opened serving.store)
   pub goes_over : GoesOver slots fate.lost fate serving.store.array.table serving.store.array.history serving.fate
 
--- What is done with an open array until a crash: nothing; the crash comes in opening a store; between events, or in one, after some were done.
+-- What is done with an open array until a crash: nothing; the crash comes in opening a store; between events, or in one, after some were done; or in a commit
+-- of writes that waited together.
 -- Events after one that ended the store change nothing (`StaysEnded`), so the crash then comes in that one.
 pub data Session (slots : ℕ) (array : ArrayView) (fate : Fate) (left : World) : Type 0 where
   unopened : Crashes slots fate.lost fate array.history array.history left → Session slots array fate left
@@ -85,6 +96,11 @@ pub data Session (slots : ℕ) (array : ArrayView) (fate : Fate) (left : World) 
       → IsServing slots array fate first → Does slots events replies first serving
       → Applies (Unit {0}) event serving.store store reply → IsTrueTo store.array.panel store.array.history
       → Crashes slots (lost_in event serving.store.array.table serving.fate.lost) serving.fate serving.store.array.history store.array.history left
+      → Session slots array fate left
+  in_commit : (first serving : Serving) (events : List Event) (replies : List Reply) (writes : List Command) (store : StoreView) (answer : Answer)
+      → IsServing slots array fate first → Does slots events replies first serving
+      → CommitsStaged (Unit {0}) writes serving.store store answer → IsTrueTo store.array.panel store.array.history
+      → Crashes slots serving.fate.lost serving.fate serving.store.array.history store.array.history left
       → Session slots array fate left
 
 -- a run begins with an image, and the bank shows what its run says

@@ -1,5 +1,7 @@
 -- Invocations of the program are runs of a set, so that the headline holds of them.
-use Rattle.std.proofs.Common.{◌≢◌, ℕ, List, [], ◌∷◌, ◌++◌, length, sym, subst}
+use Rattle.std.proofs.Common.{◌≢◌, ℕ, List, [], ◌∷◌, ◌++◌, length, Ok, Err, ap, sym, subst}
+use Rattle.std.specs.Prelude.{map}
+use Rattle.sector_model.specs.declared.refusal.Refusal.{Refusal}
 use Rattle.std.proofs.Math.Logic.{∥∥₁_map}
 use Rattle.std.proofs.lemmas.List.{append-nil}
 use Rattle.sector_model.specs.Bank.{IsTrueTo, Panel}
@@ -10,19 +12,24 @@ use Rattle.array_io.specs.Believed.Views.{ArrayView}
 use Rattle.recovery.specs.Making as recovery
 use Rattle.recovery.specs.Making.{BankView}
 use Rattle.volume_table.specs.Volumes.{VolumeMap}
-use Rattle.volume_table.specs.VolumeStep.{Event, Refused, Reply, left_by}
+use Rattle.volume_table.specs.VolumeStep.{Command, Done, Event, OnVolumes, Refused, Reply, left_by}
+use Rattle.volume_table.specs.Staging.{AreDone, CommitsStaged, after_all}
+use Rattle.array_io.specs.Believed.ArrayCalls.{Answer}
 use Rattle.volume_table.specs.Stands.{IsSettledOn, StoreView}
 use Rattle.volume_table.specs.StoreCalls.{Applies, lost_in}
 use Rattle.volume_table.specs.Opening.{Opened, Returned}
 use Rattle.volume_table.specs.Runs as runs
-use Rattle.volume_table.specs.Runs.{Crashes, Does, Fate, IsServing, Run, Runs, Serving, Session, World, begun_with, none_done, then_done}
+use Rattle.volume_table.specs.Runs.{AreCommitted, Crashes, Does, Fate, IsServing, Run, Runs, Serving, Session, World, begun_with, none_done, then_committed, then_done}
 use Rattle.volume_table.specs.Headline.{AreRight, Before, IsAfterPrefix, IsRight, RunKeeps, RunsKeep, SessionKeeps, nothing_before}
 use Rattle.volume_table.proofs.SafeRuns.{headline}
 use Rattle.set_commands.specs.Invocations.{AnswersRightly, BankKeeps, DoneOn, EndsOn, EndsServing, HeadlineOfTheProgram, Invocations}
 use Rattle.set_commands.specs.Invocations.{InvocationsKeep, Served, answered, crashed_in, here, kept_by, later, next_bank, no_more, none_asked}
-use Rattle.set_commands.specs.Invocations.{not_assembled, not_opened, only_read, served, then_answered, then_ended, then_no_event}
+use Rattle.set_commands.specs.Invocations.{not_assembled, not_opened, only_read, served, then_answered, then_ended, then_no_event, then_writes, then_writes_ended}
 use Rattle.extents.specs.declared.extent_layout.ExtentLayout.{ExtentLayout}
 use Rattle.extents.specs.SetExtents.{extents_in}
+
+abbrev refused_as : Refusal → Answer
+refused_as refusal = Err refusal
 
 -- ---- what is left of a session from an open store on
 
@@ -33,12 +40,18 @@ data Rest (slots : ℕ) (serving : Serving) (left : World) : (answered crashed :
       → Does slots events replies serving last → Applies (Unit {0}) event last.store store reply → IsTrueTo store.array.panel store.array.history
       → Crashes slots (lost_in event last.store.array.table last.fate.lost) last.fate last.store.array.history store.array.history left
       → Rest slots serving left events (event ∷ [])
+  in_writes : {events : List Event} (replies : List Reply) (last : Serving) (writes : List Command) (store : StoreView) (answer : Answer)
+      → Does slots events replies serving last → CommitsStaged (Unit {0}) writes last.store store answer → IsTrueTo store.array.panel store.array.history
+      → Crashes slots last.fate.lost last.fate last.store.array.history store.array.history left
+      → Rest slots serving left events (map OnVolumes writes)
 
 abbrev right_in : {slots : ℕ} {serving : Serving} {left : World} {events crashed : List Event} → ExtentLayout → VolumeMap
     → Rest slots serving left events crashed → Type 0
 right_in extents volumes (between replies last does crashes) = AreRight extents volumes does
 right_in {slots = slots} extents volumes (in_one replies last event store reply does applies true_to crashes) = AreRight extents volumes does
     × (IsSingleFailure slots (lost_in event last.store.array.table last.fate.lost) store.array.history → reply ≢ Refused TwoLost)
+right_in {slots = slots} extents volumes (in_writes replies last writes store answer does commits true_to crashes) = AreRight extents volumes does
+    × (IsSingleFailure slots last.fate.lost store.array.history → answer ≢ Err TwoLost)
 
 -- an event is answered first
 one_more : {slots : ℕ} {old mid : Serving} {left : World} {events crashed : List Event} (event : Event) (reply : Reply) → runs.IsDone slots event reply old mid
@@ -46,6 +59,18 @@ one_more : {slots : ℕ} {old mid : Serving} {left : World} {events crashed : Li
 one_more {mid = mid} event reply done (between replies last does crashes) = between (reply ∷ replies) last (then_done mid event reply done does) crashes
 one_more {mid = mid} event reply done (in_one replies last other store answer does applies true_to crashes) =
     in_one (reply ∷ replies) last other store answer (then_done mid event reply done does) applies true_to crashes
+one_more {mid = mid} event reply done (in_writes replies last writes store answer does commits true_to crashes) =
+    in_writes (reply ∷ replies) last writes store answer (then_done mid event reply done does) commits true_to crashes
+
+-- or writes are committed
+writes_more : {slots : ℕ} {old mid : Serving} {left : World} {events crashed : List Event} (writes : List Command) → AreCommitted slots writes old mid
+    → Rest slots mid left events crashed → Rest slots old left (map OnVolumes writes ++ events) crashed
+writes_more {mid = mid} writes done (between replies last does crashes) =
+    between (map (λ write. Done) writes ++ replies) last (then_committed mid writes done does) crashes
+writes_more {mid = mid} writes done (in_one replies last other store answer does applies true_to crashes) =
+    in_one (map (λ write. Done) writes ++ replies) last other store answer (then_committed mid writes done does) applies true_to crashes
+writes_more {mid = mid} writes done (in_writes replies last others store answer does commits true_to crashes) =
+    in_writes (map (λ write. Done) writes ++ replies) last others store answer (then_committed mid writes done does) commits true_to crashes
 
 right_more : {slots : ℕ} {old mid : Serving} {left : World} {events crashed : List Event} (extents : ExtentLayout) (volumes : VolumeMap) (event : Event)
     (reply : Reply)
@@ -54,6 +79,17 @@ right_more : {slots : ℕ} {old mid : Serving} {left : World} {events crashed : 
 unfolding one_more
 right_more extents volumes event reply done (between replies last does crashes) right = right
 right_more extents volumes event reply done (in_one replies last other store answer does applies true_to crashes) right =
+    (right.0.0, (right.0.1, right.1))
+right_more extents volumes event reply done (in_writes replies last writes store answer does commits true_to crashes) right =
+    (right.0.0, (right.0.1, right.1))
+
+right_writes : {slots : ℕ} {old mid : Serving} {left : World} {events crashed : List Event} (extents : ExtentLayout) (volumes : VolumeMap)
+    (writes : List Command) (done : AreCommitted slots writes old mid) (rest : Rest slots mid left events crashed)
+    → right_in extents volumes (writes_more writes done rest) → AreDone extents writes volumes × right_in extents (after_all extents writes volumes) rest
+unfolding writes_more
+right_writes extents volumes writes done (between replies last does crashes) right = right
+right_writes extents volumes writes done (in_one replies last other store answer does applies true_to crashes) right = (right.0.0, (right.0.1, right.1))
+right_writes extents volumes writes done (in_writes replies last others store answer does commits true_to crashes) right =
     (right.0.0, (right.0.1, right.1))
 
 rest_of : (slots : ℕ) {replies : List Reply} {old new : StoreView} (asks : Served replies old new) (fate : Fate) (left : World)
@@ -67,12 +103,21 @@ rest_of slots (then_answered mid event reply applies goes rest) fate left (later
 rest_of slots (then_no_event rest) fate left ends = rest_of slots rest fate left ends
 rest_of slots (then_ended {old = old} {new = new} event reply applies last) fate left ends =
     in_one [] (record { store = old; fate = fate }) event new reply none_done applies ends.true_to ends.crashes
+rest_of slots (then_writes {old = old} mid writes commits rest) fate left (here is) =
+    in_writes [] (record { store = old; fate = fate }) writes mid (Ok tt) none_done commits is.true_to is.crashes
+rest_of slots (then_writes mid writes commits rest) fate left (later next (over, ends)) =
+    writes_more writes (record { commits = commits; goes_over = over }) (rest_of slots rest next left ends)
+rest_of slots (then_writes_ended {old = old} {new = new} writes refusal commits) fate left ends =
+    in_writes [] (record { store = old; fate = fate }) writes new (Err refusal) none_done commits ends.true_to ends.crashes
+
+not_that : (refusal : Refusal) → refused_as refusal ≢ Err TwoLost → refusal ≢ TwoLost
+not_that refusal not_two is = not_two (ap (λ (r : Refusal). refused_as r) is)
 
 rightly : (slots : ℕ) (extents : ExtentLayout) (volumes : VolumeMap) {replies : List Reply} {old new : StoreView} (asks : Served replies old new)
     (fate : Fate) (left : World)
     (ends : EndsServing slots asks fate left)
     → right_in extents volumes (rest_of slots asks fate left ends) → AnswersRightly slots extents volumes asks fate left ends
-unfolding one_more rest_of
+unfolding one_more writes_more rest_of
 rightly slots extents volumes none_asked fate left ends right = tt
 rightly slots extents volumes (then_answered mid event reply applies goes rest) fate left (here is) right = tt
 rightly slots extents volumes (then_answered mid event reply applies goes rest) fate left (later next (over, ends)) right =
@@ -81,6 +126,11 @@ rightly slots extents volumes (then_answered mid event reply applies goes rest) 
     (both.0, rightly slots extents (left_by extents event volumes) rest next left ends both.1)
 rightly slots extents volumes (then_no_event rest) fate left ends right = rightly slots extents volumes rest fate left ends right
 rightly slots extents volumes (then_ended event reply applies last) fate left ends right = right.1
+rightly slots extents volumes (then_writes mid writes commits rest) fate left (here is) right = tt
+rightly slots extents volumes (then_writes mid writes commits rest) fate left (later next (over, ends)) right =
+    let both = right_writes extents volumes writes (record { commits = commits; goes_over = over }) (rest_of slots rest next left ends) right in
+    (both.0, rightly slots extents (after_all extents writes volumes) rest next left ends both.1)
+rightly slots extents volumes (then_writes_ended writes refusal commits) fate left ends right = λ one. not_that refusal (right.1 one)
 
 -- ---- a session, and what it keeps
 
@@ -89,6 +139,8 @@ session_by : {slots : ℕ} {array : ArrayView} {fate : Fate} {first : Serving} {
 session_by {first = first} {events = events} opened (between replies last does crashes) = runs.between_events first last events replies opened does crashes
 session_by {first = first} {events = events} opened (in_one replies last event store reply does applies true_to crashes) =
     runs.in_event first last events replies event store reply opened does applies true_to crashes
+session_by {first = first} {events = events} opened (in_writes replies last writes store answer does commits true_to crashes) =
+    runs.in_commit first last events replies writes store answer opened does commits true_to crashes
 
 session_keeps : {slots : ℕ} {array : ArrayView} {fate : Fate} {first : Serving} {left : World} {events crashed : List Event} (extents : ExtentLayout)
     (before : Before)
@@ -105,6 +157,8 @@ session_keeps {events = events} extents before opened (between replies last does
   subst (λ (e : List Event). Later (record { volumes = keeps.0; events = e; acknowledged = length events })) (sym (append-nil events)) keeps.2,
 )
 session_keeps extents before opened (in_one replies last event store reply does applies true_to crashes) Later keeps =
+    (keeps.0, keeps.1.after_prefix, keeps.1.settled, (keeps.1.right, keeps.2), keeps.3)
+session_keeps extents before opened (in_writes replies last writes store answer does commits true_to crashes) Later keeps =
     (keeps.0, keeps.1.after_prefix, keeps.1.settled, (keeps.1.right, keeps.2), keeps.3)
 
 -- ---- a run, and what it keeps

@@ -1,5 +1,5 @@
 -- Invocations of the program on a set, one after another: what each did on its banks, what it answered, where a crash came in it, and what is kept.
-use Rattle.std.specs.Prelude.{◌≡◌, ◌≢◌, ℕ, ◌+◌, List, [], ◌∷◌, ◌++◌, length}
+use Rattle.std.specs.Prelude.{◌≡◌, ◌≢◌, ℕ, ◌+◌, List, [], ◌∷◌, ◌++◌, length, map, Ok, Err}
 use Rattle.sector_model.specs.declared.refusal.Refusal.{Refusal}
 use Rattle.sector_model.specs.declared.refusal.Refusal.TheVariants.{BadLine, TwoLost}
 use Rattle.sector_model.specs.Bank.{IsTrueTo, Panel}
@@ -13,7 +13,8 @@ use Rattle.recovery.specs.Making as recovery
 use Rattle.recovery.specs.Making.{BankView, IsQuietBeyond, Makes}
 use Rattle.recovery.specs.Assembling.{Assembles}
 use Rattle.volume_table.specs.Volumes.{VolumeMap}
-use Rattle.volume_table.specs.VolumeStep.{Event, Refused, Reply, left_by}
+use Rattle.volume_table.specs.VolumeStep.{Command, Done, Event, OnVolumes, Refused, Reply, left_by}
+use Rattle.volume_table.specs.Staging.{AreDone, CommitsStaged, after_all}
 use Rattle.volume_table.specs.Stands.{IsSettledOn, StoreView}
 use Rattle.volume_table.specs.StoreCalls.{Applies, EndsStore, lost_in}
 use Rattle.volume_table.specs.Opening.{Opened, Opens, Returned}
@@ -24,8 +25,8 @@ use Rattle.extents.specs.SetExtents.{extents_in}
 
 -- ---- what a command does on a bank
 
--- A store was asked one thing after another, and answered these replies: events; and by lines of a script that say none, which change nothing. An event
--- whose reply ended it is the last.
+-- A store was asked one thing after another, and answered these replies: events; writes that waited together, each answered after their commit; and lines of a
+-- script that say none, which change nothing. An event or a commit that ended it is the last.
 pub data Served : List Reply → (old new : StoreView) → Type 0 where
   none_asked : {store : StoreView} → Served [] store store
   then_answered : {old new : StoreView} {replies : List Reply} (mid : StoreView) (event : Event) (reply : Reply) → Applies (Unit {0}) event old mid reply
@@ -33,6 +34,10 @@ pub data Served : List Reply → (old new : StoreView) → Type 0 where
   then_no_event : {old new : StoreView} {replies : List Reply} → Served replies old new → Served (Refused BadLine ∷ replies) old new
   then_ended : {old new : StoreView} (event : Event) (reply : Reply) → Applies (Unit {0}) event old new reply → EndsStore reply
       → Served (reply ∷ []) old new
+  then_writes : {old new : StoreView} {replies : List Reply} (mid : StoreView) (writes : List Command) → CommitsStaged (Unit {0}) writes old mid (Ok tt)
+      → Served replies mid new → Served (map (λ write. Done) writes ++ replies) old new
+  then_writes_ended : {old new : StoreView} (writes : List Command) (refusal : Refusal) → CommitsStaged (Unit {0}) writes old new (Err refusal)
+      → Served (map (λ write. Refused refusal) writes) old new
 
 -- What was done on a bank, and answered: devices were read alone; the set of the id was not assembled, or its volumes were not opened; or a store was
 -- opened, and asked one thing after another.
@@ -50,6 +55,8 @@ events_in none_asked = []
 events_in (then_answered mid event reply applies goes rest) = event ∷ events_in rest
 events_in (then_no_event rest) = events_in rest
 events_in (then_ended event reply applies ends) = event ∷ []
+events_in (then_writes mid writes commits rest) = map OnVolumes writes ++ events_in rest
+events_in (then_writes_ended writes refusal commits) = map OnVolumes writes
 
 abbrev pub events_on : {id : List ℕ} {bank : BankView} {replies : List Reply} → DoneOn id bank replies → List Event
 events_on (only_read after reads) = []
@@ -69,7 +76,12 @@ pub record EndsIn (slots : ℕ) (event : Event) (old new : StoreView) (fate : Fa
   pub true_to : IsTrueTo new.array.panel new.array.history
   pub crashes : Crashes slots (lost_in event old.array.table fate.lost) fate old.array.history new.array.history left
 
--- The crash comes in one of the events, or after all of them.
+-- the crash comes in a commit of writes that waited together, or before the reply to one of them is written
+pub record EndsInCommit (slots : ℕ) (old new : StoreView) (fate : Fate) (left : World) : Type 0 where
+  pub true_to : IsTrueTo new.array.panel new.array.history
+  pub crashes : Crashes slots fate.lost fate old.array.history new.array.history left
+
+-- The crash comes in one of the events or commits, or after all of them.
 abbrev pub EndsServing : (slots : ℕ) {replies : List Reply} {old new : StoreView} → Served replies old new → Fate → World → Type 0
 EndsServing slots (none_asked {store = store}) fate left = Crashes slots fate.lost fate store.array.history store.array.history left
 EndsServing slots (then_answered {old = old} mid event reply applies goes rest) fate left =
@@ -77,6 +89,9 @@ EndsServing slots (then_answered {old = old} mid event reply applies goes rest) 
     GoesOver slots (lost_in event old.array.table fate.lost) fate mid.array.table mid.array.history next × EndsServing slots rest next left)
 EndsServing slots (then_no_event rest) fate left = EndsServing slots rest fate left
 EndsServing slots (then_ended {old = old} {new = new} event reply applies ends) fate left = EndsIn slots event old new fate left
+EndsServing slots (then_writes {old = old} mid writes commits rest) fate left =
+    Comes (EndsInCommit slots old mid fate left) (λ next. GoesOver slots fate.lost fate mid.array.table mid.array.history next × EndsServing slots rest next left)
+EndsServing slots (then_writes_ended {old = old} {new = new} writes refusal commits) fate left = EndsInCommit slots old new fate left
 
 -- The crash comes in opening the volumes; or they were opened, and it comes in one of the events, or after all of them.
 abbrev pub EndsOpened : (slots : ℕ) (array : ArrayView) (first : StoreView) {replies : List Reply} {last : StoreView} → Served replies first last
@@ -108,6 +123,9 @@ answered slots (then_answered mid event reply applies goes rest) fate left (here
 answered slots (then_answered mid event reply applies goes rest) fate left (later next (over, ends)) = event ∷ answered slots rest next left ends
 answered slots (then_no_event rest) fate left ends = answered slots rest fate left ends
 answered slots (then_ended event reply applies last) fate left ends = []
+answered slots (then_writes mid writes commits rest) fate left (here is) = []
+answered slots (then_writes mid writes commits rest) fate left (later next (over, ends)) = map OnVolumes writes ++ answered slots rest next left ends
+answered slots (then_writes_ended writes refusal commits) fate left ends = []
 
 abbrev pub crashed_in : (slots : ℕ) {replies : List Reply} {old new : StoreView} (asks : Served replies old new) (fate : Fate) (left : World)
     → EndsServing slots asks fate left → List Event
@@ -116,6 +134,9 @@ crashed_in slots (then_answered mid event reply applies goes rest) fate left (he
 crashed_in slots (then_answered mid event reply applies goes rest) fate left (later next (over, ends)) = crashed_in slots rest next left ends
 crashed_in slots (then_no_event rest) fate left ends = crashed_in slots rest fate left ends
 crashed_in slots (then_ended event reply applies last) fate left ends = event ∷ []
+crashed_in slots (then_writes mid writes commits rest) fate left (here is) = map OnVolumes writes
+crashed_in slots (then_writes mid writes commits rest) fate left (later next (over, ends)) = crashed_in slots rest next left ends
+crashed_in slots (then_writes_ended writes refusal commits) fate left ends = map OnVolumes writes
 
 -- ---- invocations
 
@@ -139,6 +160,11 @@ AnswersRightly slots extents volumes (then_answered mid event reply applies goes
 AnswersRightly slots extents volumes (then_no_event rest) fate left ends = AnswersRightly slots extents volumes rest fate left ends
 AnswersRightly slots extents volumes (then_ended {old = old} {new = new} event reply applies last) fate left ends =
     IsSingleFailure slots (lost_in event old.array.table fate.lost) new.array.history → reply ≢ Refused TwoLost
+AnswersRightly slots extents volumes (then_writes mid writes commits rest) fate left (here is) = Unit {0}
+AnswersRightly slots extents volumes (then_writes mid writes commits rest) fate left (later next (over, ends)) =
+    AreDone extents writes volumes × AnswersRightly slots extents (after_all extents writes volumes) rest next left ends
+AnswersRightly slots extents volumes (then_writes_ended {new = new} writes refusal commits) fate left ends =
+    IsSingleFailure slots fate.lost new.array.history → refusal ≢ TwoLost
 
 -- what was kept by the volumes, and what is to be kept of them
 abbrev pub kept_by : (slots : ℕ) (volumes : VolumeMap) {replies : List Reply} {old new : StoreView} (asks : Served replies old new) (fate : Fate) (left : World)

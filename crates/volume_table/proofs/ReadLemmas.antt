@@ -14,7 +14,7 @@ use Rattle.extents.specs.ExtentMaps.{place_of, sector_of_block}
 use Rattle.extents.specs.declared.record.Record.{Record}
 use Rattle.extents.specs.declared.volume_table.VolumeTable.{VolumeTable}
 use Rattle.extents.specs.TableSpelling.{Spell}
-use Rattle.extents.specs.Owners.{owner_of, HasPlaces, IsAt}
+use Rattle.extents.specs.Owners.{HasPlaces, IsAt}
 use Rattle.extents.specs.VolumeTables.{HasRecord, extents_of, most_blocks, record_of}
 use Rattle.volume_table.specs.Volumes.{Block, VolumeMap, no_volumes, blocks_of, IsVolume, AreVolumes}
 use Rattle.volume_table.specs.VolumeStep.{Read, Reply, Blocks, or_refused, refusal_of, reply_to, answer, blocks_in}

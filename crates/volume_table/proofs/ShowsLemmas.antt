@@ -17,8 +17,7 @@ use Rattle.extents.specs.Names.{is_letter, is_digit, is_name_byte, IsGoodName}
 use Rattle.extents.specs.Owners.{IsAt, HasPlaces}
 use Rattle.extents.specs.Versions.{most_name_bytes, table_length}
 use Rattle.extents.specs.VolumeTables.{AreDistinct, HasRecord, HaveTheirPlaces, IsVolumeTable, extents_for, extents_of, record_of}
-use Rattle.extents.proofs.Blocks.{block_is_one, place_is_below, sector_is_of_one}
-use Rattle.extents.proofs.OwnerLemmas.{owner_is_one}
+use Rattle.extents.proofs.Blocks.{place_is_below}
 use Rattle.volume_table.specs.Names.{is_same_name, is_good_name}
 use Rattle.volume_table.specs.Volumes.{Block, IsBlock, VolumeList, VolumeMap, blocks_of, AreVolumes}
 use Rattle.volume_table.specs.VolumeStep.{Write, Done, blocks_in, refusal_of, reply_to, volumes_after}

@@ -1,5 +1,5 @@
 -- Writes that wait in a batch, and what a commit of them does.
-use Rattle.std.proofs.Common.{◌≡◌, ◌≢◌, ◌⊎◌, inl, inr, ℕ, ◌+◌, ◌<◌, ◌≤◌, List, [], ◌∷◌, ◌++◌, length, get_or, All, Option, Some, None, Ok, Err, refl, sym, ◌∙◌}
+use Rattle.std.proofs.Common.{◌≡◌, ◌≢◌, ◌⊎◌, inl, inr, ℕ, ◌+◌, ◌<◌, ◌≤◌, List, [], ◌∷◌, ◌++◌, length, All, Option, Some, None, Ok, Err, refl, sym, ◌∙◌}
 use Rattle.std.proofs.Common.{ap, subst, arith}
 use Rattle.std.specs.Prelude.{Bool, Contains, false, slice_index_or, true}
 use Rattle.std.proofs.lemmas.Bool.{false≢true}
@@ -8,8 +8,8 @@ use Rattle.sector_model.specs.declared.refusal.Refusal.TheVariants.{BadCount, No
 use Rattle.superblock.specs.declared.table.Table.{Table}
 use Rattle.superblock.specs.Cases.{Lost}
 use Rattle.superblock.specs.Tables.{incarnation_at}
-use Rattle.batch.specs.Places.{AreApart, AreOfSet, Given, bytes_at, logical_at}
-use Rattle.batch.specs.Staging.{HasLogical, IsStaged, sector_at}
+use Rattle.batch.specs.Places.{AreOfSet, Given, logical_at}
+use Rattle.batch.specs.Staging.{IsStaged}
 use Rattle.array_io.specs.Believed.ArrayCalls.{Answer, Commits, written}
 use Rattle.array_io.specs.Believed.Views.{ArrayView, HasLostOne, IsEndOf, RestsOn}
 use Rattle.sector_model.specs.declared.calls.TheConstants.{GREATEST_COUNT}
@@ -20,17 +20,16 @@ use Rattle.extents.specs.declared.owned.Owned.{Owned}
 use Rattle.extents.specs.declared.volume_table.VolumeTable.{VolumeTable}
 use Rattle.extents.specs.ExtentMaps.{HasPlace, place_of, sector_of_block}
 use Rattle.extents.specs.Owners.{IsAt}
-use Rattle.layout_map.specs.Placement.{data_sectors_of}
 use Rattle.volume_table.specs.Admission.{AreKept, HasRecordAt, ShowsBy}
 use Rattle.volume_table.specs.ListChanges.{Change, ChangesList, IsSame, IsSameOr}
-use Rattle.volume_table.specs.Shows.{HasWritten, Shows}
+use Rattle.volume_table.specs.Shows.{Shows}
 use Rattle.volume_table.specs.StagedBlocks.{StagesBlocks}
 use Rattle.volume_table.specs.Staging.{AreDone, CommitsStaged, CommitsWrites, HoldsWrites, LieWithin, RefusesStaging, Staged, Stages, after_all}
 use Rattle.volume_table.specs.Stands.{IsSettledOn, StoreView}
 use Rattle.volume_table.specs.StoreCalls.{extents_for_store}
 use Rattle.volume_table.specs.StoreChanges.{AllPlaced, ArePlaced, IsWrittenAt}
 use Rattle.volume_table.specs.Volumes.{Block, IsBlock, VolumeMap}
-use Rattle.volume_table.specs.VolumeStep.{Command, Done, Write, done, or_refused, refusal_of, reply_to, volumes_after}
+use Rattle.volume_table.specs.VolumeStep.{Command, Done, Write, or_refused, refusal_of, reply_to, volumes_after}
 use Rattle.volume_table.proofs.ListChanges.{changes_commit, changes_more, changes_none, rests_long}
 use Rattle.volume_table.proofs.StepLemmas.{changed_if_done}
 use Rattle.volume_table.proofs.StoreSteps.{ShowsEither, generation_left, moments, set_is_left, settled_then, shown_by, slot_spared, stays_or_fails}

@@ -1,8 +1,8 @@
 -- What a logical list shows after its table is changed.
-use Rattle.std.proofs.Common.{◌≡◌, ◌≢◌, ⊎_elim, inl, inr, ℕ, ◌≤◌, Bool, true, false, List, [], ◌++◌, length, take, get_or, slice_set, IsTrue, Option, Some, None}
+use Rattle.std.proofs.Common.{◌≡◌, ◌≢◌, ⊎_elim, inl, inr, ℕ, ◌≤◌, Bool, true, false, List, [], ◌++◌, take, get_or, slice_set, Option, Some, None}
 use Rattle.extents.specs.Checks.{AreCleanBeyond}
-use Rattle.extents.specs.Versions.{IsVersion, is_version_of, most_volumes, tells_dirty, upgraded_version}
-use Rattle.extents.proofs.Tables.{upgraded_of_format, upgraded_tells, version_upgraded}
+use Rattle.extents.specs.Versions.{is_version_of, tells_dirty, upgraded_version}
+use Rattle.extents.proofs.Tables.{upgraded_of_format, upgraded_tells}
 use Rattle.volume_table.proofs.CleanExtents.{WasUsed, clean_moved}
 use Rattle.std.proofs.Common.{refl, sym}
 use Rattle.std.proofs.Common.{ap, subst, ◌∙◌, arith}
@@ -21,17 +21,17 @@ use Rattle.extents.specs.Owners.{owner_of, HasPlaces, IsAt}
 use Rattle.extents.specs.SetExtents.{IsOfSet}
 use Rattle.extents.specs.TableSpelling.{Spell}
 use Rattle.extents.specs.Versions.{table_length}
-use Rattle.extents.specs.VolumeTables.{AreDistinct, HasRecord, HaveTheirPlaces, extents_for, extents_of, most_blocks, record_of}
+use Rattle.extents.specs.VolumeTables.{AreDistinct, HasRecord, HaveTheirPlaces, extents_for, extents_of, record_of}
 use Rattle.extents.proofs.OwnerLemmas.{places_by_owner}
 use Rattle.extents.proofs.Tables.{some_within}
-use Rattle.volume_table.specs.Names.{is_good_name, is_same_name}
-use Rattle.volume_table.specs.Volumes.{Block, Volume, VolumeList, VolumeMap, blocks_of, with_volume, without, IsVolume, AreVolumes}
+use Rattle.volume_table.specs.Names.{is_same_name}
+use Rattle.volume_table.specs.Volumes.{Block, Volume, VolumeList, VolumeMap, blocks_of, with_volume, without, AreVolumes}
 use Rattle.volume_table.specs.VolumeStep.{Create, Extend, Remove, Rename, Upgrade, Done, zero_blocks, blocks_in, reply_to, refusal_of, volumes_after}
 use Rattle.volume_table.specs.Shows.{AreBlocksIn, AreClean, IsOfVolume, AreShown, Shows, HaveSameBlocks, ChangesName, ChangesOneRecord, IsRecordOf}
 use Rattle.volume_table.proofs.VolumeLemmas.{same_name_is, same_name_itself, found_with_volume, others_with_volume, gone_without, others_without}
 use Rattle.volume_table.proofs.StepLemmas.{step_keeps, changed_if_done, done_if_not_refused, upgrade_keeps}
-use Rattle.volume_table.proofs.ShowsLemmas.{distinct_names, good_names}
-use Rattle.volume_table.proofs.TableSizes.{longer_names, more_volumes, table_short}
+use Rattle.volume_table.proofs.ShowsLemmas.{distinct_names}
+use Rattle.volume_table.proofs.TableSizes.{table_short}
 
 -- a map with another list of volumes
 abbrev with_list : VolumeList → VolumeMap → VolumeMap

@@ -1,5 +1,5 @@
 -- The table of volumes gets version 2, by what the calls of the array do.
-use Rattle.std.proofs.Common.{◌≡◌, ◌≢◌, ◌⊎◌, inl, inr, ℕ, ◌+◌, ◌≤◌, List, take, Option, None, Some, Ok, Err, OnOk, refl, sym, ◌∙◌, ap, subst, arith}
+use Rattle.std.proofs.Common.{◌≡◌, ◌≢◌, ◌⊎◌, inl, inr, ◌+◌, List, take, Option, None, Some, Ok, Err, OnOk, refl, sym, ◌∙◌, ap, subst, arith}
 use Rattle.sector_model.specs.declared.refusal.Refusal.{Refusal}
 use Rattle.sector_model.specs.Bank.{IsTrueTo}
 use Rattle.array_io.specs.Believed.ArrayCalls.{Answer}
@@ -9,7 +9,7 @@ use Rattle.extents.specs.SetExtents.{extents_in}
 use Rattle.extents.specs.declared.owned.Owned.{Owned}
 use Rattle.extents.specs.declared.volume_table.VolumeTable.{VolumeTable}
 use Rattle.extents.specs.TableSpelling.{Spell}
-use Rattle.extents.specs.Versions.{table_length, upgraded_version}
+use Rattle.extents.specs.Versions.{upgraded_version}
 use Rattle.extents.proofs.TableLaws.{one_table}
 use Rattle.volume_table.specs.Volumes.{Block, VolumeMap}
 use Rattle.volume_table.specs.VolumeStep.{Done, Upgrade, done}

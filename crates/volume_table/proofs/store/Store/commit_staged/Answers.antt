@@ -1,11 +1,9 @@
 -- What waits is committed by one call of the array.
-use Rattle.std.proofs.Common.{◌≡◌, [], Ok, Err, Some, None, refl, sym, ◌∙◌, subst}
-use Rattle.sector_model.specs.declared.refusal.Refusal.{Refusal}
+use Rattle.std.proofs.Common.{Ok, refl, ◌∙◌, subst}
 use Rattle.layout_map.specs.declared.geometry.Geometry.{Geometry}
 use Rattle.batch.specs.Batches.{waiting}
 use Rattle.batch.specs.Places.{AreOfSet, Given}
 use Rattle.batch.proofs.Kept.{is_batch}
-use Rattle.array_io.specs.Believed.ArrayCalls.{Commits}
 use Rattle.array_io.specs.Believed.OpenArray.{array_view}
 use Rattle.extents.specs.SetExtents.{extents_in}
 use Rattle.volume_table.specs.OpenStore.{store_view}

@@ -1,5 +1,5 @@
 -- A write waits as its admission says.
-use Rattle.std.proofs.Common.{◌≡◌, ◌+◌, ◌++◌, [], ◌∷◌, List, Ok, Err, Some, None, length, refl, sym, ◌∙◌, ap, subst, arith}
+use Rattle.std.proofs.Common.{◌+◌, [], length, sym, subst}
 use Rattle.std.proofs.lemmas.List.Elements.{All-from_get_or}
 use Rattle.std.proofs.lemmas.Result.{err_from_is_err_and}
 use Rattle.batch.specs.Batches.{waiting}
@@ -9,7 +9,7 @@ use Rattle.volume_table.specs.StagedBlocks.{StagesBlocks}
 use Rattle.volume_table.specs.StoreChanges.{AllPlaced}
 use Rattle.volume_table.specs.OpenStore.{store_view}
 use Rattle.volume_table.specs.Volumes.{IsBlock}
-use Rattle.volume_table.proofs.KeptMaps.{kept_sized, within_fits, within_is_placed, within_least, within_most, within_record}
+use Rattle.volume_table.proofs.KeptMaps.{within_fits, within_is_placed, within_least, within_most, within_record}
 use Rattle.volume_table.proofs.StagedWrites.{holds_more, refuses_staging, taken_as}
 use Rattle.volume_table.proofs.store.Store.stage.Goals as goal
 

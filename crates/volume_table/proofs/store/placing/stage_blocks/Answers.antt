@@ -1,4 +1,4 @@
-use Rattle.std.proofs.Common.{◌≡◌, ℕ, List, refl, sym, subst}
+use Rattle.std.proofs.Common.{ℕ, List, sym, subst}
 use Rattle.sector_model.specs.History.{Bytes}
 use Rattle.batch.specs.Batches.{waiting}
 use Rattle.batch.specs.Places.{AreApart, AreOfSet}

@@ -13,7 +13,8 @@ use std::process::Abort;
 use superblock::Table;
 use superblock::oracle::chosen_table_in;
 
-// Each of them is taken of a crash around the seals. Of other crashes, one after another, they are taken by turns.
+// While the seals are written, a crash after each call is asked about by all of them, and elsewhere by one of them, by
+// turns.
 const CHOICES: [Choice; 3] = [Choice::Oldest, Choice::Newest, Choice::Mixed(3)];
 
 // What is written last.
@@ -81,8 +82,8 @@ struct Case {
     logical: &'static [u64],
 }
 
-// Of the batch 8 rows take one read each, a body has 16 rows of 3 sectors and 8 of 2, and on the members stand 24, 16 and
-// 24 of these. Each of the parts ends with a flush.
+// Of the batch 8 rows take one read each. A body has 16 rows of 3 sectors and 8 of 2; of these 24, 16 and 24 are on the
+// members. Each body, each seal and each member's rows end with a flush.
 const OF_BATCH: Case = Case {
     written: Written::Batch,
     bodies: 138,

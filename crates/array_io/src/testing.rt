@@ -1,10 +1,11 @@
 //! What this crate's tests share: sectors, images, banks and entries of a set of chunk 8 and 32 stripes, made by hand,
 //! and what they compare values with. Its rows 0 to 255 are the sectors 8 to 263 of each member.
-ghost use Rattle.std.specs.Prelude.{◌≡◌, ◌≤◌, ◌<◌, false};
+ghost use Rattle.std.specs.Prelude.{◌≡◌, ◌↔◌, ◌≤◌, ◌<◌, IsTrue, false};
+ghost use Rattle.array_io.specs.Believed.ArrayCalls.{MayCommit};
 ghost use Rattle.array_io.specs.Believed.Views.{HasItsSlots};
+ghost use Rattle.array_io.specs.Steps.FormingRows.{HasLogical};
 ghost use Rattle.superblock.specs.Counted.{least_sectors};
 
-use layout_map::Format;
 use sector_model::{Bank, Image, MemBank, Plan, Sector, read_sector};
 use std::fmt::Debug;
 use std::process::Abort;
@@ -249,15 +250,37 @@ fn check_device<B: Bank>(rt: &impl Abort, table: &Table, bank: &B, slot: u8)
     assert!(rt; bank.is_down(slot) || bank.sectors(slot) >= least_of(&table.geometry, slot));
 }
 
-/// The bank has the devices of a set of format 1.
+/// The bank has the devices of the table's set.
 pub(crate) fn check_slots<B: Bank>(rt: &impl Abort, table: &Table, bank: &B)
     ensures { HasItsSlots table.now (B.panel bank.now) }
 {
-    assert!(rt; table.geometry.format == Format::One);
     let slots = table.geometry.members + 2;
     assert!(rt; slots <= bank.devices());
     for slot in 0..slots {
         check_device(rt, table, bank, slot);
+    }
+}
+
+// Whether this logical sector is one of those given.
+fn is_given(sectors: &[(u64, Sector)], logical: u64) -> bool
+    ensures { IsTrue result ↔ HasLogical sectors.now logical }
+{
+    for sector in sectors {
+        if sector.0 == logical {
+            return true;
+        }
+    }
+    false
+}
+
+/// The sectors may be committed.
+pub(crate) fn check_sectors(rt: &impl Abort, table: &Table, sectors: &[(u64, Sector)])
+    ensures { MayCommit table.now sectors.now }
+{
+    assert!(rt; matches!(sectors.len(), 1..=32));
+    for (i, sector) in sectors.iter().enumerate() {
+        assert!(rt; sector.0 < table.geometry.data_sectors());
+        assert!(rt; !is_given(&sectors[..i], sector.0));
     }
 }
 

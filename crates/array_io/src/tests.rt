@@ -2,6 +2,7 @@
 use super::*;
 use crate::testing::{Slots, WHOLE, WITHOUT_2};
 
+mod batches;
 mod calls;
 mod commit;
 mod copied_entry;

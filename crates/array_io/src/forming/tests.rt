@@ -2,15 +2,13 @@
 //! and 64 are the data of row 32, on members 0 and 2, and 73 and 65 that of row 33; the parity is on member 1. In the
 //! set of 4 members, logical sectors 96, 104 and 112 are the data of row 32, on members 0 to 2; the parity is on member
 //! 3.
-ghost use Rattle.std.specs.Prelude.{◌↔◌, IsTrue};
 ghost use Rattle.array_io.specs.Believed.ArrayCalls.{MayCommit};
 ghost use Rattle.array_io.specs.Believed.Views.{HasItsSlots};
-ghost use Rattle.array_io.specs.Steps.FormingRows.{HasLogical};
 
 use super::{Writes, form_rows};
 use crate::testing::{
     Bytes, Failure, Row, Slots, WHOLE, WITHOUT_0, WITHOUT_1, all, bank_of, blank, check_rows,
-    check_slots, entry_of, put, put_row, same, table_of,
+    check_sectors, check_slots, entry_of, put, put_row, same, table_of,
 };
 use batch::{Places, plan_rows};
 use entry_runs::RunsBuilder;
@@ -18,29 +16,6 @@ use sector_model::{Bank, MemBank, Refusal, Sector};
 use std::process::Abort;
 use stripe_journal::Entry;
 use superblock::Table;
-
-// Whether this logical sector is one of those given.
-fn is_given(sectors: &[(u64, Sector)], logical: u64) -> bool
-    ensures { IsTrue result ↔ HasLogical sectors.now logical }
-{
-    for sector in sectors {
-        if sector.0 == logical {
-            return true;
-        }
-    }
-    false
-}
-
-// The sectors may be committed.
-fn check_sectors(rt: &impl Abort, table: &Table, sectors: &[(u64, Sector)])
-    ensures { MayCommit table.now sectors.now }
-{
-    assert!(rt; matches!(sectors.len(), 1..=32));
-    for (i, sector) in sectors.iter().enumerate() {
-        assert!(rt; sector.0 < table.geometry.data_sectors());
-        assert!(rt; !is_given(&sectors[..i], sector.0));
-    }
-}
 
 // Forms the rows of sectors that may be committed (condition).
 fn form<B: Bank>(

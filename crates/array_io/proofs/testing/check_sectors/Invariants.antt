@@ -1,7 +1,7 @@
 use Rattle.std.proofs.Common.{◌≢◌, ℕ, ◌<◌}
 use Rattle.layout_map.specs.Placement.{data_sectors_of}
 use Rattle.array_io.specs.Steps.FormingRows.{logical_at}
-use Rattle.array_io.proofs.forming.tests.check_sectors.Given as goal
+use Rattle.array_io.proofs.testing.check_sectors.Given as goal
 
 abbrev pub invariant-loop-i : goal.invariant-loop-i
 invariant-loop-i g l = record {

@@ -49,7 +49,8 @@ joined_run joined = record { first = joined.first; length = joined.end - joined.
 data Which (runs : List Run) (joined : Joined) (i : ℕ) : Type 0 where
   Before : i < joined.from → run_at (with_joined runs joined) i ≡ run_at runs i → Which runs joined i
   Own : i ≡ joined.from → run_at (with_joined runs joined) i ≡ joined_run joined → Which runs joined i
-  After : (k : ℕ) → i ≡ joined.from + suc k → joined.to + k < length runs → run_at (with_joined runs joined) i ≡ run_at runs (joined.to + k) → Which runs joined i
+  After : (k : ℕ) → i ≡ joined.from + suc k → joined.to + k < length runs → run_at (with_joined runs joined) i ≡ run_at runs (joined.to + k)
+      → Which runs joined i
 
 module _ (runs : List Run) (first count : ℕ) (joined : Joined) (are : AreZeroRuns runs) (some : 1 ≤ count) (is : IsJoined runs first count joined) where
   all_long : length (with_joined runs joined) + joined.to ≡ joined.from + 1 + length runs
@@ -84,7 +85,8 @@ module _ (runs : List Run) (first count : ℕ) (joined : Joined) (are : AreZeroR
     ];
     apart = λ i inside. elim (which i (omega (arith, inside))) [
       | Before below at ↦ elim (which (suc i) inside) [
-        | Before next at' ↦ omega (arith, ap end_of at, ap (λ (r : Run). r.first) at', (zero_spread runs are).apart i (omega (arith, next, is.order, is.within)))
+        | Before next at' ↦
+            omega (arith, ap end_of at, ap (λ (r : Run). r.first) at', (zero_spread runs are).apart i (omega (arith, next, is.order, is.within)))
         | Own next at' ↦ omega (arith, ap end_of at, ap (λ (r : Run). r.first) at', is.before i below)
         | After k place within at' ↦ absurd (omega (arith, place, below))
       ]

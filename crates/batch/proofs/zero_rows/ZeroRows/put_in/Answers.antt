@@ -9,5 +9,6 @@ use Rattle.batch.proofs.zero_rows.ZeroRows.put_in.Goals as goal
 pub returns : goal.returns
 returns c =
     let rows = c.args.self.now in
-    subst (λ (runs : List Run). AreRowsOf (zero_runs rows) (rows_of_runs runs) (masks_of_runs runs)) (sym (c.set.ensures ∙ c.in-Ok.ensures.0 ∙ c.as_slice.ensures.value))
+    subst (λ (runs : List Run). AreRowsOf (zero_runs rows) (rows_of_runs runs) (masks_of_runs runs))
+    (sym (c.set.ensures ∙ c.in-Ok.ensures.0 ∙ c.as_slice.ensures.value))
     (are_rows (zero_runs rows) rows.zero)

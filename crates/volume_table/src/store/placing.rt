@@ -161,8 +161,8 @@ fn next_stretch(
     }
 }
 
-// Whether a block of a volume lies in a dirty extent.
-fn is_dirty_block(
+/// Whether a block of a volume lies in a dirty extent.
+pub(super) fn is_dirty_block(
     extents: &ExtentLayout,
     map: &ExtentMap,
     dirty: &[bool],

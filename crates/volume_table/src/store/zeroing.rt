@@ -6,12 +6,14 @@ ghost use Rattle.batch.specs.ZeroRuns.{zero_runs};
 ghost use Rattle.extents.specs.declared.record.TheConstants.{MOST_BLOCKS};
 ghost use Rattle.extents.specs.ExtentMaps.{HasPlace, place_of};
 ghost use Rattle.extents.specs.SetExtents.{extents_in};
+ghost use Rattle.volume_table.specs.declared.event.TheConstants.{MOST_BLOCKS_AT_ONCE};
 ghost use Rattle.volume_table.specs.ListChanges.{ChangesList, IsSameOr};
 ghost use Rattle.volume_table.specs.StoreChanges.{AllPlaced, IsWrittenAt};
 ghost use Rattle.volume_table.specs.VolumeStep.{zero_blocks};
 ghost use Rattle.volume_table.specs.WholeStripes.{FillStripe, GathersStripes};
 
 use super::placing::is_dirty_block;
+use crate::event::MOST_BLOCKS_AT_ONCE;
 use array_io::Array;
 use batch::ZeroRows;
 use entry_runs::RunsBuilder;
@@ -91,6 +93,25 @@ pub(super) fn zero_stripes<B: Bank>(
     let mut builder = RunsBuilder::new();
     rows.put_in(&mut builder);
     array.commit_zeros(&builder)
+}
+
+/// How many blocks of a volume from block `at` on one commit makes zero beside whole stripes: 32 at most, and in a set
+/// of format 2 none after the stripe in which the first of them lies.
+///
+/// The map is that of the set's extents, and the block has an extent of the volume (conditions).
+pub(super) fn most_at_once(geometry: &Geometry, map: &ExtentMap, volume: u8, at: u32) -> u32
+    requires sized { length map.now ≤ (extents_in geometry.now).count }
+    requires placed { HasPlace map.now volume (place_of (extents_in geometry.now) at) }
+    ensures least { 1 ≤ result }
+    ensures most { result ≤ MOST_BLOCKS_AT_ONCE }
+{
+    if geometry.format == Format::One {
+        return MOST_BLOCKS_AT_ONCE as u32;
+    }
+    let extents = ExtentLayout::of(geometry);
+    let stripe = u64::from(geometry.chunk) * u64::from(geometry.members - 1);
+    let left = stripe - map.where_is(&extents, volume, at) % stripe;
+    left.min(MOST_BLOCKS_AT_ONCE as u64) as u32
 }
 
 // The stripe that blocks of a volume fill from this one on, as many as it has, one after another. `None` where a part

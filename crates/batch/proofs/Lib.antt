@@ -8,3 +8,7 @@ pub mod Placing
 pub mod PlannedRows
 pub mod Refusals
 pub mod Staged
+pub mod ZeroJoins
+pub mod ZeroLists
+pub mod ZeroOrder
+pub mod ZeroPut

@@ -50,7 +50,7 @@ lowest first rows row rising has = elim (first_or_rest first rows row has.place 
 ]
 
 -- rows that others have, which have no other up to the last of them, are the first of those
-prefix_is : (rows all : List ℕ) → Rises rows → Rises all → ((i : ℕ) → i < length rows → HasRow all (row_of rows i))
+pub prefix_is : (rows all : List ℕ) → Rises rows → Rises all → ((i : ℕ) → i < length rows → HasRow all (row_of rows i))
     → ((j : ℕ) → j < length all → HasRow rows (row_of all j) ⊎ ((i : ℕ) → i < length rows → row_of rows i < row_of all j))
     → (length rows ≤ length all) × (take (length rows) all ≡ rows)
 prefix_is [] all rising rising' has only = (omega arith, refl)

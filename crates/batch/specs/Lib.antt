@@ -6,3 +6,5 @@ pub mod Places
 pub mod Rising
 pub mod Rows
 pub mod Staging
+pub mod ZeroRows
+pub mod ZeroRuns

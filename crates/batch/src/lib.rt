@@ -1,4 +1,5 @@
 //! Logical sectors that are written together, by one entry: where they lie, the rows that change, and a batch of them.
+//! And whole rows that one entry makes zero.
 #![tactic(auto)]
 
 mod batch;
@@ -6,11 +7,13 @@ mod placed;
 mod places;
 mod planning;
 mod staging;
+mod zero_rows;
 
 pub use batch::{Batch, MOST_AT_ONCE};
 pub use placed::Placed;
 pub use places::{MOST_PLACES, Places};
 pub use planning::plan_rows;
+pub use zero_rows::ZeroRows;
 
 #[cfg(test)]
 mod tests;

@@ -13,6 +13,8 @@ use sector_model::Sector;
 use std::fmt::Debug;
 use std::process::Abort;
 
+mod zero_rows;
+
 // Ends the test where `got` is not `want`.
 fn same<T: PartialEq + Debug + Drop>(rt: &impl Abort, got: T, want: T) {
     assert_eq!(rt; got, want);

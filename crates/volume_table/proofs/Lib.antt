@@ -51,6 +51,7 @@ pub mod TableSizes
 pub mod TooMany
 mod UpgradedVolumes
 pub mod VolumeLemmas
+pub mod WholeStripes
 pub mod WorkedRows
 pub mod WrittenSectors
 pub mod WrittenVolumes

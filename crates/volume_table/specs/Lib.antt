@@ -27,3 +27,4 @@ pub mod Staging
 pub mod Stretches
 pub mod VolumeStep
 pub mod Volumes
+pub mod WholeStripes

@@ -30,6 +30,7 @@ mod staging;
 mod status;
 mod upgrading;
 mod writing;
+mod zeroing;
 
 /// The volumes of a set that was made or assembled.
 ///

@@ -10,10 +10,11 @@ ghost use Rattle.volume_table.specs.StoreChanges.{AllPlaced, ArePlaced, IsPartly
 ghost use Rattle.volume_table.specs.StagedBlocks.{StagesBlocks};
 ghost use Rattle.volume_table.specs.Stretches.{IsDirtyBlock, IsStretch};
 
+use super::zeroing::{gather_stripes, most_at_once, zero_stripes};
 use crate::event::MOST_BLOCKS_AT_ONCE;
 use array_io::Array;
 use arrayvec::ArrayVec;
-use batch::Batch;
+use batch::{Batch, ZeroRows};
 use extents::{ExtentLayout, ExtentMap};
 use sector_model::{Bank, Refusal, Sector};
 
@@ -92,8 +93,9 @@ fn placed(
     sectors
 }
 
-/// Makes those of the blocks `first` to `last` - 1 of a volume zero that lie in dirty extents, by commits of up to 32
-/// blocks. The others are not written. The conditions are those of `write_blocks`, and it is refused as a commit is;
+/// Makes those of the blocks `first` to `last` - 1 of a volume zero that lie in dirty extents. In a set of format 2 one
+/// commit makes as many whole stripes zero as an entry has room for; what is beside these is written by commits of up to
+/// 32 blocks, as all is in a set of format 1. The others are not written. The conditions are those of `write_blocks`, and it is refused as a commit is;
 /// some of the blocks may then be zero.
 pub fn zero_blocks<B: Bank>(
     array: &mut Array<B>,
@@ -114,10 +116,19 @@ pub fn zero_blocks<B: Bank>(
         (array_view array.new) result }
 {
     let zeros = [[0; 512]; MOST_BLOCKS_AT_ONCE];
-    let extents = ExtentLayout::of(&array.table.geometry);
+    let geometry = array.table.geometry;
+    let extents = ExtentLayout::of(&geometry);
+    let mut rows = ZeroRows::new();
     let mut at = first;
     while at < last {
-        let stretch = next_stretch(&extents, map, dirty, volume, at, last);
+        let end = gather_stripes(&geometry, map, dirty, volume, at, last, &mut rows);
+        if end > at {
+            zero_stripes(array, map, volume, at, end, &rows)?;
+            at = end;
+            continue;
+        }
+        let most = most_at_once(&geometry, map, volume, at);
+        let stretch = next_stretch(&extents, map, dirty, volume, at, last, most);
         if stretch.dirty {
             let count = (stretch.end - at) as usize;
             write_blocks(array, map, volume, at, &zeros[..count])?;
@@ -136,8 +147,8 @@ struct Stretch {
     dirty: bool,
 }
 
-// The next blocks of a volume from block `at` on, below `last`, that are to be made zero by one commit, or that need
-// not be.
+// The next blocks of a volume from block `at` on, below `last`, that are to be made zero by one commit of so many blocks
+// at most, or that need not be.
 fn next_stretch(
     extents: &ExtentLayout,
     map: &ExtentMap,
@@ -145,14 +156,17 @@ fn next_stretch(
     volume: u8,
     at: u32,
     last: u32,
+    most: u32,
 ) -> Stretch
     requires order { at < last }
+    requires some { 1 ≤ most }
+    requires few { most ≤ MOST_BLOCKS_AT_ONCE }
     requires within { last ≤ MOST_BLOCKS }
     requires placed { AllPlaced extents.now map.now volume at last }
     ensures { IsStretch extents.now dirty.now map.now volume at last result.end result.dirty }
 {
     if is_dirty_block(extents, map, dirty, volume, at) {
-        let most = (last - at).min(MOST_BLOCKS_AT_ONCE as u32);
+        let most = most.min(last - at);
         let end = at + dirty_run(extents, map, dirty, volume, at, most);
         Stretch { end, dirty: true }
     } else {
@@ -161,8 +175,8 @@ fn next_stretch(
     }
 }
 
-// Whether a block of a volume lies in a dirty extent.
-fn is_dirty_block(
+/// Whether a block of a volume lies in a dirty extent.
+pub(super) fn is_dirty_block(
     extents: &ExtentLayout,
     map: &ExtentMap,
     dirty: &[bool],

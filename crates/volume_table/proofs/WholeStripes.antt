@@ -9,15 +9,26 @@ use Rattle.layout_map.specs.declared.geometry.Geometry.{Geometry}
 use Rattle.layout_map.specs.Placement.{data_sectors_of, rows_of, stripe_blocks}
 use Rattle.layout_map.proofs.Places.{chunk_least, place_row_below, stripe_least}
 use Rattle.entry_runs.specs.declared.run.Run.{Run}
-use Rattle.batch.specs.ZeroRows.{AreNew, AreRowsOf, HasMore, HasZeroRow}
-use Rattle.extents.proofs.ExtentLawLemmas.{sector_is_one}
+use Rattle.batch.specs.ZeroRows.{AreNew, AreRowsOf, HasMore}
+use Rattle.extents.proofs.Blocks.{sector_within}
+use Rattle.extents.proofs.ExtentLawLemmas.{block_is_within, sector_is_one}
+use Rattle.extents.proofs.OwnerLemmas.{owned_is_within}
 use Rattle.parity.specs.Xor.{zero_sector}
 use Rattle.parity.proofs.Laws.{zero_sector-replicate}
-use Rattle.array_io.specs.Believed.ArrayCalls.{written}
-use Rattle.array_io.specs.Believed.ZeroRows.{row_of_logical, zeros_in}
+use Rattle.array_io.specs.Believed.ArrayCalls.{Answer, Commits, written}
+use Rattle.array_io.specs.Believed.Views.{ArrayView, RestsOn}
+use Rattle.superblock.specs.Cases.{Lost}
+use Rattle.superblock.specs.declared.table.Table.{Table}
+use Rattle.layout_map.specs.declared.format.Format.TheVariants.{Two}
+use Rattle.entry_runs.specs.WrittenOut.{masks_of_runs, rows_of_runs}
+use Rattle.extents.specs.SetExtents.{extents_in}
+use Rattle.volume_table.specs.ListChanges.{Change, ChangesList, IsSameOr}
+use Rattle.volume_table.proofs.ListChanges.{changes_commit, changes_more, rests_long}
+use Rattle.volume_table.proofs.TableSizes.{room_for}
+use Rattle.array_io.specs.Believed.ZeroRows.{MayZero, row_of_logical, zeros_in}
 use Rattle.array_io.specs.Steps.FormingRows.{logical_at}
 use Rattle.array_io.proofs.Commits.FormedEntry.{written_given}
-use Rattle.array_io.proofs.Commits.ZeroRows.{zeros_apart, zeros_are_zero, zeros_have, zeros_in_rows, zeros_of_set}
+use Rattle.array_io.proofs.Commits.ZeroRows.{zeros_apart, zeros_are_zero, zeros_have, zeros_in_rows}
 use Rattle.extents.specs.declared.extent_layout.ExtentLayout.{ExtentLayout}
 use Rattle.extents.specs.declared.owned.Owned.{Owned}
 use Rattle.extents.specs.ExtentMaps.{HasPlace, IsWhere, place_of, sector_of_block}
@@ -25,7 +36,7 @@ use Rattle.extents.specs.Owners.{IsAt}
 use Rattle.volume_table.specs.StoreChanges.{AllPlaced, IsWrittenAt}
 use Rattle.volume_table.specs.Volumes.{Block, zero_block}
 use Rattle.volume_table.specs.VolumeStep.{zero_blocks}
-use Rattle.volume_table.specs.WholeStripes.{AreStripesOf, FillStripe, GathersStripes, IsStripeRow}
+use Rattle.volume_table.specs.WholeStripes.{AreStripesOf, FillStripe, GathersStripes}
 use Rattle.volume_table.proofs.WrittenSectors.{length-written, written_elsewhere}
 
 -- a zero block is a zero sector
@@ -184,7 +195,7 @@ module _ (geometry : Geometry) (extents : ExtentLayout) (owners : List (Option O
       let same : is.stripe ≡ stripe = sym is.of_stripe ∙ in_stripe row least below in
       let fills = subst (λ (s : ℕ). FillStripe geometry extents owners number is.block s) same is.fill in
       let one = sector_is_one extents owners number is.block number end (stripe * blocks_in)
-      (placed is.block is.least (omega (arith, is.most))) (placed end order (omega (arith, has_blocks)))
+      (placed is.block is.least (omega (arith, is.most, has_blocks))) (placed end order (omega (arith, has_blocks)))
       (first_there is.block fills) (first_there end fill) in
       omega (arith, one.1, is.most, has_blocks)
 
@@ -238,3 +249,96 @@ stripes_listed geometry extents owners number at end runs rows masks gathers are
   complete = λ block extent least less here.
       are.all (row_of_logical geometry (sector_of_block extents extent block)) (gathers.complete block extent least less here);
 }
+
+-- ---- the rows of stripes that are gathered are rows of the set
+
+-- the block whose sector is the first of a stripe
+first_is_where : (geometry : Geometry) (extents : ExtentLayout) (owners : List (Option Owned)) (number block stripe : ℕ)
+    → FillStripe geometry extents owners number block stripe
+    → IsWhere extents owners number block (stripe * stripe_blocks geometry.members geometry.chunk)
+first_is_where geometry extents owners number block stripe fills extent here =
+    let plain : block + 0 ≡ block = omega arith in
+    omega (
+      arith,
+      fills 0 extent (omega (arith, stripe_least geometry.members geometry.chunk geometry.limits.members_least (chunk_least geometry.limits)))
+          (subst (λ (b : ℕ). IsAt owners extent number (place_of extents b)) (sym plain) here),
+      ap (λ (b : ℕ). sector_of_block extents extent b) plain,
+    )
+
+-- a stripe that blocks of a volume fill has rows of the set
+pub stripe_fits : (geometry : Geometry) (owners : List (Option Owned)) (number block stripe : ℕ) → length owners ≤ (extents_in geometry).count
+    → HasPlace owners number (place_of (extents_in geometry) block) → FillStripe geometry (extents_in geometry) owners number block stripe
+    → stripe * geometry.chunk + geometry.chunk ≤ rows_of geometry.chunk geometry.stripes
+stripe_fits geometry owners number block stripe sized there fills =
+    let extents = extents_in geometry in
+    let within = block_is_within extents owners number block (stripe * stripe_blocks geometry.members geometry.chunk) there
+    (first_is_where geometry extents owners number block stripe fills) in
+    stripe_in_set geometry stripe (omega (arith, within.1, room_for geometry (length owners) sized))
+
+-- there is room for its rows
+pub rows_fit : (geometry : Geometry) (stripe : ℕ) → stripe * geometry.chunk + geometry.chunk ≤ rows_of geometry.chunk geometry.stripes
+    → stripe * geometry.chunk + geometry.chunk < 4294967296
+rows_fit geometry stripe fits = omega (arith, fits, geometry.limits.rows_fit)
+
+module _ (table : Table) (owners : List (Option Owned)) (number at end : ℕ) (runs built : List Run)
+    (sized : length owners ≤ (extents_in table.geometry).count) (some : at < end) (placed : AllPlaced (extents_in table.geometry) owners number at end)
+    (gathers : GathersStripes table.geometry (extents_in table.geometry) owners number at end runs)
+    (are : AreRowsOf runs (rows_of_runs built) (masks_of_runs built)) where
+  abbrev geometry : Geometry
+  geometry = table.geometry
+
+  abbrev rows : List ℕ
+  rows = rows_of_runs built
+
+  row_in_set : (i : ℕ) → i < length rows → slice_index_or rows i 0 < rows_of geometry.chunk geometry.stripes
+  row_in_set i within =
+      let row = slice_index_or rows i 0 in
+      let is = gathers.sound row (are.each i within) in
+      let blocks = omega_some in
+      let fits = stripe_fits geometry owners number is.block is.stripe sized (placed is.block is.least (omega (arith, is.most, blocks))) is.fill in
+      let back : is.stripe * geometry.chunk + row % geometry.chunk ≡ row =
+      ap (λ (k : ℕ). k * geometry.chunk + row % geometry.chunk) (sym is.of_stripe) ∙ div-add-mod' row geometry.chunk in
+      omega (arith, fits, back, mod_below row geometry.chunk (omega (arith, chunk_least geometry.limits)))
+    where
+      omega_some : 0 < stripe_blocks table.geometry.members table.geometry.chunk
+      omega_some = omega (arith, stripe_least table.geometry.members table.geometry.chunk table.geometry.limits.members_least (chunk_least table.geometry.limits))
+
+  -- they may be made zero
+  pub may_zero : geometry.format ≡ Two → MayZero table built
+  may_zero two =
+      let first = placed at (omega arith) some in
+      let has = gathers.complete at first.0 (omega arith) some first.1 in
+      record {
+        of_format = two;
+        some = are.some (omega (arith, has.within));
+        zeros = are.zeros;
+        of_set = row_in_set;
+      }
+
+  -- and a commit of that makes the blocks zero, and changes nothing else
+  pub stripes_zeroed : (honest : Type 0) (old new : ArrayView) (answer : Answer) → old.table ≡ table
+      → Commits honest (zeros_in geometry rows) old new answer
+      → ChangesList honest 1 (IsSameOr (IsWrittenAt (extents_in geometry) owners number at (zero_blocks (end - at))))
+      (IsWrittenAt (extents_in geometry) owners number at (zero_blocks (end - at))) old new answer
+  stripes_zeroed honest old new answer same commits =
+      changes_more honest 1 1 (IsSameOr (λ V W. W ≡ written V (zeros_in geometry rows))) (λ V W. W ≡ written V (zeros_in geometry rows))
+      (IsSameOr Zeroed) Zeroed old new answer (omega arith) (changes_commit honest (zeros_in geometry rows) old new answer commits)
+      (λ lost V W rests passes. elim passes [
+        | inl is ↦ inl is
+        | inr is ↦ inr (is_zeroed lost V W rests is)
+      ])
+      is_zeroed
+    where
+      Zeroed : Change
+      Zeroed = IsWrittenAt (extents_in table.geometry) owners number at (zero_blocks (end - at))
+
+      is_zeroed : (lost : Option Lost) (V W : List Block) → RestsOn old lost V → W ≡ written V (zeros_in table.geometry (rows_of_runs built)) → Zeroed V W
+      is_zeroed lost V W rests is =
+          let long : length V ≡ data_sectors_of table.geometry.members table.geometry.chunk table.geometry.stripes =
+          rests_long old lost V rests ∙ ap (λ (t : Table). data_sectors_of t.geometry.members t.geometry.chunk t.geometry.stripes) same in
+          subst (Zeroed V) (sym is) (stripes_written table.geometry (extents_in table.geometry) owners number at end (rows_of_runs built)
+          (stripes_listed table.geometry (extents_in table.geometry) owners number at end runs (rows_of_runs built) (masks_of_runs built) gathers are) placed
+          (omega arith) V long (λ block extent least less here.
+          let within = sector_within (extents_in table.geometry) extent block (length owners)
+          (owned_is_within owners extent number (place_of (extents_in table.geometry) block) here) in
+          omega (arith, within, long, room_for table.geometry (length owners) sized)))

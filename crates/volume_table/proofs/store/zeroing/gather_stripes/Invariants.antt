@@ -1,0 +1,16 @@
+-- Whole stripes so far.
+use Rattle.std.proofs.Common.{◌≤◌, ◌-◌}
+use Rattle.batch.specs.ZeroRuns.{zero_runs}
+use Rattle.extents.specs.SetExtents.{extents_in}
+use Rattle.volume_table.specs.WholeStripes.{GathersStripes}
+use Rattle.volume_table.proofs.store.zeroing.gather_stripes.Given as goal
+
+abbrev pub invariant-loop-end : goal.invariant-loop-end
+invariant-loop-end l = record {
+  least : l.at ≤ l.end;
+  most : l.end ≤ l.last;
+  gathers : GathersStripes l.geometry (extents_in l.geometry) l.map l.volume l.at l.end (zero_runs l.rows);
+}
+
+abbrev pub decreases-loop-end : goal.decreases-loop-end
+decreases-loop-end l = l.last - l.end

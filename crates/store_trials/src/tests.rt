@@ -19,6 +19,7 @@ use superblock::oracle::chosen_table_in;
 use volume_table::oracle::{block_shown, blocks_in_volume, table_shown};
 use volume_table::{Listed, Store};
 
+mod batches;
 mod calling;
 mod calls;
 mod crashes;

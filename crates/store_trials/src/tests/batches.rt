@@ -1,15 +1,15 @@
 //! Writes that wait in a batch, and are committed together.
 //!
-//! In each of these sets the extents begin with logical sector 64. In those of format 1 they have 64 blocks, in those of
-//! format 2 one stripe: 16 blocks on 3 members with chunk 8, 32 on 5 members.
+//! In each of these sets the extents begin with logical sector 64. In those of format 1 they have 64 blocks, in those
+//! of format 2 one stripe: 16 blocks on 3 members with chunk 8, 32 on 5 members.
 ghost use Rattle.std.specs.Prelude.{◌≡◌};
 ghost use Rattle.batch.specs.Batches.{waiting};
 ghost use Rattle.extents.specs.SetExtents.{extents_in};
 ghost use Rattle.volume_table.specs.Staging.{HoldSome};
 
 use super::calling::blocks_of;
-use super::{Shape, Step, TestStore, Volumes, check_from, check_shown, fail_devices};
-use crate::testing::{all, same};
+use super::{Shape, Step, TestStore, Volumes, check_from, check_shown, fail_devices, next_run};
+use crate::testing::same;
 use batch::Batch;
 use layout_map::Format;
 use sector_model::{Bank, MemBank, Refusal};
@@ -18,7 +18,9 @@ use volume_table::Store;
 
 mod calls;
 mod contents;
+mod crashes;
 mod ended;
+mod failures;
 mod refusals;
 mod replaced;
 
@@ -73,43 +75,25 @@ impl<B: Bank> Waiting<B> {
         self.store.commit_staged(&mut self.batch)
     }
 
-    /// Writes at once, while others wait.
-    pub(crate) fn write(
+    /// Commits what waits, and then a second batch, of this write, which waited as well: what both answered. After the
+    /// first one no device is called any more.
+    pub(crate) fn commit_both(
         &mut self,
         rt: &(impl Abort + AllocGlobal),
         (name, at, bytes): Write,
-    ) -> Result<(), Refusal> {
+    ) -> [Result<(), Refusal>; 2] {
+        let geometry = self.store.array.table.geometry;
+        let mut second = Batch::new(&geometry, rt.alloc()).expect(rt, "memory");
         let blocks = blocks_of(rt, bytes);
-        self.store.write(name, at, &blocks)
-    }
-
-    // Reads a block: the byte of which it is full. None where it is of more than one.
-    fn read_byte(&mut self, rt: &impl Abort, name: &[u8], at: u32) -> Option<u8> {
-        let mut block = [all(0x5c)];
-        same(rt, self.store.read(name, at, &mut block), Ok(()));
-        let byte = block[0][0];
-        if block[0] == all(byte) {
-            Some(byte)
-        } else {
-            None
-        }
-    }
-
-    /// Asks that the blocks of a volume from the first on are read as full of these bytes, each of one.
-    pub(crate) fn check_blocks(&mut self, rt: &impl Abort, name: &[u8], bytes: &[u8]) {
-        let mut at = 0u32;
-        for byte in bytes {
-            let got = self.read_byte(rt, name, at);
-            same(rt, (at, got), (at, Some(*byte)));
-            at = at.wrapping_add(1);
-        }
-    }
-
-    /// Asks the same of the blocks of volumes.
-    pub(crate) fn check_read(&mut self, rt: &impl Abort, volumes: Volumes) {
-        for (name, bytes) in volumes {
-            self.check_blocks(rt, name, bytes);
-        }
+        let staged = self.store.stage(&mut second, name, at, &blocks);
+        same(rt, staged, Ok(true));
+        let first = self.store.commit_staged(&mut self.batch);
+        let before = self.store.bank().now();
+        same(rt, second.len(), bytes.len());
+        let answers = [first, self.store.commit_staged(&mut second)];
+        same(rt, (second.len(), second.is_empty()), (0, true));
+        same(rt, self.store.bank().now(), before);
+        answers
     }
 
     /// The logical sectors that wait, in the order in which they came, each with its first byte.
@@ -132,28 +116,30 @@ impl<B: Bank> Waiting<B> {
 pub(crate) type TestWaiting = Waiting<MemBank>;
 
 impl Waiting<MemBank> {
-    /// Takes these steps on the store, where nothing waits. What fails names its step by its number, of which the first
-    /// is given.
-    pub(crate) fn check_from(
+    /// Takes these steps on the store, after which nothing waits. What fails names its step by its number, of which the
+    /// first is given.
+    pub(crate) fn check_and_clear(
         &mut self,
         rt: &(impl Abort + AllocGlobal),
         first: usize,
         steps: &[Step],
     ) {
-        assert!(rt; self.batch.is_empty());
         check_from(rt, &mut self.store, first, steps);
+        self.batch.clear();
         assert!(rt; *self.batch.geometry() == self.store.array.table.geometry);
     }
 
     /// Takes these steps on the store, where nothing waits.
     pub(crate) fn check(&mut self, rt: &(impl Abort + AllocGlobal), steps: &[Step]) {
-        self.check_from(rt, 0, steps);
+        assert!(rt; self.batch.is_empty());
+        self.check_and_clear(rt, 0, steps);
     }
 
-    /// Asks that the volumes are these while writes wait, by the definitions and as they are read.
-    pub(crate) fn check_shown(&mut self, rt: &(impl Abort + AllocGlobal), volumes: Volumes) {
+    /// Asks that the volumes are these while writes wait: by the definitions, and in a run that begins now.
+    pub(crate) fn check_shown(&self, rt: &(impl Abort + AllocGlobal), volumes: Volumes) {
         check_shown(rt, self.store.bank(), 0, volumes);
-        self.check_read(rt, volumes);
+        let mut later = next_run(rt, self.store.bank());
+        check_from(rt, &mut later, 0, &[Step::Holds(volumes)]);
     }
 
     /// From now on these slots go down at their first call after so many, and no other.

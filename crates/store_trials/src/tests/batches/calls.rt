@@ -115,9 +115,9 @@ fn check_commit(
 }
 
 // Sixteen writes of 8 blocks, 256 blocks apart, each of a chunk: write i begins with logical sector 64 + 256 i, in
-// chunk 8 + 32 i, which is of stripe 2 + 8 i and lies on member (3 + 2 i) mod 5, with the parity on member
-// 4 - (2 + 3 i) mod 5. So 4 of the chunks are on member 3 and 3 on each other one, and 4 of the parity on member 2 and 3
-// on each other one. The entry has 16 × 8 rows, each of two sectors, whose old values are read.
+// chunk 8 + 32 i, which is of stripe 2 + 8 i and lies on member (3 + 2 i) mod 5, with the parity on the member that is
+// (2 + 3 i) mod 5 before member 4. So 4 of the chunks are on member 3 and 3 on each other one, and 4 of the parity on
+// member 2 and 3 on each other one. The entry has 16 × 8 rows, each of two sectors, whose old values are read.
 #[test]
 fn calls_of_writes_far_apart(rt: HostRuntime) {
     let mut waiting = counted(&rt, OF_FIVE, 4_096);
@@ -132,8 +132,8 @@ fn calls_of_writes_far_apart(rt: HostRuntime) {
     check_commit(&rt, &mut waiting, &wanted);
 }
 
-// A batch of 2,048 blocks from the start of a stripe on fills 64 stripes of 8 rows: nothing is read, and each of the 512
-// rows has its five sectors held.
+// A batch of 2,048 blocks from the start of a stripe on fills 64 stripes of 8 rows: nothing is read, and each of the
+// 512 rows has its five sectors held.
 #[test]
 fn calls_of_a_full_batch(rt: HostRuntime) {
     let mut waiting = counted(&rt, OF_FIVE, 2_048);

@@ -16,12 +16,14 @@ struct Case<'a> {
     new: Volumes<'a>,
 }
 
-// Checks a case on a set of this shape: the volumes are as before until the commit, and then as after it, also in the
-// next run.
+// Checks a case on a set of this shape: the volumes are as before while the writes wait, and as after them once they
+// are committed, also in the next run. The writes wait again after the store was read.
 fn check_case(rt: &(impl Abort + AllocGlobal), shape: Shape, case: &Case) {
     let store = opened_after(rt, shape, case.before);
     let mut waiting = staged(rt, store, case.writes);
     waiting.check_shown(rt, case.old);
+    waiting.check_and_clear(rt, 0, &[Holds(case.old)]);
+    waiting.stage_all(rt, case.writes);
     assert!(rt; waiting.commit().is_ok());
     waiting.check(rt, &[Holds(case.new), Shows(case.new)]);
     check(

@@ -64,25 +64,21 @@ fn nothing_waits_after_a_commit(rt: HostRuntime) {
     }
 }
 
-// A store whose batch waits as another call ends it, and the refusal that ended it. Every later commit is answered so,
-// and no write waits any more.
+// Commits what waits, which ends the store, and then another batch, which waited as well. It is answered the same, as
+// every later call is, and nothing waits any more.
 fn check_ended_before(
     rt: &(impl Abort + AllocGlobal),
     waiting: &mut TestWaiting,
     refusal: Refusal,
 ) {
-    same(rt, waiting.write(rt, (b"a", 0, &[0x77])), Err(refusal));
-    same(rt, waiting.batch.len(), 2);
-    let before = waiting.store.bank().now();
-    same(rt, waiting.stage(rt, (b"b", 0, &[0x99])), Err(refusal));
-    same(rt, waiting.batch.len(), 2);
-    same(rt, waiting.commit(), Err(refusal));
-    same(rt, waiting.store.bank().now(), before);
+    let answers = waiting.commit_both(rt, (b"b", 0, &[0x99]));
+    same(rt, answers, [Err(refusal), Err(refusal)]);
     check_nothing(rt, waiting, Err(refusal));
     same(rt, waiting.stage(rt, (b"b", 0, &[0x99])), Err(refusal));
     same(rt, waiting.stage(rt, (b"c", 0, &[])), Err(refusal));
     check_nothing(rt, waiting, Err(refusal));
     waiting.check(rt, &[Ended(refusal)]);
+    check_later(rt, waiting);
 }
 
 // Asks that the set, assembled again with what had landed, has the volumes as they were.
@@ -98,7 +94,6 @@ fn a_batch_of_a_store_that_two_losses_ended(rt: HostRuntime) {
         let mut waiting = staged(&rt, opened_after(&rt, shape, BEFORE), WRITES);
         waiting.fail(&rt, &[1, 3], 0);
         check_ended_before(&rt, &mut waiting, Refusal::TwoLost);
-        check_later(&rt, &waiting);
     }
 }
 
@@ -108,7 +103,6 @@ fn a_batch_of_a_store_that_is_worn(rt: HostRuntime) {
     store.array.entry = 1 << 62;
     let mut waiting = staged(&rt, store, WRITES);
     check_ended_before(&rt, &mut waiting, Refusal::Worn);
-    check_later(&rt, &waiting);
 }
 
 // Asks that the commit of what waits ends the store.

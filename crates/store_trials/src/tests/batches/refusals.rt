@@ -2,7 +2,7 @@
 use super::super::Answer::Done;
 use super::super::Call::{self, Create};
 use super::super::Step::{Do, Holds};
-use super::super::{SMALL, Shape, Step, next_run, opened_after};
+use super::super::{SMALL, Shape, Step, check, next_run, opened_after};
 use super::{LARGE_SMALL, OF_FIVE, TestWaiting, Waiting, Write};
 use crate::testing::same;
 use layout_map::Format;
@@ -92,8 +92,8 @@ fn check_committed(rt: &(impl Abort + AllocGlobal), waiting: &mut TestWaiting, b
     assert!(rt; waiting.commit().is_ok());
     let volumes = [(b"a".as_slice(), bytes)];
     waiting.check(rt, &[Holds(&volumes)]);
-    let mut later = Waiting::new(rt, next_run(rt, waiting.store.bank()));
-    later.check_blocks(rt, b"a", bytes);
+    let mut later = next_run(rt, waiting.store.bank());
+    check(rt, &mut later, &[Holds(&volumes)]);
 }
 
 // So many zeros.
@@ -168,8 +168,8 @@ const SIXTY: Shape = (Format::Two, 3, 8, 64);
 
 // The first blocks of 58 extents wait, each in the first row of its stripe: 58 runs of one row. That of another extent
 // would be a 59th run. The block after one that waits is in the row after that, on the same member, and so of its run;
-// that eight blocks on is in the same row, which then has another mask. Nine blocks from that of the last run on are two
-// runs: a row with two of them, and seven rows with one.
+// that eight blocks on is in the same row, which then has another mask. Nine blocks from that of the last run on are
+// two runs: a row with two of them, and seven rows with one.
 #[test]
 fn no_room_for_59_runs(rt: HostRuntime) {
     let mut waiting = with_volume(&rt, SIXTY, 960);

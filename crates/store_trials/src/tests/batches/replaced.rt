@@ -5,9 +5,9 @@
 //! rows 32 to 79, and has four sectors in rows 80 to 83.
 use super::super::Answer::{Done, Scrubbed};
 use super::super::Call::{Create, Fail, Replace, Scrub};
-use super::super::Step::{self, Do, Slot};
+use super::super::Step::{self, Do, Holds, Slot};
 use super::super::{TestStore, assembled, check, image_now, opened, opened_after};
-use super::{LARGE, TestWaiting, Waiting, Write, staged};
+use super::{LARGE, TestWaiting, Write, staged};
 use crate::testing::same;
 use scrub::ScrubReport;
 use sector_model::{Image, Sector};
@@ -84,9 +84,12 @@ fn without_rows(rt: &(impl Abort + AllocGlobal), store: &TestStore, other: usize
 // Asks that the blocks of the volume are full of these bytes in a run on these devices, in which this journal is
 // missing.
 fn check_run(rt: &(impl Abort + AllocGlobal), image: Image, missing: usize, bytes: &[u8]) {
-    let mut waiting = Waiting::new(rt, opened(rt, assembled(rt, image)));
-    waiting.check(rt, &[Slot(missing, State::Missing, 1)]);
-    waiting.check_blocks(rt, b"a", bytes);
+    let volumes = [(b"a".as_slice(), bytes)];
+    check(
+        rt,
+        &mut opened(rt, assembled(rt, image)),
+        &[Slot(missing, State::Missing, 1), Holds(&volumes)],
+    );
 }
 
 // Asks that the copy on this journal serves without the other one. Without its seals there is no entry, and the members

@@ -1,5 +1,6 @@
 //! Stores over sets in memory, for tests: sets that are made, crashed and assembled again, and the steps that tests
 //! take on their stores.
+ghost use Rattle.std.specs.Prelude.{◌≡◌};
 
 use crate::testing::{all, front, same};
 use array_io::Array;
@@ -19,6 +20,7 @@ use superblock::oracle::chosen_table_in;
 use volume_table::oracle::{block_shown, blocks_in_volume, table_shown};
 use volume_table::{Listed, Store};
 
+mod batches;
 mod calling;
 mod calls;
 mod crashes;
@@ -318,7 +320,10 @@ pub(crate) fn opened_after(
 }
 
 /// From now on these slots go down at their first call after so many, and no other.
-pub(crate) fn fail_devices(rt: &impl Abort, store: &mut TestStore, slots: &[u8], after: u64) {
+pub(crate) fn fail_devices(rt: &impl Abort, store: &mut TestStore, slots: &[u8], after: u64)
+    ensures volumes { store.new.table ≡ store.old.table }
+    ensures set { store.new.array.table ≡ store.old.array.table }
+{
     let call = store.array.bank.now().saturating_add(after);
     let mut plan = Plan::NONE;
     for slot in slots {

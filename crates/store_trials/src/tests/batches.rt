@@ -1,0 +1,160 @@
+//! Writes that wait in a batch, and are committed together.
+//!
+//! In each of these sets the extents begin with logical sector 64. In those of format 1 they have 64 blocks, in those
+//! of format 2 one stripe: 16 blocks on 3 members with chunk 8, 32 on 5 members.
+ghost use Rattle.std.specs.Prelude.{◌≡◌};
+ghost use Rattle.batch.specs.Batches.{waiting};
+ghost use Rattle.extents.specs.SetExtents.{extents_in};
+ghost use Rattle.volume_table.specs.Staging.{HoldSome};
+
+use super::calling::blocks_of;
+use super::{Shape, Step, TestStore, Volumes, check_from, check_shown, fail_devices, next_run};
+use crate::testing::same;
+use batch::Batch;
+use layout_map::Format;
+use sector_model::{Bank, MemBank, Refusal};
+use std::process::Abort;
+use volume_table::Store;
+
+mod calls;
+mod contents;
+mod crashes;
+mod ended;
+mod failures;
+mod refusals;
+mod replaced;
+
+/// A write: the name of the volume, its first block, and for each block the byte of which that is full.
+pub(crate) type Write<'a> = (&'a [u8], u32, &'a [u8]);
+
+/// 256 rows, 512 data sectors and 28 extents of 16 blocks.
+pub(crate) const LARGE: Shape = (Format::Two, 3, 8, 32);
+
+/// 96 rows, 192 data sectors and 8 extents of 16 blocks.
+pub(crate) const LARGE_SMALL: Shape = (Format::Two, 3, 8, 12);
+
+/// 1,056 rows, 4,224 data sectors and 130 extents of 32 blocks.
+pub(crate) const OF_FIVE: Shape = (Format::Two, 5, 8, 132);
+
+/// A store, and a batch of its set with the writes that wait for a commit.
+#[derive(Drop)]
+pub(crate) struct Waiting<B: Bank> {
+    pub store: Store<B>,
+    pub batch: Batch,
+    ghost same: { batch.geometry ≡ store.array.table.geometry },
+    ghost held: { HoldSome (extents_in store.array.table.geometry) store.table (waiting batch) },
+}
+
+impl<B: Bank> Waiting<B> {
+    /// This store, with nothing that waits.
+    pub(crate) fn new(rt: &(impl Abort + AllocGlobal), store: Store<B>) -> Waiting<B> {
+        let batch = Batch::new(&store.array.table.geometry, rt.alloc()).expect(rt, "memory");
+        Waiting { store, batch }
+    }
+
+    /// Has a write wait.
+    pub(crate) fn stage(
+        &mut self,
+        rt: &(impl Abort + AllocGlobal),
+        (name, at, bytes): Write,
+    ) -> Result<bool, Refusal> {
+        let blocks = blocks_of(rt, bytes);
+        self.store.stage(&mut self.batch, name, at, &blocks)
+    }
+
+    /// Has each of these writes wait, which fit.
+    pub(crate) fn stage_all(&mut self, rt: &(impl Abort + AllocGlobal), writes: &[Write]) {
+        for number in 0..writes.len() {
+            let staged = self.stage(rt, writes[number]);
+            same(rt, (number, staged), (number, Ok(true)));
+        }
+    }
+
+    /// Commits what waits.
+    pub(crate) fn commit(&mut self) -> Result<(), Refusal> {
+        self.store.commit_staged(&mut self.batch)
+    }
+
+    /// Commits what waits, and then a second batch, of this write, which waited as well: what both answered. After the
+    /// first one no device is called any more.
+    pub(crate) fn commit_both(
+        &mut self,
+        rt: &(impl Abort + AllocGlobal),
+        (name, at, bytes): Write,
+    ) -> [Result<(), Refusal>; 2] {
+        let geometry = self.store.array.table.geometry;
+        let mut second = Batch::new(&geometry, rt.alloc()).expect(rt, "memory");
+        let blocks = blocks_of(rt, bytes);
+        let staged = self.store.stage(&mut second, name, at, &blocks);
+        same(rt, staged, Ok(true));
+        let first = self.store.commit_staged(&mut self.batch);
+        let before = self.store.bank().now();
+        same(rt, second.len(), bytes.len());
+        let answers = [first, self.store.commit_staged(&mut second)];
+        same(rt, (second.len(), second.is_empty()), (0, true));
+        same(rt, self.store.bank().now(), before);
+        answers
+    }
+
+    /// The logical sectors that wait, in the order in which they came, each with its first byte.
+    pub(crate) fn listed(&self, rt: &(impl Abort + AllocGlobal)) -> Vec<(u64, u8)> {
+        let mut found = Vec::new(rt.alloc());
+        for sector in self.batch.sectors() {
+            found.push((sector.0, sector.1[0])).expect(rt, "memory");
+        }
+        found
+    }
+
+    /// The store, where nothing waits.
+    pub(crate) fn into_store(self, rt: &impl Abort) -> Store<B> {
+        same(rt, self.batch.len(), 0);
+        self.store
+    }
+}
+
+/// A store over a set in memory, and a batch of that set.
+pub(crate) type TestWaiting = Waiting<MemBank>;
+
+impl Waiting<MemBank> {
+    /// Takes these steps on the store, after which nothing waits. What fails names its step by its number, of which the
+    /// first is given.
+    pub(crate) fn check_and_clear(
+        &mut self,
+        rt: &(impl Abort + AllocGlobal),
+        first: usize,
+        steps: &[Step],
+    ) {
+        check_from(rt, &mut self.store, first, steps);
+        self.batch.clear();
+        assert!(rt; *self.batch.geometry() == self.store.array.table.geometry);
+    }
+
+    /// Takes these steps on the store, where nothing waits.
+    pub(crate) fn check(&mut self, rt: &(impl Abort + AllocGlobal), steps: &[Step]) {
+        assert!(rt; self.batch.is_empty());
+        self.check_and_clear(rt, 0, steps);
+    }
+
+    /// Asks that the volumes are these while writes wait: by the definitions, and in a run that begins now.
+    pub(crate) fn check_shown(&self, rt: &(impl Abort + AllocGlobal), volumes: Volumes) {
+        check_shown(rt, self.store.bank(), 0, volumes);
+        let mut later = next_run(rt, self.store.bank());
+        check_from(rt, &mut later, 0, &[Step::Holds(volumes)]);
+    }
+
+    /// From now on these slots go down at their first call after so many, and no other.
+    pub(crate) fn fail(&mut self, rt: &impl Abort, slots: &[u8], after: u64) {
+        fail_devices(rt, &mut self.store, slots, after);
+    }
+}
+
+/// This store, with these writes waiting, which fit.
+pub(crate) fn staged(
+    rt: &(impl Abort + AllocGlobal),
+    store: TestStore,
+    writes: &[Write],
+) -> TestWaiting {
+    let mut waiting = Waiting::new(rt, store);
+    waiting.stage_all(rt, writes);
+    waiting
+}

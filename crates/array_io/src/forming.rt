@@ -274,7 +274,8 @@ pub(crate) fn form_rows<B: Bank>(
 ) -> Result<(), Refusal>
     requires its_slots { HasItsSlots table.old (B.panel bank.old) }
     requires may { MayForm table.old writes.now.sectors.now }
-    requires planned { IsPlanned table.old.geometry writes.now.sectors.now writes.now.places.now (runs_in writes.now.rows.now) }
+    requires planned { IsPlanned table.old.geometry writes.now.sectors.now writes.now.places.now
+        (runs_in writes.now.rows.now) }
     ensures honest { B.honest bank.old ↔ B.honest bank.new }
     ensures its_slots { HasItsSlots table.new (B.panel bank.new) }
     ensures steps { KeepsOn (B.honest bank.old) table.old table.new (B.panel bank.old) (B.panel bank.new)

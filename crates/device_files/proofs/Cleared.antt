@@ -26,7 +26,8 @@ front_more {a = a} {b = b} {c = c} done n from bound before part =
     written_more {a = a} {b = b} {c = c} 0 done n (done + n) from (take (length from - done) (drop done from)) refl bound each before
     (subst (λ (p : ℕ). IsWritten p n (take (length from - done) (drop done from)) b c) at part)
   where
-    each : (k : ℕ) → k < length (take (length from - done) (drop done from)) → get_or (take (length from - done) (drop done from)) k 0 ≡ get_or from (done + k) 0
+    each : (k : ℕ) → k < length (take (length from - done) (drop done from)) → get_or (take (length from - done) (drop done from)) k 0 ≡ get_or from (done + k)
+        0
     each k under =
         let below : k < length from - done = omega (arith, under, length-take (length from - done) (drop done from)) in
         get_or-take (length from - done) (drop done from) k 0 below ∙ get_or-drop done from k 0
@@ -34,7 +35,8 @@ front_more {a = a} {b = b} {c = c} done n from bound before part =
 -- what was written at the beginning stands before what stood after it
 pub front_written : (from old new safe_old safe_new : List ℕ) → length from ≤ length old
     → IsWritten 0 (length from) from (contents_of old safe_old) (contents_of new safe_new) → new ≡ from ++ drop (length from) old
-front_written from old new safe_old safe_new within is = ext_get_or 0 new (from ++ drop (length from) old) same (λ i under. ⊎_elim (put i) (rest i) (cases_lt i (length from)))
+front_written from old new safe_old safe_new within is = ext_get_or 0 new (from ++ drop (length from) old) same
+    (λ i under. ⊎_elim (put i) (rest i) (cases_lt i (length from)))
   where
     same : length new ≡ length (from ++ drop (length from) old)
     same = is.size ∙ omega (arith, within, length-append from (drop (length from) old), length-drop (length from) old)

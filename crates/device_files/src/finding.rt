@@ -1,5 +1,6 @@
 //! Of which set a superblock stands in device files.
-ghost use Rattle.std.specs.Prelude.{◌≡◌, ◌+◌, ◌*◌, ◌≤◌, ◌<◌, ◌⊎◌, ◌^◌, IfOk, IfSome, IsNone, IsTrue, OnErr, drop, length};
+ghost use Rattle.std.specs.Prelude.{◌≡◌, ◌+◌, ◌*◌, ◌≤◌, ◌<◌, ◌⊎◌, ◌^◌, IfOk, IfSome, IsNone, IsTrue, OnErr, drop};
+ghost use Rattle.std.specs.Prelude.{length};
 ghost use Rattle.std.specs.Prelude.{Ok, slice_index_or, take, ℕ};
 ghost use Rattle.device_files.specs.BankFiles.{contents_by};
 ghost use Rattle.device_files.specs.Superblocks.{FindsSet, HasSector, IsSetAt, IsSetIn, IsSetInSlot};

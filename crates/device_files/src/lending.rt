@@ -1,6 +1,7 @@
 //! A bank over device files that stay with whoever opened them, who so holds their locks to the end; and one that only
 //! reads them.
-ghost use Rattle.std.specs.Prelude.{◌≡◌, ◌≤◌, ◌<◌, ◌+◌, ◌^◌, IfErr, IfOk, IsTrue, List, Ok, OnErr, OnOk, length, map, ℕ};
+ghost use Rattle.std.specs.Prelude.{◌≡◌, ◌≤◌, ◌<◌, ◌+◌, ◌^◌, IfErr, IfOk, IsTrue, List, Ok, OnErr, OnOk, length, map};
+ghost use Rattle.std.specs.Prelude.{ℕ};
 ghost use Rattle.std.specs.IoError.{error_kind};
 ghost use Rattle.std.specs.Option.{option_map};
 ghost use Rattle.sector_model.specs.DeviceFiles.{AreAt, IsSynced, IsWritten};

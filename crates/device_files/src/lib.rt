@@ -79,8 +79,8 @@ pub enum Shortage {
 /// Why a command over the device files of a folder was not done. A slot is below 10.
 #[derive(Clone, Copy, Drop)]
 pub enum FolderFault {
-    /// The file of this slot could not be created, lengthened, cleared or synced, also where its sync failed when it was
-    /// opened, or its length could not be told.
+    /// The file of this slot could not be created, lengthened, cleared or synced, also where its sync failed when it
+    /// was opened, or its length could not be told.
     NoFile(u8),
     /// Another program, or another slot, has the lock of this slot's file, or its path leads elsewhere since it was
     /// opened.

@@ -85,7 +85,8 @@ one_list [] [] rise rise' rows masks = refl
 one_list [] (b ∷ those) rise rise' rows masks = absurd (omega (arith, ap length rows, length-rows b those, rise'.long 0 (omega arith)))
 one_list (a ∷ these) [] rise rise' rows masks = absurd (omega (arith, ap length rows, length-rows a these, rise.long 0 (omega arith)))
 one_list (a ∷ these) (b ∷ those) rise rise' rows masks =
-    let row = sym (row_first a these 0 (rise.long 0 (omega arith))) ∙ ap (λ (xs : List ℕ). get_or xs 0 0) rows ∙ row_first b those 0 (rise'.long 0 (omega arith)) in
+    let row = sym (row_first a these 0 (rise.long 0 (omega arith))) ∙ ap (λ (xs : List ℕ). get_or xs 0 0) rows ∙ row_first b those 0
+    (rise'.long 0 (omega arith)) in
     let mask = sym (mask_first a these 0 (rise.long 0 (omega arith))) ∙ ap (λ (xs : List ℕ). get_or xs 0 0) masks
     ∙ mask_first b those 0 (rise'.long 0 (omega arith)) in
     let first : a.first ≡ b.first = omega (arith, row) in

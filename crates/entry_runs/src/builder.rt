@@ -73,8 +73,8 @@ impl RunsBuilder {
     }
 
     /// Adds whole rows of zeros, 1 at least, from a row on that is after all that it has (conditions). False, with
-    /// nothing added, where no runs of an entry have these rows: they would be more than 58 runs, a run of zeros of more
-    /// than 65,535 rows, or have a row from 2^32 on.
+    /// nothing added, where no runs of an entry have these rows: they would be more than 58 runs, a run of zeros of
+    /// more than 65,535 rows, or have a row from 2^32 on.
     pub fn push_zeros(&mut self, first: u32, count: u16) -> bool
         requires after { end_of_runs (runs_in self.old) ≤ first }
         requires some { 1 ≤ count }

@@ -35,9 +35,9 @@ fn encode_run(run: &Run) -> [u8; RUN_BYTES]
 }
 
 /// The runs that these bytes spell, of which there are so many, or `None` where they spell none: where the count is not
-/// 1 to 58, bytes after the last run are not 0, a run has no row or one from 2^32 on, its mask has one bit, a run is not
-/// above the one before or touches it and has its mask, more than 2,048 rows have a mask, or they hold more than 4,096
-/// sectors.
+/// 1 to 58, bytes after the last run are not 0, a run has no row or one from 2^32 on, its mask has one bit, a run is
+/// not above the one before or touches it and has its mask, more than 2,048 rows have a mask, or they hold more than
+/// 4,096 sectors.
 pub fn decode_runs(from: &[u8; RUNS_BYTES], count: u32) -> Option<Runs>
     ensures some { IfSome result (λ runs. (from.now ≡ runs_bytes runs.list.items) × (count ≡ length runs.list.items)) }
     ensures exact { (runs : Runs) → from.now ≡ runs_bytes runs.list.items → count ≡ length runs.list.items

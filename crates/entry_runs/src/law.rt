@@ -25,8 +25,8 @@ pub fn runs_law()
 /// The law of bodies, for all runs of an entry. It computes nothing: its promises are what it is for.
 ///
 /// What a body has is held. A sector's place in it is below the count of what the runs hold, and lower than that of
-/// each sector with a higher row, or a higher member in the same row. No two sectors have one place, and each place is a
-/// sector's. It is what the runs before the row's hold, and what comes before it in its run; over the masks that are
+/// each sector with a higher row, or a higher member in the same row. No two sectors have one place, and each place is
+/// a sector's. It is what the runs before the row's hold, and what comes before it in its run; over the masks that are
 /// written out it is the bits of those before its row's, and those of the members below.
 pub fn body_law()
     ensures held { BodiesAreHeld }

@@ -52,7 +52,15 @@ entries_part version owners dirty at n =
     let part = take n (drop at owners) in
     let flags = take n (drop at dirty) in
     let long : length part ≡ length (take n (drop at all)) =
-    omega (arith, length-take n (drop at owners), length-drop at owners, length-take n (drop at all), length-drop at all, length-entries_of version owners dirty) in
+    omega (
+      arith,
+      length-take n (drop at owners),
+      length-drop at owners,
+      length-take n (drop at all),
+      length-drop at all,
+      length-entries_of version owners
+          dirty,
+    ) in
     ext_get_or no_entry (entries_of version part flags) (take n (drop at all)) (length-entries_of version part flags ∙ long) (λ k within.
     let within_part : k < length part = omega (arith, within, length-entries_of version part flags) in
     let small : k < n = omega (arith, within_part, length-take n (drop at owners)) in
@@ -93,7 +101,8 @@ module _ (version : ℕ) (sectors : List (List ℕ)) (owners : List (Option Owne
 
   pub mark_is : (number : ℕ) → number < MOST_EXTENTS → is_marked (extent_cell version sectors number) ≡ (tells_dirty version && is_dirty dirty number)
   mark_is number below =
-      marked_is (extent_cell version sectors number) (owner_of owners number) (tells_dirty version && is_dirty dirty number) (room number) (bytes_are number below)
+      marked_is (extent_cell version sectors number) (owner_of owners number) (tells_dirty version && is_dirty dirty number) (room number)
+      (bytes_are number below)
 
   -- owners that are spelled are said
   pub spelled_said : SayOwners version sectors owners

@@ -16,7 +16,8 @@ use Rattle.extents.specs.Cells.{SpellRecords, SpellExtents, OwnersHaveRoom, AreR
 use Rattle.layout_map.specs.declared.format.Format.{Format}
 use Rattle.extents.proofs.Entries.{dirty_is, length-entries_of, spelled_said}
 use Rattle.extents.specs.ExtentMaps.{is_of}
-use Rattle.extents.specs.TableSpelling.{Entry, entry_bytes, entries_in, no_entry, record_bytes, record_sector, extent_sector, first_sector, sector_of, spelling, Spell}
+use Rattle.extents.specs.TableSpelling.{Entry, entry_bytes, entries_in, no_entry, record_bytes, record_sector, extent_sector, first_sector, sector_of, spelling}
+use Rattle.extents.specs.TableSpelling.{Spell}
 use Rattle.extents.specs.Versions.{IsVersion, IsVersionIn, is_version_of, most_volumes, record_width, records_a_sector, record_sectors, table_length}
 use Rattle.extents.specs.VolumeTables.{record_of, IsShort, AreOfVersion, IsVolumeTable}
 use Rattle.extents.proofs.Cells.{cells_of_sectors, sectors_of_cells, cut}
@@ -229,7 +230,8 @@ table_first sectors table is =
 
 -- what was read of the first sector is the version
 pub version_of_table : (format : Format) (sectors : List (List ℕ)) (table : VolumeTable) (read : Option ℕ)
-    → ((version : ℕ) → IsVersionIn format version → get_or sectors 0 [] ≡ first_sector version → read ≡ Some version) → is_version_of format table.version ≡ true
+    → ((version : ℕ) → IsVersionIn format version → get_or sectors 0 [] ≡ first_sector version → read ≡ Some version)
+    → is_version_of format table.version ≡ true
     → Spell sectors table → read ≡ Some table.version
 version_of_table format sectors table read exact of_format is =
     exact table.version (table_version table.records table.extents table.is_table, of_format) (table_first sectors table is)

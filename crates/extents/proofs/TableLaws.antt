@@ -1,5 +1,6 @@
 -- What holds of the spelling of every table of volumes.
-use Rattle.std.proofs.Common.{◌≡◌, ℕ, zero, suc, ◌+◌, ◌-◌, ◌*◌, ◌/◌, ◌%◌, ◌<◌, ◌≤◌, ◌&&◌, Bool, true, false, List, [], ◌∷◌, Option, Some, None, length, take, take_all, drop, get_or}
+use Rattle.std.proofs.Common.{◌≡◌, ℕ, zero, suc, ◌+◌, ◌-◌, ◌*◌, ◌/◌, ◌%◌, ◌<◌, ◌≤◌, ◌&&◌, Bool, true, false, List, [], ◌∷◌, Option, Some, None, length, take}
+use Rattle.std.proofs.Common.{take_all, drop, get_or}
 use Rattle.std.proofs.Common.{replicate, refl, sym, ap, ◌∙◌, subst, ⊎_elim, arith}
 use Rattle.std.proofs.lemmas.Bool.{cases_lt}
 use Rattle.std.proofs.lemmas.List.{length-replicate, take-replicate, get_or-replicate, get_or_past, ext_get_or}
@@ -16,7 +17,8 @@ use Rattle.extents.specs.Owners.{owner_of, HasPlaces}
 use Rattle.extents.specs.TableLaw.{IsEmpty, IsOfFormat}
 use Rattle.extents.specs.TableSpelling.{Entry, entries_in, entry_bytes, no_entry, zeros, record_bytes, record_sector, extent_sector, first_sector, sector_of}
 use Rattle.extents.specs.TableSpelling.{spelling, table_sectors, Spell}
-use Rattle.extents.specs.Versions.{IsVersion, IsVersionIn, fresh_version, tells_dirty, version_byte, most_volumes, record_width, records_a_sector, record_sectors, table_length}
+use Rattle.extents.specs.Versions.{IsVersion, IsVersionIn, fresh_version, tells_dirty, version_byte, most_volumes, record_width, records_a_sector}
+use Rattle.extents.specs.Versions.{record_sectors, table_length}
 use Rattle.extents.specs.VolumeTables.{record_of, AreFlags, IsShort, IsVolumeTable}
 use Rattle.extents.proofs.Bytes.{length-zeros, drop-zeros}
 use Rattle.extents.proofs.Cells.{length-cells_of}
@@ -47,7 +49,8 @@ length-record_sector version records s long short below =
 length-extent_sector : (entries : List Entry) (s : ℕ) → length entries ≡ MOST_EXTENTS → s < 8 → length (extent_sector entries s) ≡ 512
 unfolding extent_sector
 length-extent_sector entries s long below =
-    length-cells_of entry_bytes 4 no_entry 128 1 8 (omega arith) [] entries (omega (arith, long)) (λ i within. length-entry_bytes (get_or entries i no_entry)) s below
+    length-cells_of entry_bytes 4 no_entry 128 1 8 (omega arith) [] entries (omega (arith, long)) (λ i within. length-entry_bytes (get_or entries i no_entry))
+    s below
 
 pub length-sector_of : (version : ℕ) (records : List (Option Record)) (entries : List Entry) (k : ℕ) → length records ≡ MOST_VOLUMES
     → length entries ≡ MOST_EXTENTS

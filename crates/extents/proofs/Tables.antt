@@ -1,5 +1,6 @@
 -- What the checks find out is what makes a table.
-use Rattle.std.proofs.Common.{◌≡◌, ℕ, ◌<◌, ◌≤◌, Bool, true, false, cond, not, List, Option, Some, None, length, get_or, refl, sym, ◌∙◌, ap, ◌⊎◌, inl, inr, ⊎_elim}
+use Rattle.std.proofs.Common.{◌≡◌, ℕ, ◌<◌, ◌≤◌, Bool, true, false, cond, not, List, Option, Some, None, length, get_or, refl, sym, ◌∙◌, ap, ◌⊎◌, inl, inr}
+use Rattle.std.proofs.Common.{⊎_elim}
 use Rattle.std.proofs.Common.{eqb, subst, arith}
 use Rattle.std.specs.Option.{MatchOption, option_eq, is_some}
 use Rattle.std.specs.Str.{bytes_eq}

@@ -56,7 +56,8 @@ SayOwners version sectors owners = (number : ℕ) → number < MOST_EXTENTS
 -- and of which are dirty
 pub record SayDirty (version : ℕ) (sectors : List (List ℕ)) (dirty : List Bool) : Type 0 where
   pub long : length dirty ≡ MOST_EXTENTS
-  pub each : (number : ℕ) → number < MOST_EXTENTS → slice_index_or dirty number true ≡ (not (tells_dirty version) || is_marked (extent_cell version sectors number))
+  pub each : (number : ℕ) → number < MOST_EXTENTS → slice_index_or dirty number true ≡
+      (not (tells_dirty version) || is_marked (extent_cell version sectors number))
 
 -- the numbers of an owner fit their bytes
 pub record HasRoom (owner : Owned) : Type 0 where

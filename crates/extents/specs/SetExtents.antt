@@ -62,8 +62,8 @@ of_64 count most = record {
   limits = record { above = omega arith; some = omega arith; most = most; fits = omega arith };
 }
 
--- A table of a set whose extents lie so: its version is one of the set's format, each record has exactly the extents that its blocks take, and no extent is used,
--- or told to be dirty, that the set doesn't have.
+-- A table of a set whose extents lie so: its version is one of the set's format, each record has exactly the extents that its blocks take, and no extent is
+-- used, or told to be dirty, that the set doesn't have.
 pub record IsOfSet (extents : ExtentLayout) (table : VolumeTable) : Type 0 where
   pub version : is_version_of extents.format table.version ≡ true
   pub free_beyond : AreFreeFrom table.extents extents.count

@@ -1,6 +1,7 @@
 //! What the version of a table of volumes decides: docs/FORMATS.md, "Volume table".
 ghost use Rattle.std.specs.Prelude.{◌≡◌, ◌↔◌, ◌≤◌, ℕ, IfSome, IsTrue, Some, drop};
-ghost use Rattle.extents.specs.Versions.{IsBegunBy, IsVersion, IsVersionIn, most_volumes, most_name_bytes, upgraded_version};
+ghost use Rattle.extents.specs.Versions.{IsBegunBy, IsVersion, IsVersionIn, most_volumes, most_name_bytes};
+ghost use Rattle.extents.specs.Versions.{upgraded_version};
 ghost use Rattle.extents.specs.Versions.{tells_dirty, version_byte};
 ghost use Rattle.extents.specs.Versions.{record_width, records_a_sector, record_sectors, blocks_at, table_length};
 ghost use Rattle.extents.specs.TableSpelling.{zeros, first_sector};

@@ -109,7 +109,8 @@ module _ {F : Type 0} (growing : Ghosts F) (left : F → List ℕ) where
   pub served_cause : {L : Type 0} (reading : Ghosts L) (left_read : L → List ℕ) (Opens : (path : List ℕ) → Result (Option F) OpenFault → Type 0)
       (Inspects : (path : List ℕ) → Result (Option L) OpenFault → Type 0) (line : Invocation) (refusal : Refusal)
       → ((folder : Bor Text) (id : List ℕ) (members chunk stripes : ℕ) → line ≡ Make folder id members chunk stripes → ⊥)
-      → ((folder : Bor Text) (id : List ℕ) (members chunk : ℕ) (size : Size) (over reserve : Bool) → line ≡ MakeSized folder id members chunk size over reserve → ⊥)
+      → ((folder : Bor Text) (id : List ℕ) (members chunk : ℕ) (size : Size) (over reserve : Bool) → line ≡ MakeSized folder id members chunk size over reserve
+      → ⊥)
       → ((folder : Bor Text) (id : List ℕ) (slot : ℕ) → line ≡ Replace folder id slot → ⊥)
       → ((folder : Bor Text) (id : Option (List ℕ)) (json check : Bool) → line ≡ Examine folder id json check → ⊥)
       → IsCauseOver growing left Opens line refusal → HasCause growing left reading left_read Opens Inspects line refusal

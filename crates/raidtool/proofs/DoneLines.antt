@@ -69,7 +69,8 @@ module _ {F L : Type 0} (growing : Ghosts F) (left : F → List ℕ) (reading : 
   written_of drawn (Examine folder id json check) was is before after done =
       inspections_written (IsTrue reading.tells) id json done.bank was.contents is.contents done.examines
   written_of drawn (Run folder id) was is before after done = tt
-  written_of drawn (Status folder id json check) was is before after done = written_by drawn (Status folder id json check) _ done.over.bank was is done.over.does
+  written_of drawn (Status folder id json check) was is before after done = written_by drawn (Status folder id json check) _ done.over.bank was is
+      done.over.does
   written_of drawn (Fail folder id slot) was is before after done = written_by drawn (Fail folder id slot) _ done.over.bank was is done.over.does
   written_of drawn (Rebuild folder id steps) was is before after done = written_by drawn (Rebuild folder id steps) _ done.over.bank was is done.over.does
   written_of drawn (Scrub folder id) was is before after done = written_by drawn (Scrub folder id) _ done.over.bank was is done.over.does
@@ -103,7 +104,8 @@ module _ {F L : Type 0} (growing : Ghosts F) (left : F → List ℕ) (reading : 
   -- a line that needs no file to be made was done over the files of its folder
   pub served_done : (drawn : Bool) (line : Invocation) (done : Result (Unit {0}) FolderFault) (was is : Streams) (before after : Health)
       → ((folder : Bor Text) (id : List ℕ) (members chunk stripes : ℕ) → line ≡ Make folder id members chunk stripes → ⊥)
-      → ((folder : Bor Text) (id : List ℕ) (members chunk : ℕ) (size : Size) (over reserve : Bool) → line ≡ MakeSized folder id members chunk size over reserve → ⊥)
+      → ((folder : Bor Text) (id : List ℕ) (members chunk : ℕ) (size : Size) (over reserve : Bool) → line ≡ MakeSized folder id members chunk size over reserve
+      → ⊥)
       → ((folder : Bor Text) (id : List ℕ) (slot : ℕ) → line ≡ Replace folder id slot → ⊥)
       → ((folder : Bor Text) (id : Option (List ℕ)) (json check : Bool) → line ≡ Examine folder id json check → ⊥)
       → OnOk done (IsServedOver growing left Opens line was is before after) → OnOk done (Does drawn line was is before after)
@@ -140,7 +142,8 @@ no_make line other bad = bad
 
 -- a line that needs no file to be made may pass over one
 pub passes_some : (line : Invocation) → ((folder : Bor Text) (id : List ℕ) (members chunk stripes : ℕ) → line ≡ Make folder id members chunk stripes → ⊥)
-    → ((folder : Bor Text) (id : List ℕ) (members chunk : ℕ) (size : Size) (over reserve : Bool) → line ≡ MakeSized folder id members chunk size over reserve → ⊥)
+    → ((folder : Bor Text) (id : List ℕ) (members chunk : ℕ) (size : Size) (over reserve : Bool) → line ≡ MakeSized folder id members chunk size over reserve
+    → ⊥)
     → ((folder : Bor Text) (id : Option (List ℕ)) (json check : Bool) → line ≡ Examine folder id json check → ⊥) → PassesNone line → ⊥
 passes_some (Make folder id members chunk stripes) no_make no_sized no_inspection none = no_make folder id members chunk stripes refl
 passes_some (MakeSized folder id members chunk size over reserve) no_make no_sized no_inspection none =
@@ -152,7 +155,8 @@ passes_some line no_make no_sized no_inspection none = none
 pub served_blamed : {F Made L : Type 0} (growing : Ghosts F) (Opens : (path : List ℕ) → Result (Option F) OpenFault → Type 0)
     (Creates : (path : List ℕ) → Result Made CreateFault → Type 0)
     (Inspects : (path : List ℕ) → Result (Option L) OpenFault → Type 0) (line : Invocation) (done : Result (Unit {0}) FolderFault)
-    → ((folder : Bor Text) (id : List ℕ) (members chunk : ℕ) (size : Size) (over reserve : Bool) → line ≡ MakeSized folder id members chunk size over reserve → ⊥)
+    → ((folder : Bor Text) (id : List ℕ) (members chunk : ℕ) (size : Size) (over reserve : Bool) → line ≡ MakeSized folder id members chunk size over reserve
+    → ⊥)
     → ((folder : Bor Text) (id : Option (List ℕ)) (json check : Bool) → line ≡ Examine folder id json check → ⊥)
     → IfErr done (IsBlamed Opens Creates growing.has_failed (folder_text line)) → IfErr done (IsBlamedIn growing Opens Creates Inspects line)
 served_blamed growing Opens Creates Inspects (MakeSized folder id members chunk size over reserve) done no_sized no_inspection blamed =
@@ -225,7 +229,8 @@ is_cut (Refused WriteFault) = inl refl
 is_cut fault = inr (λ cut. cc)
 
 -- standard output got nothing then, or a part of what the line writes
-pub unmade_by : (drawn : Bool) (line : Invocation) (folder : List ℕ) (out new_out : Option (List ℕ)) (Told : List ℕ → Type 0) (Same : Type 0) (fault : FolderFault)
+pub unmade_by : (drawn : Bool) (line : Invocation) (folder : List ℕ) (out new_out : Option (List ℕ)) (Told : List ℕ → Type 0) (Same : Type 0)
+    (fault : FolderFault)
     → Told (fault_line folder fault)
     → (fault ≢ Refused WriteFault → Same) → (fault ≡ Refused WriteFault → IsPartWritten drawn line out new_out)
     → Same ⊎ IsCutOff drawn line out new_out Told

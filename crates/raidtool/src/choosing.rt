@@ -81,8 +81,8 @@ impl From<Refusal> for Unchosen {
     }
 }
 
-/// The line that was asked for, with the id of its set: the one in its words, one that is drawn, or that of the only set
-/// of its folder, whose files are opened for reading alone.
+/// The line that was asked for, with the id of its set: the one in its words, one that is drawn, or that of the only
+/// set of its folder, whose files are opened for reading alone.
 ///
 /// `Undrawn` where drawing it failed; `Several` where there are several sets, and `NoSet` where there is none;
 /// `Memory`, `Worn`, and the faults of opening a folder's files for reading.

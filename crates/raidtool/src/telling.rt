@@ -16,8 +16,8 @@ use sector_model::Refusal;
 use std::alloc::Global;
 use std::io::Write;
 
-/// Writes `made` and a newline, or `made H`, where the id `H` of the set was drawn. The only refusal is `WriteFault`, as
-/// for a reply.
+/// Writes `made` and a newline, or `made H`, where the id `H` of the set was drawn. The only refusal is `WriteFault`,
+/// as for a reply.
 pub(crate) fn write_made_set<W: Write>(
     out: &mut W,
     drawn: bool,
@@ -43,8 +43,8 @@ fn made_line_of(id: &[u8; 16]) -> [u8; 38]
     line
 }
 
-/// Writes how many blocks of a set no volume can have, as `unused 1023 blocks`. The only refusal is `WriteFault`, as for
-/// a reply.
+/// Writes how many blocks of a set no volume can have, as `unused 1023 blocks`. The only refusal is `WriteFault`, as
+/// for a reply.
 pub(crate) fn write_unused<W: Write>(out: &mut W, blocks: u64) -> Result<(), Refusal>
     ensures { WritesText (W.contents out.old) (W.contents out.new) (unused_line blocks) result }
 {
@@ -97,8 +97,8 @@ fn spaced(id: &[u8; 16]) -> [u8; 33]
     text
 }
 
-/// Tells why these words are no line of the program; where the first is `help`, what `--help` tells. A fault of standard
-/// error has no place to be told.
+/// Tells why these words are no line of the program; where the first is `help`, what `--help` tells. A fault of
+/// standard error has no place to be told.
 pub(crate) fn tell_fault<E: Write>(
     alloc: Global,
     fault: &InvocationFault,

@@ -20,7 +20,8 @@ ghost use Rattle.raidtool.specs.DoneOver.{HealthOf, IsDone, IsExaminedIn, IsServ
 ghost use Rattle.raidtool.specs.Ends.{EndsAsked, EndsLine, EndsWords, unchosen_line, unchosen_status};
 ghost use Rattle.raidtool.specs.Stops.{HasPassed, IsBlamed, IsInspectionBlamed, IsServeFault, IsTold, IsToldAfter};
 ghost use Rattle.raidtool.specs.Texts.{IsFaultLine};
-ghost use Rattle.raidtool.specs.Tool.{ComesFirst, IsAsked, IsBlamedIn, IsEndOfLine, IsFirst, IsMemoryFault, IsMisshapen};
+ghost use Rattle.raidtool.specs.Tool.{ComesFirst, IsAsked, IsBlamedIn, IsEndOfLine, IsFirst, IsMemoryFault};
+ghost use Rattle.raidtool.specs.Tool.{IsMisshapen};
 ghost use Rattle.raidtool.specs.Tool.{IsPartWritten, IsRun, IsServed, IsStopOf, PassesNone, WasRefused, checked_status};
 ghost use Rattle.raidtool.specs.Tool.{is_new};
 ghost use Rattle.set_commands.specs.DoneLaw.{CommandsMakeInvocations};
@@ -60,8 +61,8 @@ use volume_table::Event;
 /// words the script is served over a set in memory that is made for it. On `out` a set that was made is answered with
 /// `made`, and its id where that was drawn, a status is written as text or as JSON, a slot that was given up or got a
 /// device, a volume that was made, extended, removed or renamed and a table of volumes that has its last version are
-/// answered with `ok`, and a rebuild and a scrub with how far the one came and what the other found. Where a device file
-/// can't be opened that the set doesn't need, it is done without, which is written to `err` as `without dev1.img:
+/// answered with `ok`, and a rebuild and a scrub with how far the one came and what the other found. Where a device
+/// file can't be opened that the set doesn't need, it is done without, which is written to `err` as `without dev1.img:
 /// read-only file system`.
 ///
 /// A line may leave its id open (`--id new`, `--id auto`): it is drawn, or that of the only set of its folder. Where
@@ -202,7 +203,8 @@ fn is_new(choice: SetChoice) -> bool
 // Tells why a line is of no set, and gives its exit status.
 fn end_unchosen<E: Write>(line: &Invocation<'_>, unchosen: Unchosen, err: &mut E) -> u8
     ensures status { result ≡ unchosen_status line.now unchosen }
-    ensures told { IsToldLine (unchosen_line (folder_text line.now) unchosen) (E.contents err.old) (E.contents err.new) }
+    ensures told { IsToldLine (unchosen_line (folder_text line.now) unchosen) (E.contents err.old)
+        (E.contents err.new) }
 {
     match unchosen {
         Unchosen::Fault(fault) => {

@@ -15,9 +15,10 @@ use layout_map::{Format, Geometry};
 use sector_model::{Bank, GREATEST_COUNT, Refusal};
 use superblock::{State, Table};
 
-/// Rebuilds the next rows of the member that is rebuilding: so many, at most those of a step (64, or 4,096 in format 2),
-/// and none past the last. They are written from the other members' sectors and flushed, and only then the new position
-/// is published, or, after the last row, that the member is in sync (`Complete`). A step of 0 rows changes nothing.
+/// Rebuilds the next rows of the member that is rebuilding: so many, at most those of a step (64, or 4,096 in format
+/// 2), and none past the last. They are written from the other members' sectors and flushed, and only then the new
+/// position is published, or, after the last row, that the member is in sync (`Complete`). A step of 0 rows changes
+/// nothing.
 ///
 /// Refused with `NothingToRebuild` where no member is rebuilding, or the one that is goes down in the call and is then
 /// missing; with `TwoLost` where another device goes down; and with `Worn` where the count of device calls, or the

@@ -48,7 +48,8 @@ abbrev left_in : Status → ℕ
 left_in status = left_by status.format status.members status.rows status.position status.states
 
 said_lines : (status : Status)
-    → set_lines status ≡ lines_by status.format status.id status.members status.chunk status.stripes status.rows status.generation status.position (left_in status)
+    → set_lines status ≡ lines_by status.format status.id status.members status.chunk status.stripes status.rows status.generation status.position
+    (left_in status)
 unfolding lines_by left_by
 said_lines status = refl
 

@@ -33,7 +33,8 @@ none_rebuilding (Rebuilding ∷ states) (suc few) none = absurd (none 0 (omega a
 pub left_while_rebuilding : (status : Status) (slot : ℕ) → IsRebuildingSlot status slot → left status
     ≡ steps_left status.format status.position status.rows
 left_while_rebuilding status slot is =
-    ap (λ (b : Bool). cond b (steps_left status.format status.position status.rows) 0) (some_rebuilding status.states (status.members + 2) slot is.of_set is.state)
+    ap (λ (b : Bool). cond b (steps_left status.format status.position status.rows) 0)
+    (some_rebuilding status.states (status.members + 2) slot is.of_set is.state)
 
 pub left_at_rest : (status : Status) → ((slot : ℕ) → IsRebuildingSlot status slot → ⊥) → left status ≡ 0
 left_at_rest status none =

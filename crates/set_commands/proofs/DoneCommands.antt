@@ -1,5 +1,6 @@
 -- What the contracts of the program's commands say is something that was done on a bank.
-use Rattle.std.proofs.Common.{◌+◌, arith, ◌≡◌, inl, inr, ℕ, zero, suc, Bool, List, [], ◌∷◌, ◌++◌, Option, Some, None, Result, replicate, refl, sym, ap, ◌∙◌, subst, subst₂}
+use Rattle.std.proofs.Common.{◌+◌, arith, ◌≡◌, inl, inr, ℕ, zero, suc, Bool, List, [], ◌∷◌, ◌++◌, Option, Some, None, Result, replicate, refl, sym, ap, ◌∙◌}
+use Rattle.std.proofs.Common.{subst, subst₂}
 use Rattle.std.proofs.lemmas.List.{append-nil}
 use Rattle.sector_model.specs.declared.refusal.Refusal.{Refusal}
 use Rattle.sector_model.specs.declared.refusal.Refusal.TheVariants.{BadLine, TwoLost, Worn}
@@ -129,7 +130,8 @@ steps_then honest fair made more old mid new (then_made before position first is
 rebuild_asked : (honest : Type 0) → honest → (steps : Option ℕ) (old new : StoreView) (answer : Result Progress Refusal)
     (rebuilds : Rebuilds honest steps old new answer) → StepsAsked (rebuilds.before + 1) old new
 rebuild_asked honest fair steps old new answer rebuilds =
-    let last = one (step rebuilds.mid) rebuilds.mid new (progress_reply answer) (applies_for honest (Unit {0}) (step rebuilds.mid) rebuilds.mid new _ (λ _. fair) rebuilds.last) in
+    let last = one (step rebuilds.mid) rebuilds.mid new (progress_reply answer) (applies_for honest (Unit {0}) (step rebuilds.mid) rebuilds.mid new _
+    (λ _. fair) rebuilds.last) in
     steps_then honest fair rebuilds.before 1 old rebuilds.mid new rebuilds.steps_before
     (record { replies = progress_reply answer ∷ []; does = last.does; asked = last.asked })
 

@@ -79,7 +79,8 @@ fresh_slots a b c d e slots is first second third fourth fifth =
 
 -- ---- the set is made
 
-pub made_fresh : (id : List ℕ) (geometry : Geometry) (bank : BankView) (array : ArrayView) → id ≡ fresh_id → geometry.format ≡ One → geometry.members ≡ 3 → geometry.chunk ≡ 8
+pub made_fresh : (id : List ℕ) (geometry : Geometry) (bank : BankView) (array : ArrayView) → id ≡ fresh_id → geometry.format ≡ One → geometry.members ≡ 3
+    → geometry.chunk ≡ 8
     → geometry.stripes ≡ 32
     → IsQuietBeyond id 5 bank → Makes (Unit {0}) id geometry bank (recovery.Opened array) → IsMadeFresh array
 made_fresh id geometry bank array is_id one members chunk stripes quiet makes = record {

@@ -19,12 +19,14 @@ use Rattle.volume_table.specs.Stands.{IsSettledOn, StoreView}
 use Rattle.volume_table.specs.StoreCalls.{Applies, lost_in}
 use Rattle.volume_table.specs.Opening.{Opened, Returned}
 use Rattle.volume_table.specs.Runs as runs
-use Rattle.volume_table.specs.Runs.{AreCommitted, Crashes, Does, Fate, IsServing, Run, Runs, Serving, Session, World, begun_with, none_done, then_committed, then_done}
+use Rattle.volume_table.specs.Runs.{AreCommitted, Crashes, Does, Fate, IsServing, Run, Runs, Serving, Session, World, begun_with, none_done, then_committed}
+use Rattle.volume_table.specs.Runs.{then_done}
 use Rattle.volume_table.specs.Headline.{AreRight, Before, IsAfterPrefix, IsRight, RunKeeps, RunsKeep, SessionKeeps, nothing_before}
 use Rattle.volume_table.proofs.SafeRuns.{headline}
 use Rattle.set_commands.specs.Invocations.{AnswersRightly, BankKeeps, DoneOn, EndsOn, EndsServing, HeadlineOfTheProgram, Invocations}
 use Rattle.set_commands.specs.Invocations.{InvocationsKeep, Served, answered, crashed_in, here, kept_by, later, next_bank, no_more, none_asked}
-use Rattle.set_commands.specs.Invocations.{not_assembled, not_opened, only_read, served, then_answered, then_ended, then_no_event, then_writes, then_writes_ended}
+use Rattle.set_commands.specs.Invocations.{not_assembled, not_opened, only_read, served, then_answered, then_ended, then_no_event, then_writes}
+use Rattle.set_commands.specs.Invocations.{then_writes_ended}
 use Rattle.extents.specs.declared.extent_layout.ExtentLayout.{ExtentLayout}
 use Rattle.extents.specs.SetExtents.{extents_in}
 

@@ -202,7 +202,8 @@ pub rebuild_refused : (honest : Type 0) (steps : Option ℕ) (refusal : Refusal)
     → Rebuilds honest steps old new (Err refusal)
     → EndsIt refusal ⊎ (refusal ≡ NothingToRebuild)
 rebuild_refused honest steps refusal old new going rebuilds =
-    one_refused honest (step_rows rebuilds.mid.array.table) refusal rebuilds.mid new (open_after honest rebuilds.before old rebuilds.mid going rebuilds.steps_before) rebuilds.last
+    one_refused honest (step_rows rebuilds.mid.array.table) refusal rebuilds.mid new
+    (open_after honest rebuilds.before old rebuilds.mid going rebuilds.steps_before) rebuilds.last
 
 -- ---- how a rebuild ends
 
@@ -223,7 +224,8 @@ ends_early honest other steps rows most before old mid new answer is so more tho
 -- at the last one
 pub ends_last : (honest other : Type 0) (steps : Option ℕ) (rows most before : ℕ) (old mid new : StoreView) (answer : Result Progress Refusal)
     → most ≡ unwrap_or steps rows
-    → rows ≡ row_count old.array.table → (other → honest) → before + 1 ≡ max most 1 → Steps other before old mid → RebuildsRows honest (step_rows mid.array.table) mid new answer
+    → rows ≡ row_count old.array.table → (other → honest) → before + 1 ≡ max most 1 → Steps other before old mid
+    → RebuildsRows honest (step_rows mid.array.table) mid new answer
     → Rebuilds other steps old new answer
 ends_last honest other steps rows most before old mid new answer is all_rows so last those rebuilds = record {
   before = before;

@@ -90,7 +90,8 @@ EndsServing slots (then_answered {old = old} mid event reply applies goes rest) 
 EndsServing slots (then_no_event rest) fate left = EndsServing slots rest fate left
 EndsServing slots (then_ended {old = old} {new = new} event reply applies ends) fate left = EndsIn slots event old new fate left
 EndsServing slots (then_writes {old = old} mid writes commits rest) fate left =
-    Comes (EndsInCommit slots old mid fate left) (λ next. GoesOver slots fate.lost fate mid.array.table mid.array.history next × EndsServing slots rest next left)
+    Comes (EndsInCommit slots old mid fate left) (λ next. GoesOver slots fate.lost fate mid.array.table mid.array.history next × EndsServing slots rest next
+    left)
 EndsServing slots (then_writes_ended {old = old} {new = new} writes refusal commits) fate left = EndsInCommit slots old new fate left
 
 -- The crash comes in opening the volumes; or they were opened, and it comes in one of the events, or after all of them.

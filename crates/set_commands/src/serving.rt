@@ -35,8 +35,8 @@ use volume_table::{Status, Store};
 
 /// Assembles the set of this id on a bank of devices, and opens its volumes. `entry` is where the set holds entries.
 ///
-/// `BadTable` where the first 11 logical sectors are no table of volumes of version 1 and the first 25 none of version 2,
-/// `NoSet`, `TwoLost` and `Worn` as `assemble` and `Store::open` say. The bank is given up then.
+/// `BadTable` where the first 11 logical sectors are no table of volumes of version 1 and the first 25 none of version
+/// 2, `NoSet`, `TwoLost` and `Worn` as `assemble` and `Store::open` say. The bank is given up then.
 pub fn open_on<B: Bank + Drop>(bank: B, entry: Entry, id: [u8; 16]) -> Result<Store<B>, Refusal>
     ensures honest { IfOk result (λ store. B.honest bank ↔ IsHonest store.array) }
     ensures opened { IfOk result (λ store. IsOpened (B.honest bank) id (bank_seen B.Bank bank) (store_view store)) }

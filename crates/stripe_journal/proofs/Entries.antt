@@ -218,7 +218,8 @@ sector_lent entry i member place value whole is =
     one : IsProp (vec_len entry.sectors ≡ MOST_HELD)
     one = hlevel props
 
-pub sector_there : (entry : Entry) (i member : ℕ) (value : Bytes) → i < length (numbers_of entry) → member < MOST_MEMBERS → has_bit (row_mask entry i) member ≡ true
+pub sector_there : (entry : Entry) (i member : ℕ) (value : Bytes) → i < length (numbers_of entry) → member < MOST_MEMBERS
+    → has_bit (row_mask entry i) member ≡ true
     → sector_at (with_sector entry i member value) i member ≡ value
 sector_there entry i member value below within held =
     held_there (with_sector entry i member value) i member held

@@ -64,7 +64,13 @@ before_held members entry i few within =
     let all : held_before members (form_of entry) count ≡ held_by_masks members masks =
     held_listed members (record { items = numbers_of entry }) masks count (within_masks entry count (omega arith))
     ∙ ap (held_by_masks members) (take_all count masks (omega (arith, length-masks (runs_in entry.runs)))) in
-    omega (arith, before_grows members (form_of entry) i count within, all, held_by_few members (runs_in entry.runs) few (runs_few entry), entry.runs.fit.held_most)
+    omega (
+      arith,
+      before_grows members (form_of entry) i count within,
+      all,
+      held_by_few members (runs_in entry.runs) few (runs_few entry),
+      entry.runs.fit.held_most,
+    )
 
 -- each sector that it has has a place
 pub place_within : (entry : Entry) (i member : ℕ) → i < length (numbers_of entry) → member < MOST_MEMBERS → has_bit (row_mask entry i) member ≡ true

@@ -1,6 +1,7 @@
 //! An entry in memory, before it is on a journal.
 ghost use Rattle.std.specs.Prelude.{◌≡◌, ◌≤◌, ◌<◌, ◌+◌, ◌-◌, ◌*◌, ◌^◌, ◌++◌, ◌∷◌, ◌==◌, [], ℕ, IfOk, IfErr};
-ghost use Rattle.std.specs.Prelude.{IfSome, IsNone, count_ones, false, true, length, nat_lt, replicate, slice_index_or, vec_len};
+ghost use Rattle.std.specs.Prelude.{IfSome, IsNone, count_ones, false, true, length, nat_lt, replicate, slice_index_or};
+ghost use Rattle.std.specs.Prelude.{vec_len};
 ghost use Rattle.layout_map.specs.declared.sizes.TheConstants.{ENTRY_ROWS, MOST_MEMBERS};
 ghost use Rattle.entry_runs.specs.Body.{has_bit};
 ghost use Rattle.entry_runs.specs.declared.sizes.TheConstants.{MOST_HELD};

@@ -171,8 +171,8 @@ pub(crate) fn fill(rt: &impl Abort, entry: &mut Entry, i: usize, member: u8, byt
     *entry.sector_mut(i, member) = [byte; 512];
 }
 
-/// An entry with rows 32 and 33, of which it has what these masks have, two bits each at least. Each sector of the first
-/// is full of 0x10 and its member's number, and of the second of 0x20 and its member's number.
+/// An entry with rows 32 and 33, of which it has what these masks have, two bits each at least. Each sector of the
+/// first is full of 0x10 and its member's number, and of the second of 0x20 and its member's number.
 pub(crate) fn two_rows(rt: &(impl Abort + AllocGlobal), masks: [u8; 2]) -> Entry {
     let mut entry = Entry::new(rt.alloc()).ok().expect(rt, "memory");
     push(rt, &mut entry, 32, masks[0]);

@@ -31,7 +31,8 @@ pub allowed_fields : (fields : Fields) (geometry : Geometry) (s : Superblock) �
 allowed_fields fields geometry s of_fields same =
     let geometry_is : geometry ≡ s.table.geometry =
     same_geometry geometry s.table.geometry (of_fields.format ∙ ap (λ (f : Fields). f.format) same)
-    (of_fields.members ∙ ap (λ (f : Fields). f.members) same) (of_fields.chunk ∙ ap (λ (f : Fields). f.chunk) same) (of_fields.stripes ∙ ap (λ (f : Fields). f.stripes) same) in
+    (of_fields.members ∙ ap (λ (f : Fields). f.members) same) (of_fields.chunk ∙ ap (λ (f : Fields). f.chunk) same)
+    (of_fields.stripes ∙ ap (λ (f : Fields). f.stripes) same) in
     subst (λ (f : Fields). IsTable f.generation geometry f.states f.incarnations f.position) (sym same)
     (subst (λ (g : Geometry). IsTable s.table.generation g s.table.states s.table.incarnations s.table.position) (sym geometry_is) s.table.allowed)
 
@@ -96,7 +97,8 @@ pub fields_are : (fields : Fields) (s t : Superblock) → IsOfFields fields t.ta
     → t.table.generation ≡ fields.generation
     → t.role ≡ fields.role → t.table.states ≡ fields.states → t.table.incarnations ≡ fields.incarnations → t.table.position ≡ fields.position → t ≡ s
 fields_are fields s t of_fields same id generation role states incarnations position =
-    same_superblock t s (fields_same (fields_of t) fields of_fields.format id generation of_fields.members role of_fields.chunk of_fields.stripes states incarnations position
+    same_superblock t s (fields_same (fields_of t) fields of_fields.format id generation of_fields.members role of_fields.chunk of_fields.stripes states
+    incarnations position
     ∙ same)
 
 -- where there is no geometry, no superblock has these fields

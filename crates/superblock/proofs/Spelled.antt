@@ -13,7 +13,8 @@ use Rattle.superblock.specs.declared.state.State.{State}
 use Rattle.superblock.specs.declared.state.State.TheVariants.{Missing, InSync, Rebuilding}
 use Rattle.superblock.specs.declared.table.Superblock.{Superblock}
 use Rattle.superblock.specs.Reading.{fields_of}
-use Rattle.superblock.specs.Spelling.{begin_mark, end_mark, format_digit, zeros, state_byte, entry_bytes, entries_bytes, head_bytes, tail_bytes, superblock_sector}
+use Rattle.superblock.specs.Spelling.{begin_mark, end_mark, format_digit, zeros, state_byte, entry_bytes, entries_bytes, head_bytes, tail_bytes}
+use Rattle.superblock.specs.Spelling.{superblock_sector}
 use Rattle.superblock.specs.Tables.{state_at, incarnation_at}
 use Rattle.superblock.proofs.Parts.{HasAt, has_last, has_first, has_left, has_inner, read_number, read_byte, read_bytes, length-little_bytes}
 use Rattle.superblock.proofs.Same.{same_superblock}

@@ -25,7 +25,8 @@ same_sector extents owners number other i j extent extent' here there same =
     (owner.0, block_is_one extents.blocks i j owner.1 parts.1)
 
 -- more zeros leave them clean
-pub clean_partly : (extents : ExtentLayout) (dirty : List Bool) (records : List (Option Record)) (owners new_owners : List (Option Owned)) (number first last : ℕ)
+pub clean_partly : (extents : ExtentLayout) (dirty : List Bool) (records : List (Option Record)) (owners new_owners : List (Option Owned))
+    (number first last : ℕ)
     (V W : List Block) → IsPartlyZero extents new_owners number first last V W → AreClean extents dirty records owners V
     → AreClean extents dirty records owners W
 clean_partly extents dirty records owners new_owners number first last V W partly clean = record {

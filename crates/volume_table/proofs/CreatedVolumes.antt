@@ -45,7 +45,8 @@ pub record HasGrown (honest : Type 0) (old new : StoreView) (owners owners' : Li
   pub dirty : new.keeps.dirty ≡ old.keeps.dirty
   pub may : MayGrowTo (extents_for_store old) old.keeps.version old.keeps.records owners number first entry
   pub records : new.keeps.records ≡ slice_set old.keeps.records number (Some entry)
-  pub taken : IsTaken old.keeps.dirty owners owners' number (extents_for (extents_for_store old).blocks entry.blocks - extents_for (extents_for_store old).blocks first)
+  pub taken : IsTaken old.keeps.dirty owners owners' number (extents_for (extents_for_store old).blocks entry.blocks - extents_for
+      (extents_for_store old).blocks first)
   pub changes : ChangesList honest (entry.blocks - first + 1) (MayGrow (extents_for_store old) old.keeps new.keeps number first entry.blocks)
       (Grows (extents_for_store old) old.keeps new.keeps number first entry.blocks) old.array new.array result
   pub going : old.ended ≡ None

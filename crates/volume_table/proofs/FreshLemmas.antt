@@ -65,7 +65,12 @@ zero_in_extents : (geometry : Geometry) (extent block : ℕ) → extent < (exten
 zero_in_extents geometry extent block below =
     let sector : ℕ = sector_of_block (extents_in geometry) extent block in
     let within : sector < data_sectors_of geometry.members geometry.chunk geometry.stripes =
-    omega (arith, sector_within (extents_in geometry) extent block (extents_in geometry).count below, room_for geometry (extents_in geometry).count (omega arith)) in
+    omega (
+      arith,
+      sector_within (extents_in geometry) extent block (extents_in geometry).count below,
+      room_for geometry (extents_in geometry).count
+          (omega arith),
+    ) in
     get_or-map-range_with_len (λ (k : ℕ). zero_sector) 0 (data_sectors_of geometry.members geometry.chunk geometry.stripes) sector sector [] within
     (omega arith) ∙ zero_is_zero
 

@@ -1,5 +1,6 @@
 -- The table of volumes and the map of its extents, when a volume gets extents, when it gives its own back, and when it gets another name.
-use Rattle.std.proofs.Common.{◌≡◌, ◌≢◌, ◌⊎◌, inl, inr, ⊎_elim, ℕ, ◌+◌, ◌-◌, ◌<◌, ◌≤◌, Bool, List, length, take, slice_set, Option, Some, None, refl, sym, ap, true}
+use Rattle.std.proofs.Common.{◌≡◌, ◌≢◌, ◌⊎◌, inl, inr, ⊎_elim, ℕ, ◌+◌, ◌-◌, ◌<◌, ◌≤◌, Bool, List, length, take, slice_set, Option, Some, None, refl, sym, ap}
+use Rattle.std.proofs.Common.{true}
 use Rattle.extents.specs.Checks.{AreCleanBeyond}
 use Rattle.extents.specs.Versions.{is_version_of}
 use Rattle.std.proofs.Common.{◌∙◌, subst, Ok, Err, arith}
@@ -422,7 +423,8 @@ grown_after {extents} table owners number first last same V U W zeroed has =
 
 may_grow_then : {extents : ExtentLayout} (old table : VolumeTable) (owners : List (Option Owned)) (number first last : ℕ)
     → ((extent : ℕ) → owner_of table.extents extent ≡ owner_of owners extent)
-    → (V U W : List Block) → IsZeroed extents table.dirty owners number first last V U → MayPutTable old table U W → MayGrow extents old table number first last V W
+    → (V U W : List Block) → IsZeroed extents table.dirty owners number first last V U → MayPutTable old table U W
+    → MayGrow extents old table number first last V W
 may_grow_then {extents} old table owners number first last same V U W zeroed put from =
     elim (put (partly_keeps_table old owners number first last V U zeroed.partly from)) [
       | inl is ↦ inl (subst (IsPartlyZero extents table.extents number first last V) (sym is)

@@ -1,5 +1,6 @@
 -- What a list shows on the way to a volume with new blocks, and then.
-use Rattle.std.proofs.Common.{◌≡◌, ◌≢◌, inl, inr, ℕ, ◌<◌, ◌≤◌, Bool, false, List, [], length, get_or, take, slice_set, Option, Some, None, refl, sym, ◌∙◌, ap, subst}
+use Rattle.std.proofs.Common.{◌≡◌, ◌≢◌, inl, inr, ℕ, ◌<◌, ◌≤◌, Bool, false, List, [], length, get_or, take, slice_set, Option, Some, None, refl, sym, ◌∙◌, ap}
+use Rattle.std.proofs.Common.{subst}
 use Rattle.std.proofs.Common.{arith}
 use Rattle.std.proofs.lemmas.List.{ext_get_or, get_or-take, length-take, get_or-set_same, get_or-set_other, get_or-replicate, length-replicate}
 use Rattle.sector_model.specs.declared.refusal.Refusal.{Refusal}

@@ -152,7 +152,8 @@ opens_at_rest honest array keeps spelled of_set = record {
   stays = λ store is. opened_is (λ s. StaysButForFailures honest array s.array ⊥) (store_of array keeps) store is (array_stays honest array ⊥);
   moments = λ fair lost V volumes rests shown. here (stands_at_rest array.panel.devices array.table array.number array.history lost V volumes rests shown);
   settled = λ fair lost V volumes rests shown store is.
-      opened_is (λ s. IsSettledAfter lost s volumes) (store_of array keeps) store is (stays_settled array keeps spelled of_set.version lost V volumes rests shown);
+      opened_is (λ s. IsSettledAfter lost s volumes) (store_of array keeps) store is
+      (stays_settled array keeps spelled of_set.version lost V volumes rests shown);
   spelled = λ fair lost V rests store is.
       opened_is (λ s. Spell V s.keeps) (store_of array keeps) store is (rests_spelled array keeps spelled lost V rests);
   of_set = λ store is. opened_is (λ s. IsOfSet (extents_in array.table.geometry) s.keeps) (store_of array keeps) store is of_set;

@@ -114,7 +114,8 @@ pub spells_too : (format : Format) (version : ℕ) (sectors other : List Bytes) 
     → get_or sectors 0 [] ≡ first_sector version
     → take (table_length version) other ≡ take (table_length version) sectors → Spell sectors table → Spell other table
 spells_too format version sectors other table of_format is first same spelled =
-    let its : table.version ≡ version = same_version format table.version version (in_format format table of_format) is (sym (first_of_spelled sectors table spelled) ∙ first) in
+    let its : table.version ≡ version = same_version format table.version version (in_format format table of_format) is
+    (sym (first_of_spelled sectors table spelled) ∙ first) in
     subst (λ (v : ℕ). take (table_length v) other ≡ take (table_length v) sectors) (sym its) same ∙ spelled
 
 -- ---- what reads give where no device fails
@@ -262,7 +263,8 @@ pub reads_spelled : (format : Format) (old mid new : ArrayView) (version n : ℕ
     → get_or part k [] ≡ get_or (list_read mid) (1 + k) [])
     → Spell (list_read old) table → Spell sectors table
 reads_spelled format old mid new version n first part sectors table of_format is says so_many put goes goes_then none one more spelled =
-    spells_too format version (table_sectors table) sectors table of_format is (first_of_spelled (table_sectors table) table itself ∙ ap first_sector its) both itself
+    spells_too format version (table_sectors table) sectors table of_format is (first_of_spelled (table_sectors table) table itself ∙ ap first_sector its) both
+    itself
   where
     read : ReadsWhole 0 old mid first
     read = one (none_failed_before old.panel mid.panel new.panel goes_then.later none)

@@ -102,7 +102,8 @@ empty_is_shown extents sectors table spelled empty clean =
         version = ap (is_version_of extents.format) empty.fresh ∙ (fresh_is_version extents.format).1;
         free_beyond = λ extent above. empty.all_free extent;
         clean_beyond = λ tells extent above below. empty.all_clean tells extent (omega arith) below;
-        placed = ∣ (λ volume. subst (λ n. HasPlaces table.extents volume n) (sym (ap (extents_of extents.blocks) (empty.no_record volume))) (none_there volume)) ∣₁;
+        placed = ∣ (λ volume. subst (λ n. HasPlaces table.extents volume n) (sym (ap (extents_of extents.blocks) (empty.no_record volume)))
+            (none_there volume)) ∣₁;
       };
       shown = record {
         used = λ number entry used. absurd (none-some entry (sym (empty.no_record number) ∙ used));

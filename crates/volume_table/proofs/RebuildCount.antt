@@ -224,8 +224,11 @@ last_ends : (honest : Type 0) (member : ℕ) (old new : StoreView) (reply : Repl
     → IsRebuilding old.array.table member → AllUp new → old.array.table.position ≤ row_count old.array.table
     → row_count old.array.table ≤ old.array.table.position + step_rows old.array.table
     → (reply ≡ Progressed Complete) × IsComplete new.array.table
-last_ends honest member old new reply through goes is up within near =
-    (left.left.replied ∙ ap (λ (rows : ℕ). set_reply left.devices (RebuildStep rows) (set_of old.array.table)) (sym step) ∙ done.1, record { in_sync = in_sync })
+last_ends honest member old new reply through goes is up within near = (
+  left.left.replied ∙ ap (λ (rows : ℕ). set_reply left.devices (RebuildStep rows) (set_of old.array.table)) (sym step) ∙ done.1,
+  record
+      { in_sync = in_sync },
+)
   where
     left : SetIsLeft honest (OnSet (RebuildStep (step_rows old.array.table))) old new reply
     left = through.set_left goes

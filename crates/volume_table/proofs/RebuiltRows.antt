@@ -252,7 +252,8 @@ module _ (honest : Type 0) (rows : ℕ) (old new : StoreView) (answer : Result P
   position_now : (q member : ℕ) → IsAfterStep old.array.table member rows (Position q) new.array.table
       → end_of_step old.array.table rows ≡ new.array.table.position
   position_now q member after = elim after.2 [
-    | inl (none, same) ↦ no_step (rebuild_rows old.array.table.geometry.format) (row_count old.array.table) rows old.array.table.position none ∙ ap (λ (t : Table). t.position) (sym same)
+    | inl (none, same) ↦ no_step (rebuild_rows old.array.table.geometry.format) (row_count old.array.table) rows old.array.table.position none ∙ ap
+        (λ (t : Table). t.position) (sym same)
     | inr (some, moved) ↦ sym after.0 ∙ sym moved.has_position
   ]
 

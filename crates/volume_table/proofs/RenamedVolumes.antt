@@ -102,7 +102,8 @@ renaming_shows extents old new owners name name_after number entry before now vo
 -- A rename that is admitted, by its one call.
 pub rename_applies : (honest : Type 0) (name name_after : List ℕ) (old new : StoreView) (owners : List (Option Owned)) (number : ℕ) (entry : Record)
     (result : Answer) → old.ended ≡ None
-    → AreKept (extents_for_store old) old.keeps owners → AreKept (extents_for_store new) new.keeps owners → new.keeps.version ≡ old.keeps.version → new.keeps.dirty ≡ old.keeps.dirty
+    → AreKept (extents_for_store old) old.keeps owners → AreKept (extents_for_store new) new.keeps owners → new.keeps.version ≡ old.keeps.version
+    → new.keeps.dirty ≡ old.keeps.dirty
     → ∥ HasRecordAt old.keeps.records name number ∥₁
     → MayRename old.keeps.version old.keeps.records number entry → entry.name.bytes.items ≡ name_after
     → new.keeps.records ≡ slice_set old.keeps.records number (Some entry)
@@ -112,7 +113,8 @@ pub rename_applies : (honest : Type 0) (name name_after : List ℕ) (old new : S
     → ChangesList honest 1 (MayPutTable old.keeps new.keeps) (PutsTable old.keeps new.keeps) old.array new.array result
     → (result ≡ Ok tt → new.ended ≡ None) → ((refusal : Refusal) → result ≡ Err refusal → new.ended ≡ Some refusal)
     → RenamesVolume honest name name_after old new result
-rename_applies honest name name_after old new owners number entry result going kept kept_then version dirty found may named records admitted true_to changes goes
+rename_applies honest name name_after old new owners number entry result going kept kept_then version dirty found may named records admitted true_to changes
+    goes
     ends = by_result result changes goes ends
   where
     is : IsRenamed (extents_for_store old) old.keeps new.keeps owners name name_after number entry
@@ -170,7 +172,8 @@ rename_differs old new number entry may records same =
 -- A rename that was done changed the one name, by one entry.
 pub rename_kept : (name name_after : List ℕ) (old new : StoreView) (owners : List (Option Owned)) (number : ℕ) (entry : Record) (result : Answer)
     → new.array.table.geometry ≡ old.array.table.geometry
-    → AreKept (extents_for_store old) old.keeps owners → AreKept (extents_for_store new) new.keeps owners → new.keeps.version ≡ old.keeps.version → new.keeps.dirty ≡ old.keeps.dirty
+    → AreKept (extents_for_store old) old.keeps owners → AreKept (extents_for_store new) new.keeps owners → new.keeps.version ≡ old.keeps.version
+    → new.keeps.dirty ≡ old.keeps.dirty
     → ∥ HasRecordAt old.keeps.records name number ∥₁
     → MayRename old.keeps.version old.keeps.records number entry → entry.name.bytes.items ≡ name_after
     → new.keeps.records ≡ slice_set old.keeps.records number (Some entry)

@@ -141,7 +141,8 @@ all_done made devices (then_done {old = old} mid event reply done rest) volumes 
     let then = all_done made devices rest (left_by (extents_in made.geometry) event volumes) (safe_after made devices event reply old mid volumes safe done) in
     record { safe = then.safe; right = (right_answer made devices event reply old mid volumes safe done, then.right) }
 all_done made devices (then_committed {old = old} {new = new} {events = events} mid writes done rest) volumes safe =
-    let then = all_done made devices rest (after_all (extents_in made.geometry) writes volumes) (safe_committed made devices writes old mid volumes safe done) in
+    let then = all_done made devices rest (after_all (extents_in made.geometry) writes volumes) (safe_committed made devices writes old mid volumes safe done)
+    in
     record {
       safe = subst (λ (those : VolumeMap). IsSafeStore made devices new those) (sym (then_left (extents_in made.geometry) writes events volumes)) then.safe;
       right = (right_writes made devices writes old mid volumes safe done, then.right);

@@ -364,7 +364,8 @@ ahead_among (call ∷ calls) devices was one_out rebuilding lets more =
     call_leaves_by devices call was one_out rebuilding lets.0
     (fewer_below devices.format devices.rows was.position (steps_of call.event) (steps_among calls) more) in
     ap (after_calls calls) left
-    ∙ ahead_among calls devices here one_out rebuilding (subst (λ (set : SetState). AllLetRebuildGoOn devices set calls) left lets.1) (omega (arith, more, both))
+    ∙ ahead_among calls devices here one_out rebuilding (subst (λ (set : SetState). AllLetRebuildGoOn devices set calls) left lets.1)
+    (omega (arith, more, both))
     ∙ ap (made was.states) both
 
 pub rebuild_goes_on_among_others : (devices : Devices) (calls : List Call) (was : SetState) → NoFaults devices was → IsOneOut was.states

@@ -26,7 +26,8 @@ use Rattle.volume_table.specs.Shows.{AreBlocksIn, IsOfVolume, AreShown, Shows, H
 use Rattle.volume_table.specs.ShowsLaw.{TablesHaveOneSpelling}
 use Rattle.volume_table.proofs.CleanExtents.{clean_written, same_sector}
 use Rattle.volume_table.proofs.VolumeLemmas.{same_name_is, same_name_itself, known_by_blocks}
-use Rattle.volume_table.proofs.StepLemmas.{IsWithin, is_within, step_keeps, changed_if_done, done_if_not_refused, not_the_one, others_stay, write_changes_its_blocks}
+use Rattle.volume_table.proofs.StepLemmas.{IsWithin, is_within, step_keeps, changed_if_done, done_if_not_refused, not_the_one, others_stay}
+use Rattle.volume_table.proofs.StepLemmas.{write_changes_its_blocks}
 use Rattle.volume_table.proofs.TableSizes.{same_first, same_map, short_names, table_short}
 
 -- the test of a name

@@ -1,5 +1,6 @@
 -- An event is not refused for two lost slots where one is lost at most.
-use Rattle.std.proofs.Common.{◌≡◌, ◌≢◌, ◌⊎◌, inl, inr, ℕ, ◌+◌, ◌<◌, Bool, true, false, List, length, take, Option, Some, None, Err, refl, sym, ◌∙◌, ap, subst, arith}
+use Rattle.std.proofs.Common.{◌≡◌, ◌≢◌, ◌⊎◌, inl, inr, ℕ, ◌+◌, ◌<◌, Bool, true, false, List, length, take, Option, Some, None, Err, refl, sym, ◌∙◌, ap, subst}
+use Rattle.std.proofs.Common.{arith}
 use Rattle.std.proofs.Common.{cond}
 use Rattle.std.specs.Prelude.{IfSome, IsSome, not, slice_set, slice_index_or, nat_le}
 use Rattle.std.proofs.lemmas.Bool.{cases_eq, cases_lt}

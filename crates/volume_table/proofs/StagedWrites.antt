@@ -56,7 +56,8 @@ module _ (extents : ExtentLayout) (owners : List (Option Owned)) (number at : �
       → slice_index_or (written V new) (sector_of_block extents extent (at + j)) [] ≡ slice_index_or blocks j []
   inside j extent below here =
       let has = staged.taken j (omega (arith, below, placed.as_many)) in
-      let place : logical_at new has.which ≡ sector_of_block extents extent (at + j) = ap (λ (s : ℕ × Block). s.0) has.is ∙ placed.at_sector j below extent here in
+      let place : logical_at new has.which ≡ sector_of_block extents extent (at + j) = ap (λ (s : ℕ × Block). s.0) has.is ∙ placed.at_sector j below extent
+      here in
       ap (λ (s : ℕ). slice_index_or (written V new) s []) (sym place)
       ∙ written_given V new has.which staged.apart has.within (within has.which has.within)
       ∙ ap (λ (s : ℕ × Block). s.1) has.is
@@ -272,7 +273,8 @@ staged_committed honest writes sectors old new result holds of_set keeps goes en
     fits lost V rests k within = omega (arith, of_set k within, rests_long old.array lost V rests)
 
     changes : ChangesList honest 1 (IsSameOr (Leaves sectors)) (Leaves sectors) old.array new.array result
-    changes = changes_more honest 1 1 (IsSameOr (λ V W. W ≡ written V sectors)) (λ V W. W ≡ written V sectors) (IsSameOr (Leaves sectors)) (Leaves sectors) old.array new.array result
+    changes = changes_more honest 1 1 (IsSameOr (λ V W. W ≡ written V sectors)) (λ V W. W ≡ written V sectors) (IsSameOr (Leaves sectors)) (Leaves sectors)
+        old.array new.array result
         (omega arith) (changes_commit honest sectors old.array new.array result commits)
         (λ lost V W rests passes. elim passes [
           | inl same ↦ inl same
@@ -282,7 +284,8 @@ staged_committed honest writes sectors old new result holds of_set keeps goes en
 
     shows : (V W : List Block) (volumes : VolumeMap) → ShowsBy (extents_for_store old) old.keeps V volumes → Leaves sectors V W
         → ShowsBy (extents_for_store old) old.keeps W (after_all (extents_for_store old) writes volumes)
-    shows V W volumes shown (within, is) = subst (λ (l : List Block). ShowsBy (extents_for_store old) old.keeps l (after_all (extents_for_store old) writes volumes))
+    shows V W volumes shown (within, is) = subst (λ (l : List Block). ShowsBy (extents_for_store old) old.keeps l
+        (after_all (extents_for_store old) writes volumes))
         (sym is) (holds.shows V volumes within shown)
 
     on_the_way : ShowsEither old (after_all (extents_for_store old) writes) (IsSameOr (Leaves sectors))
@@ -297,7 +300,8 @@ staged_committed honest writes sectors old new result holds of_set keeps goes en
     by_result : (answer : Answer) → result ≡ answer → CommitsWrites honest writes old new answer
     by_result (Ok unit) is = writes_done honest writes sectors (IsSameOr (Leaves sectors)) (Leaves sectors) old new holds fits on_the_way left keeps (goes is)
         (subst (λ (a : Answer). ChangesList honest 1 (IsSameOr (Leaves sectors)) (Leaves sectors) old.array new.array a) is changes)
-    by_result (Err refusal) is = writes_ended honest writes sectors (IsSameOr (Leaves sectors)) (Leaves sectors) old new holds fits on_the_way left keeps refusal (ends refusal is)
+    by_result (Err refusal) is = writes_ended honest writes sectors (IsSameOr (Leaves sectors)) (Leaves sectors) old new holds fits on_the_way left keeps
+        refusal (ends refusal is)
         (subst (λ (a : Answer). ChangesList honest 1 (IsSameOr (Leaves sectors)) (Leaves sectors) old.array new.array a) is changes) (commits.cause refusal is)
 
 -- Where nothing waits, nothing is done.

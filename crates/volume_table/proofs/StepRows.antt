@@ -50,7 +50,8 @@ one_fewer One rows position more = omega arith
 one_fewer Two rows position more = omega arith
 
 -- so many of them, and then more
-pub stepped_both : (format : Format) (position m n : ℕ) → position + rebuild_rows format * m + rebuild_rows format * n ≡ position + rebuild_rows format * (m + n)
+pub stepped_both : (format : Format) (position m n : ℕ) → position + rebuild_rows format * m + rebuild_rows format * n ≡ position + rebuild_rows format *
+    (m + n)
 stepped_both One position m n = omega arith
 stepped_both Two position m n = omega arith
 

@@ -301,7 +301,11 @@ module _ (table : Table) (owners : List (Option Owned)) (number at end : ℕ) (r
       omega (arith, fits, back, mod_below row geometry.chunk (omega (arith, chunk_least geometry.limits)))
     where
       omega_some : 0 < stripe_blocks table.geometry.members table.geometry.chunk
-      omega_some = omega (arith, stripe_least table.geometry.members table.geometry.chunk table.geometry.limits.members_least (chunk_least table.geometry.limits))
+      omega_some = omega (
+        arith,
+        stripe_least table.geometry.members table.geometry.chunk table.geometry.limits.members_least
+            (chunk_least table.geometry.limits),
+      )
 
   -- they may be made zero
   pub may_zero : geometry.format ≡ Two → MayZero table built

@@ -58,14 +58,16 @@ table_stays {extents} version owners number at blocks before left is =
     (omega (arith, below, same, table_length_most version, extents.limits.above))))
 
 -- a list with blocks written shows the volumes after the write, by the same table
-pub write_shows : (extents : ExtentLayout) (table : VolumeTable) (owners : List (Option Owned)) (name : List ℕ) (number at : ℕ) (blocks before left : List Block)
+pub write_shows : (extents : ExtentLayout) (table : VolumeTable) (owners : List (Option Owned)) (name : List ℕ) (number at : ℕ)
+    (blocks before left : List Block)
     (volumes : VolumeMap)
     → AreKept extents table owners → HasRecordAt table.records name number → All IsBlock blocks → ShowsBy extents table before volumes
     → None ≡ refusal_of extents (Write name at blocks) volumes → IsWrittenAt extents owners number at blocks before left
     → ShowsBy extents table left (done (Write name at blocks) volumes)
 write_shows extents table owners name number at blocks before left volumes kept found whole shown admitted is = record {
   shows = after;
-  by = one_table extents.format left after.table table after.of_set.version kept.of_set.version after.spelled (table_stays table.version owners number at blocks before left is
+  by = one_table extents.format left after.table table after.of_set.version kept.of_set.version after.spelled
+      (table_stays table.version owners number at blocks before left is
       ∙ subst (Spell before) shown.by shown.shows.spelled);
 }
   where

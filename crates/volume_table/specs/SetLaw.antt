@@ -108,15 +108,16 @@ abbrev pub steps_among : List Call → ℕ
 steps_among [] = 0
 steps_among (call ∷ calls) = steps_of call.event + steps_among calls
 
--- Whatever other calls stand between the steps, each step but the last brings the position as many rows on as it may have and answers it, and no other call moves
--- it.
+-- Whatever other calls stand between the steps, each step but the last brings the position as many rows on as it may have and answers it, and no other call
+-- moves it.
 abbrev pub RebuildGoesOnAmongOthers : Type 0
 RebuildGoesOnAmongOthers = (devices : Devices) (calls : List Call) (set : SetState) → NoFaults devices set → IsOneOut set.states
     → has_rebuilding set.states ≡ true
     → AllLetRebuildGoOn devices set calls → steps_among calls < steps_left devices set
     → (after_calls calls set ≡ record { states = set.states; position = set.position + step_rows devices * steps_among calls })
     × (steps_among calls + 1 < steps_left devices set
-    → set_reply devices (RebuildStep (step_rows devices)) (after_calls calls set) ≡ Progressed (Position (set.position + step_rows devices * (steps_among calls + 1))))
+    → set_reply devices (RebuildStep (step_rows devices)) (after_calls calls set) ≡ Progressed
+    (Position (set.position + step_rows devices * (steps_among calls + 1))))
 
 -- and the rebuild is complete right after the last step that is left, whatever stood between
 abbrev pub RebuildIsCountedAmongOthers : Type 0

@@ -51,7 +51,8 @@ row_same members first second i values mask each = map-range (sector_with first 
     ∙ ap (λ (s : Bytes). cond (has_bit (row_mask second i) k) s (slice_index_or values k [])) (each k (omega (arith, below))))
 
 -- a row with another sector of those that the entry holds
-row_put : (members : ℕ) (entry : Entry) (i member : ℕ) (value : Bytes) (values : List Bytes) → members ≤ MOST_MEMBERS → i < length (numbers_of entry) → member < members
+row_put : (members : ℕ) (entry : Entry) (i member : ℕ) (value : Bytes) (values : List Bytes) → members ≤ MOST_MEMBERS → i < length (numbers_of entry)
+    → member < members
     → has_bit (row_mask entry i) member ≡ true
     → row_with members (with_sector entry i member value) i values ≡ slice_set (row_with members entry i values) member value
 row_put members entry i member value values few below within held =

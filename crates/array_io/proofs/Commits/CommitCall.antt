@@ -234,7 +234,8 @@ module _ (spellings : Spellings) (honest : Type 0) (number : ℕ) (sectors : Giv
     module _ (fair : honest) (lost : Option Lost) (V : List Bytes) (rests : RestsOn Was lost V) where
       -- the list is what reads give
       rests_mid : RestsAfter lost Mid V
-      rests_mid = writable_rests spellings panel1 panel.devices number table table1 lost V h1 (same_mid steps) (mid steps fair lost V rests) (leaves_mid steps fair lost V rests)
+      rests_mid = writable_rests spellings panel1 panel.devices number table table1 lost V h1 (same_mid steps) (mid steps fair lost V rests)
+          (leaves_mid steps fair lost V rests)
 
       listed : logical_list table1.geometry base ≡ V
       listed = rests_mid.rests.listed
@@ -245,7 +246,8 @@ module _ (spellings : Spellings) (honest : Type 0) (number : ℕ) (sectors : Giv
           let there = ((trusts_tells (state_at table1.states member) row table1.position).0 trusted).there in
           let least = member_least table1.geometry member within in
           let live = (mid steps fair lost V rests).from.there member (omega (arith, within)) there in
-          whole_left h1 (readable h1) (leaves_mid steps fair lost V rests) (readable_left h1) member (FIRST_ROW + row) (omega (arith, below, least, live.long_enough)))
+          whole_left h1 (readable h1) (leaves_mid steps fair lost V rests) (readable_left h1) member (FIRST_ROW + row)
+          (omega (arith, below, least, live.long_enough)))
 
       forms : FormsListed table1.geometry sectors (logical_list table1.geometry base) entry
       forms = subst (λ (g : Geometry). FormsListed g sectors (logical_list table1.geometry base) entry) (sym (same_geometry steps fair lost V rests))
@@ -253,7 +255,8 @@ module _ (spellings : Spellings) (honest : Type 0) (number : ℕ) (sectors : Giv
           (formed number record { base = table; lost = lost; logical = V } fair (from_rest fair lost V rests)))
 
       is_formed : IsFormed table1.geometry base sectors (numbers_of entry) values
-      is_formed = forms_list table1.geometry base sectors entry forms may.apart (subst (λ (g : Geometry). AreOfSet g sectors) (sym (same_geometry steps fair lost V rests)) may.of_set)
+      is_formed = forms_list table1.geometry base sectors entry forms may.apart (subst (λ (g : Geometry). AreOfSet g sectors)
+          (sym (same_geometry steps fair lost V rests)) may.of_set)
           refl rests_mid.rests.sound whole_values
 
       pub formed_next : IsFormedNext number table1 h1 sectors seal values formed_body
@@ -309,7 +312,8 @@ module _ (spellings : Spellings) (honest : Type 0) (number : ℕ) (sectors : Giv
 
     module _ (fair : honest) (lost : Option Lost) (V : List Bytes) (rests : RestsOn Was lost V) where
       coming : IsComing (Formed (written V sectors)) seal body (λ k. Awaited) (Putting lost V) table1 h1
-      coming = commit_begins spellings panel1 panel.devices number table table1 lost V h1 (same_mid steps) (mid steps fair lost V rests) (leaves_mid steps fair lost V rests)
+      coming = commit_begins spellings panel1 panel.devices number table table1 lost V h1 (same_mid steps) (mid steps fair lost V rests)
+          (leaves_mid steps fair lost V rests)
           sectors seal values body (next fair lost V rests)
 
       -- at each moment the list is the one before or the one after, where it is so while the entry is put

@@ -23,7 +23,8 @@ read_before {old = old} device at place value read same is = is ∙ ap (λ (disk
     ∙ ap (sector_of (seen old device)) same
 
 -- one more sector of a row
-pub loaded_more : (entry : Entry) (i at member : ℕ) (held : ℕ → Bool) (value : Bytes) (disk : List Bytes) → i < length (numbers_of entry) → member < MOST_MEMBERS
+pub loaded_more : (entry : Entry) (i at member : ℕ) (held : ℕ → Bool) (value : Bytes) (disk : List Bytes) → i < length (numbers_of entry)
+    → member < MOST_MEMBERS
     → has_bit (row_mask entry i) member ≡ true → value ≡ sector_of disk (at + count_held held member)
     → ((k : ℕ) → k < member → held k ≡ true → sector_at entry i k ≡ sector_of disk (at + count_held held k))
     → (k : ℕ) → k < member + 1 → held k ≡ true → sector_at (with_sector entry i member value) i k ≡ sector_of disk (at + count_held held k)

@@ -71,7 +71,13 @@ module _ (geometry : Geometry) (sectors : Given) (places : List Placed) (entry :
         let member = (placed_at places touched.place).member in
         record {
           member = member;
-          given = given_there (row_at (numbers_of entry) i) member (record { place = touched.place; within = touched.within; in_row = touched.is; on_member = refl });
+          given = given_there (row_at (numbers_of entry) i) member (record {
+            place = touched.place;
+            within = touched.within;
+            in_row = touched.is;
+            on_member =
+                refl;
+          });
         };
   }
 

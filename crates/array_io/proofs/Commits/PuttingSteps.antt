@@ -303,7 +303,8 @@ module _ (spellings : Spellings) (honest : Type 0) (slot number : ℕ) (table : 
         part_steps spellings honest (IsPutBefore slot seal body) (IsPutBefore (slot + 1) seal body) slot number table
         old_panel mid_panel old mid true_old true_mid new_panel new_table new done answer still more true_new its_slots counted
         (member_calls honest table (rows_held entry) slot old_panel mid_panel old mid done puts)
-        (λ fair from loss is. rows_part spellings seal body from table old mid (is_ok done) slot counted (puts.off fair) within (rows_held entry) its.of_seal.rows
+        (λ fair from loss is. rows_part spellings seal body from table old mid (is_ok done) slot counted (puts.off fair) within (rows_held entry)
+        its.of_seal.rows
         (λ i inside. its_held i slot its inside within) (λ i inside held. its_sector i slot its inside within held) is honest fair old_panel mid_panel done puts
         (λ all. by_ok done all)) ends
       where

@@ -110,7 +110,8 @@ module _ (number : ℕ) (table : Table) (h : History) (seal : Seal) (entry : Ent
       of_set = its_id;
       of_format = its_form.of_format;
       own_place = refl;
-      below = subst (λ (rows : List ℕ). (i : ℕ) → i < length rows → row_at rows i < rows_of table.geometry.chunk table.geometry.stripes) (sym its_form.rows) below;
+      below = subst (λ (rows : List ℕ). (i : ℕ) → i < length rows → row_at rows i < rows_of table.geometry.chunk table.geometry.stripes) (sym its_form.rows)
+          below;
       held = λ i within. record {
         of_set = λ member held. ltb-true member members (sym (holds_all i member within) ∙ held);
         has_parity = λ member parity. holds_all i member within ∙ lt-ltb member members parity.in_set;

@@ -49,8 +49,8 @@ impl<B: Bank> Array<B> {
         })
     }
 
-    /// Writes the sectors of a batch, 1 at least, of a set of this geometry (conditions), by one entry: as `commit` does
-    /// those that it is given. Refused as `commit` is.
+    /// Writes the sectors of a batch, 1 at least, of a set of this geometry (conditions), by one entry: as `commit`
+    /// does those that it is given. Refused as `commit` is.
     pub fn commit_batch(&mut self, batch: &Batch) -> Result<(), Refusal>
         requires some { 1 ≤ length (waiting batch.now) }
         requires same { batch.now.geometry ≡ self.old.table.geometry }

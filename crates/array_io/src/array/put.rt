@@ -119,8 +119,8 @@ pub fn put_on_members<B: Bank>(
 /// 2^62.
 ///
 /// The slot is a journal, for the body one that it fits, or for the rows a member; the entry's rows are then those of
-/// the seal, and rows of the set. The set's slots are slots of the bank, each long enough where it is up, and where the table does not call it missing
-/// (conditions).
+/// the seal, and rows of the set. The set's slots are slots of the bank, each long enough where it is up, and where the
+/// table does not call it missing (conditions).
 pub(crate) fn part_or_fail_slot<B: Bank>(
     bank: &mut B,
     table: &mut Table,
@@ -199,8 +199,8 @@ pub fn done_or_fail_slot<B: Bank>(
 }
 
 // Writes the body of an entry, which fits a half of a journal, to a journal, a slot of the bank with as many sectors as
-// a journal of the set's format has at least where its device is up (conditions), sector after sector, and makes it safe by one flush. `Stop::Down`
-// names the journal, `Stop::Worn` says that the count of device calls stands at 2^62.
+// a journal of the set's format has at least where its device is up (conditions), sector after sector, and makes it
+// safe by one flush. `Stop::Down` names the journal, `Stop::Worn` says that the count of device calls stands at 2^62.
 fn put_body<B: Bank>(
     bank: &mut B,
     journal: u8,

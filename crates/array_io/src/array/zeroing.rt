@@ -14,9 +14,10 @@ use sector_model::{Bank, GREATEST_COUNT, Refusal};
 
 impl<B: Bank> Array<B> {
     /// Makes all data of whole rows zero: at each moment a crash leaves all of them as they were or all zero, and after
-    /// `Ok` zero. They are one entry of the journal that has no body: its seal alone says which rows are zero. No sector
-    /// is read; each member's sector of each row is written once, zero, parity among them. Each journal is flushed before
-    /// its seal, as for any entry, though nothing was written there: that is a call of the bank, and no sync of a file.
+    /// `Ok` zero. They are one entry of the journal that has no body: its seal alone says which rows are zero. No
+    /// sector is read; each member's sector of each row is written once, zero, parity among them. Each journal is
+    /// flushed before its seal, as for any entry, though nothing was written there: that is a call of the bank, and no
+    /// sync of a file.
     ///
     /// The rows are runs of zeros, with 1 row at least, of a set of format 2 (conditions). Refused as `commit` is.
     pub fn commit_zeros(&mut self, rows: &RunsBuilder) -> Result<(), Refusal>

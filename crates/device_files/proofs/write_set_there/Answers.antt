@@ -18,7 +18,8 @@ returns-in_err-write_text g c =
 pub returns : goal.returns
 returns g c =
     let last = c.write_text-2 in
-    subst (λ (line : List ℕ). WritesText (g.E.Write.contents c.args.err.now) (g.E.Write.contents last.new.writer) (codes "there is a set: " ++ line) last.result)
+    subst (λ (line : List ℕ). WritesText (g.E.Write.contents c.args.err.now) (g.E.Write.contents last.new.writer) (codes "there is a set: " ++ line)
+    last.result)
     c.id_line.ensures
     (writes_after last.result _ _ _ (codes "there is a set: ") _ c.in_ok-write_text.ensures.ok
     (record { ok = last.ensures.ok; part = last.ensures.part; kind = last.ensures.kind }))

@@ -347,8 +347,8 @@ fn last_sectors(rt: HostRuntime) {
 }
 
 // Where a logical sector of a set lies, and the member with the parity of its row, in numbers of 128 bits: the parity
-// of stripe 0 is on the last member, and moves one down from stripe to stripe; the chunks of a stripe lie on the members
-// after it.
+// of stripe 0 is on the last member, and moves one down from stripe to stripe; the chunks of a stripe lie on the
+// members after it.
 fn place_in_128_bits(geometry: &Geometry, logical: u64) -> (Place, u8) {
     let members = u128::from(geometry.members.max(2));
     let sectors = u128::from(geometry.chunk.max(1));

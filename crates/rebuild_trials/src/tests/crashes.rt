@@ -243,8 +243,8 @@ fn check_call_in_turn(rt: &(impl Abort + AllocGlobal), case: &Case, done: &Calle
     check_crash(rt, case, done, (call, in_turn(call.wrapping_add(1))), left);
 }
 
-/// Checks the crashes before the first device call of a case, and after each that is no read: of a set of format 1 and 3
-/// members by each choice.
+/// Checks the crashes before the first device call of a case, and after each that is no read: of a set of format 1 and
+/// 3 members by each choice.
 pub(crate) fn check_crashes(rt: &(impl Abort + AllocGlobal), case: &Case) {
     let done = call_made(rt, case);
     assert!(rt; done.from < done.published);

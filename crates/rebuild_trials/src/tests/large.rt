@@ -12,8 +12,8 @@ use sector_model::Bank;
 use std::process::Abort;
 use superblock::State;
 
-// 72 rows, more than a step has in a set of format 1, and 144 data sectors: logical sectors 0 to 15 are the data of rows
-// 0 to 7, on members 0 and 1, 16 to 31 that of rows 8 to 15, on members 2 and 0, and so on.
+// 72 rows, more than a step has in a set of format 1, and 144 data sectors: logical sectors 0 to 15 are the data of
+// rows 0 to 7, on members 0 and 1, 16 to 31 that of rows 8 to 15, on members 2 and 0, and so on.
 const LARGE: Shape = Shape {
     format: Format::Two,
     members: 3,
@@ -140,8 +140,8 @@ fn crashes_in_a_commit_of_2_apart(rt: HostRuntime) {
     check_commit(&rt, after_entry(&rt, 2), &[64, 74], 2 + 2 + 3);
 }
 
-// The entry is of three runs, over three stripes: logical sectors 36 to 67 are those of rows 20 to 23 on member 1 and of
-// rows 16 to 23 on member 2, with the parity on member 0; of rows 24 to 31 on members 0 and 1, with the parity on
+// The entry is of three runs, over three stripes: logical sectors 36 to 67 are those of rows 20 to 23 on member 1 and
+// of rows 16 to 23 on member 2, with the parity on member 0; of rows 24 to 31 on members 0 and 1, with the parity on
 // member 2; and of rows 32 to 35 on member 2, with the parity on member 1.
 #[test]
 fn crashes_in_a_commit_of_32(rt: HostRuntime) {

@@ -22,8 +22,8 @@ const MOST_SETS: u8 = 20;
 /// given, by reads alone, and writes what it found: as lines of text, or as JSON, a line for each set; and says how
 /// well the worst is, or what was said before, if that is worse.
 ///
-/// `NoSet` where `examine` finds no set of the id, or none of any, `Worn` where the count of device calls stands at 2^62,
-/// and `Memory`, each with nothing written; `WriteFault`, where a beginning of the text may be written.
+/// `NoSet` where `examine` finds no set of the id, or none of any, `Worn` where the count of device calls stands at
+/// 2^62, and `Memory`, each with nothing written; `WriteFault`, where a beginning of the text may be written.
 pub fn examine_on<W: Write, B: Bank + Drop>(
     alloc: Global,
     bank: B,

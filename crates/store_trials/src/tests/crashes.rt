@@ -12,9 +12,9 @@ use crate::testing::same;
 use sector_model::{Bank, Choice, MemBank};
 use std::process::Abort;
 
-/// A call on a set of 3 members, what was done before it, and the volumes before it and after it. Its last commit, which
-/// is of the table or the write itself, has so many rows, of each of which one sector is given, and writes to so many
-/// members: two where all of these sectors are of one, and all parity of another.
+/// A call on a set of 3 members, what was done before it, and the volumes before it and after it. Its last commit,
+/// which is of the table or the write itself, has so many rows, of each of which one sector is given, and writes to so
+/// many members: two where all of these sectors are of one, and all parity of another.
 #[derive(Clone, Copy)]
 pub(crate) struct Case<'a> {
     pub(crate) shape: Shape,

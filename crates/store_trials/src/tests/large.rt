@@ -1,5 +1,5 @@
-//! Sets of format 2: where the table of version 3 stands, that clean extents cost no entry, and crashes where blocks are
-//! given out again.
+//! Sets of format 2: where the table of version 3 stands, that clean extents cost no entry, and crashes where blocks
+//! are given out again.
 //!
 //! The table is sectors 0 to 24: the first record is in sector 1, and the first 128 entries of extents in sector 17, in
 //! rows 1 and 9. The one has its data on member 0 and its parity on 2, the other on 2 and 1: a commit of both reads two
@@ -332,8 +332,8 @@ fn crashes_in_remove_of_format_2(rt: HostRuntime) {
     check_crashes(&rt, &REMOVED, None, ABSENT);
 }
 
-// Block 15 lies in the extent that the volume has, and block 16 in a new one. Both extents are dirty, and both blocks had
-// other bytes before.
+// Block 15 lies in the extent that the volume has, and block 16 in a new one. Both extents are dirty, and both blocks
+// had other bytes before.
 static EXTENDED: Case = Case {
     shape: EIGHT,
     before: &[

@@ -26,8 +26,8 @@ pub struct Growth {
 }
 
 /// Gives a volume new blocks: takes the extents that it lacks, makes those of the new blocks zero that lie in dirty
-/// extents, while no volume shows them, and puts the table that says of them, by one commit. Refused as a commit is; the map and the table in memory then
-/// have the new blocks.
+/// extents, while no volume shows them, and puts the table that says of them, by one commit. Refused as a commit is;
+/// the map and the table in memory then have the new blocks.
 pub fn grow<B: Bank>(
     array: &mut Array<B>,
     table: &mut VolumeTable,
@@ -42,8 +42,9 @@ pub fn grow<B: Bank>(
     ensures version { table.new.version ≡ table.old.version }
     ensures records { table.new.records ≡ slice_set table.old.records growth.volume (Some growth.entry) }
     ensures dirty { table.new.dirty ≡ table.old.dirty }
-    ensures taken { IsTaken table.old.dirty map.old map.new growth.volume (let each = (extents_in array.old.table.geometry).blocks in
-        extents_for each growth.entry.blocks - extents_for each growth.first) }
+    ensures taken { IsTaken table.old.dirty map.old map.new growth.volume
+        (let each = (extents_in array.old.table.geometry).blocks in extents_for each growth.entry.blocks
+        - extents_for each growth.first) }
     ensures changes { ChangesList (IsHonest array.old) (growth.entry.blocks - growth.first + 1)
         (MayGrow (extents_in array.old.table.geometry) table.old table.new growth.volume growth.first
         growth.entry.blocks) (Grows (extents_in array.old.table.geometry) table.old table.new growth.volume

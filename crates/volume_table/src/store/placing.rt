@@ -94,9 +94,9 @@ fn placed(
 }
 
 /// Makes those of the blocks `first` to `last` - 1 of a volume zero that lie in dirty extents. In a set of format 2 one
-/// commit makes as many whole stripes zero as an entry has room for; what is beside these is written by commits of up to
-/// 32 blocks, as all is in a set of format 1. The others are not written. The conditions are those of `write_blocks`, and it is refused as a commit is;
-/// some of the blocks may then be zero.
+/// commit makes as many whole stripes zero as an entry has room for; what is beside these is written by commits of up
+/// to 32 blocks, as all is in a set of format 1. The others are not written. The conditions are those of
+/// `write_blocks`, and it is refused as a commit is; some of the blocks may then be zero.
 pub fn zero_blocks<B: Bank>(
     array: &mut Array<B>,
     map: &ExtentMap,
@@ -147,8 +147,8 @@ struct Stretch {
     dirty: bool,
 }
 
-// The next blocks of a volume from block `at` on, below `last`, that are to be made zero by one commit of so many blocks
-// at most, or that need not be.
+// The next blocks of a volume from block `at` on, below `last`, that are to be made zero by one commit of so many
+// blocks at most, or that need not be.
 fn next_stretch(
     extents: &ExtentLayout,
     map: &ExtentMap,

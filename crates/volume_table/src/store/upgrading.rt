@@ -13,8 +13,8 @@ use sector_model::{Bank, Refusal};
 impl<B: Bank> Store<B> {
     /// Makes the table of volumes one of version 2, for up to 64 volumes and names of up to 63 bytes, by one commit of
     /// all its 25 sectors: at each moment a crash leaves the volumes in a table of version 1, or the same ones in a
-    /// table of version 2. Records and extents keep their numbers. Where the table has version 2, or 3, nothing is done.
-    /// It takes no memory.
+    /// table of version 2. Records and extents keep their numbers. Where the table has version 2, or 3, nothing is
+    /// done. It takes no memory.
     ///
     /// It is refused with `TwoLost` and `Worn` alone, which end the store.
     pub fn upgrade(&mut self) -> Result<(), Refusal>

@@ -21,9 +21,9 @@ use extents::{ExtentLayout, ExtentMap};
 use layout_map::{Format, Geometry};
 use sector_model::{Bank, Refusal};
 
-/// Gathers the rows of whole stripes that blocks of a volume fill from block `at` on, below `last`, in dirty extents, as
-/// many as one entry has room for. The answer is the block after the last of them, `at` where there is none: so it is
-/// in a set of format 1.
+/// Gathers the rows of whole stripes that blocks of a volume fill from block `at` on, below `last`, in dirty extents,
+/// as many as one entry has room for. The answer is the block after the last of them, `at` where there is none: so it
+/// is in a set of format 1.
 ///
 /// The map is that of the set's extents, and each of the blocks has an extent of the volume (conditions).
 pub(super) fn gather_stripes(

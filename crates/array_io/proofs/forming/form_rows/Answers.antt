@@ -53,14 +53,16 @@ held_of_form geometry sectors places entry new plan form =
 
 pub form_parities-requires-clause-rows : goal.form_parities-requires-clause-rows
 form_parities-requires-clause-rows g c =
-    let plan = its_plan c.args.table.now.geometry c.args.writes.now.sectors.now c.args.writes.now.places.now (runs_in c.args.writes.now.rows.now) c.set_rows.new.self
+    let plan = its_plan c.args.table.now.geometry c.args.writes.now.sectors.now c.args.writes.now.places.now (runs_in c.args.writes.now.rows.now)
+    c.set_rows.new.self
     c.set_rows.ensures c.requires.planned in
     (rows_of_form c.args.table.now.geometry c.args.writes.now.sectors.now c.args.writes.now.places.now c.set_rows.new.self c.put_given.new.entry plan
     c.put_given.ensures.form c.requires.may.least c.requires.may.of_set).of_set
 
 pub form_parities-requires-clause-held : goal.form_parities-requires-clause-held
 form_parities-requires-clause-held g c = λ i member inside parity.
-    let plan = its_plan c.args.table.now.geometry c.args.writes.now.sectors.now c.args.writes.now.places.now (runs_in c.args.writes.now.rows.now) c.set_rows.new.self
+    let plan = its_plan c.args.table.now.geometry c.args.writes.now.sectors.now c.args.writes.now.places.now (runs_in c.args.writes.now.rows.now)
+    c.set_rows.new.self
     c.set_rows.ensures c.requires.planned in
     (held_of_form c.args.table.now.geometry c.args.writes.now.sectors.now c.args.writes.now.places.now c.set_rows.new.self c.put_given.new.entry plan
     c.put_given.ensures.form i member inside).1 (inr parity)
@@ -76,14 +78,16 @@ returns-clause-steps g c = c.form_parities.ensures.steps
 
 pub returns-clause-rows : goal.returns-clause-rows
 returns-clause-rows g c =
-    let plan = its_plan c.args.table.now.geometry c.args.writes.now.sectors.now c.args.writes.now.places.now (runs_in c.args.writes.now.rows.now) c.set_rows.new.self
+    let plan = its_plan c.args.table.now.geometry c.args.writes.now.sectors.now c.args.writes.now.places.now (runs_in c.args.writes.now.rows.now)
+    c.set_rows.new.self
     c.set_rows.ensures c.requires.planned in
     in_any_case c.form_parities.result _ (rows_of_form c.args.table.now.geometry c.args.writes.now.sectors.now c.args.writes.now.places.now c.set_rows.new.self
     c.form_parities.new.entry plan (c.form_parities.ensures.form ∙ c.put_given.ensures.form) c.requires.may.least c.requires.may.of_set)
 
 pub returns-clause-held : goal.returns-clause-held
 returns-clause-held g c =
-    let plan = its_plan c.args.table.now.geometry c.args.writes.now.sectors.now c.args.writes.now.places.now (runs_in c.args.writes.now.rows.now) c.set_rows.new.self
+    let plan = its_plan c.args.table.now.geometry c.args.writes.now.sectors.now c.args.writes.now.places.now (runs_in c.args.writes.now.rows.now)
+    c.set_rows.new.self
     c.set_rows.ensures c.requires.planned in
     in_any_case c.form_parities.result _ (held_of_form c.args.table.now.geometry c.args.writes.now.sectors.now c.args.writes.now.places.now c.set_rows.new.self
     c.form_parities.new.entry plan (c.form_parities.ensures.form ∙ c.put_given.ensures.form))
@@ -97,7 +101,8 @@ given_stays : (geometry : Geometry) (sectors : Given) (places : List Placed) (en
 given_stays geometry sectors places entry put formed plan of_put has others k i member within inside lies =
     let numbers : numbers_of formed ≡ numbers_of put = same_numbers formed put of_put in
     let here = subst (λ (list : List ℕ). LiesAt geometry (logical_at sectors k) (row_at list i) member) numbers lies in
-    others i member (omega (arith, place_member_below geometry.limits here, geometry.limits.members_most)) (λ parity. place_is_no_parity geometry.limits here parity)
+    others i member (omega (arith, place_member_below geometry.limits here, geometry.limits.members_most))
+    (λ parity. place_is_no_parity geometry.limits here parity)
     ∙ planned_given geometry sectors places entry plan put has k i member within (omega (arith, inside, ap length numbers)) here
 
 pub returns-clause-formed : goal.returns-clause-formed

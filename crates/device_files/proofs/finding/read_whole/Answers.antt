@@ -7,7 +7,8 @@ use Rattle.device_files.proofs.finding.read_whole.Goals.{in-Ok, in-Err+else-ne}
 
 pub returns-then-done-clause-read : goal.returns-then-done-clause-read
 returns-then-done-clause-read g c = λ tells.
-    sector_read (g.F.Growing.told c.args.file.now) (g.F.BankFile.left c.args.file.now) c.loop.sector c.args.place 512 c.loop.invariant.long (c.requires.within tells)
+    sector_read (g.F.Growing.told c.args.file.now) (g.F.BankFile.left c.args.file.now) c.loop.sector c.args.place 512 c.loop.invariant.long
+    (c.requires.within tells)
     (read_same _ _ _ _ _ _ (omega (arith, c.if-done.true, c.loop.invariant.done)) (c.loop.invariant.read tells) (λ k within. refl))
 
 pub loop-preserved : goal.loop-preserved

@@ -1,4 +1,5 @@
-use Rattle.std.proofs.Common.{◌≡◌, ℕ, List, Bool, Option, ◌+◌, ◌*◌, ◌/◌, ◌%◌, [], ◌∷◌, ◌++◌, Some, None, length, get_or, sym, ap, ◌∙◌, subst, length-append, arith}
+use Rattle.std.proofs.Common.{◌≡◌, ℕ, List, Bool, Option, ◌+◌, ◌*◌, ◌/◌, ◌%◌, [], ◌∷◌, ◌++◌, Some, None, length, get_or, sym, ap, ◌∙◌, subst, length-append}
+use Rattle.std.proofs.Common.{arith}
 use Rattle.extents.specs.declared.owned.Owned.{Owned}
 use Rattle.extents.specs.Cells.{IsSaid, cell, extent_cell}
 use Rattle.extents.specs.Versions.{record_sectors, tells_dirty}

@@ -33,7 +33,8 @@ loop-number-preserved c =
     let all = c.loop-number.invariant.long in
     record {
       long = length-put_mid (4 * number) (4 * number + 4 - 4 * number) c.loop-number.to new (omega arith) (omega arith) ∙ all;
-      done = cell_written entry_bytes 4 no_entry entries number c.loop-number.to new (omega (arith, below, length-entries_of version owners dirty)) (omega arith) long
+      done = cell_written entry_bytes 4 no_entry entries number c.loop-number.to new (omega (arith, below, length-entries_of version owners dirty))
+          (omega arith) long
           is c.loop-number.invariant.done;
     }
 

@@ -49,7 +49,8 @@ returns g c =
           let stop = stopped_by _ _ done status st (one_of line done status health ended is st one) does.stopped c.folder_status-status.ensures.told in
           let unwritten = does.unwritten beside in
           let cut = does.cut beside in
-          unmade_by c.args.drawn line _ _ _ (λ text. IsToldAfter g.E.Write.contents text c.args.err.now c.folder_status-status.new.err) _ stop.0 (c.do_line-done.new.err, does.passed, stop.3) (rw stop.1 at unwritten) (rw stop.1 at cut);
+          unmade_by c.args.drawn line _ _ _ (λ text. IsToldAfter g.E.Write.contents text c.args.err.now c.folder_status-status.new.err) _ stop.0
+          (c.do_line-done.new.err, does.passed, stop.3) (rw stop.1 at unwritten) (rw stop.1 at cut);
       checked = checked_of line done status health ended is st;
       incomplete = λ three.
           let both = incomplete_of line done status health ended is st three in

@@ -1,6 +1,6 @@
 //! Entries of sets of format 2 that no commit forms, put on the journals by hand: of 58 runs, of one run of 2,048 rows,
-//! and of rows of zeros. Assembling copies such an entry to the journal that lacks it and puts it on the members, and so
-//! it does again after a crash in that.
+//! and of rows of zeros. Assembling copies such an entry to the journal that lacks it and puts it on the members, and
+//! so it does again after a crash in that.
 use super::forms::{held_seal, whole_seal};
 use super::{List, check_sectors};
 use crate::assemble;

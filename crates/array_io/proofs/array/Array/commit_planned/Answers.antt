@@ -73,7 +73,8 @@ returns-in_err-put_on_journals-clause-commits g c =
     (g.B.Bank.honest c.form_rows.new.bank) (λ fair. c.form_rows.ensures.honest.0 fair) c.next_seal-seal.result c.form_rows.new.entry
     (values_of c.form_rows.new.table.geometry.members (rows_by c.form_rows.new.table (readable (g.B.Bank.history c.form_rows.new.bank))) c.form_rows.new.entry)
     c.in_ok-form_rows.ensures.steps c.next_seal-seal.ensures.number
-    (formed_next spellings (g.B.Bank.honest c.args.self.now.bank) c.args.self.now.entry c.args.writes.now.sectors.now c.args.self.now.table c.form_rows.new.table
+    (formed_next spellings (g.B.Bank.honest c.args.self.now.bank) c.args.self.now.entry c.args.writes.now.sectors.now c.args.self.now.table
+    c.form_rows.new.table
     (g.B.Bank.panel c.args.self.now.bank) (g.B.Bank.panel c.form_rows.new.bank) (g.B.Bank.history c.args.self.now.bank) (g.B.Bank.history c.form_rows.new.bank)
     (λ fair. g.met.B.Bank.true_to _ fair) (λ fair. g.met.B.Bank.true_to _ (c.form_rows.ensures.honest.0 fair))
     c.requires.may c.next_seal-seal.result c.form_rows.new.entry c.in_ok-form_rows.ensures.steps c.in_ok-form_rows.ensures.formed c.next_seal-seal.ensures.id
@@ -91,7 +92,8 @@ returns-in_err-put_on_members-clause-commits g c =
     (g.B.Bank.honest c.form_rows.new.bank) (λ fair. c.form_rows.ensures.honest.0 fair) c.next_seal-seal.result c.form_rows.new.entry
     (values_of c.form_rows.new.table.geometry.members (rows_by c.form_rows.new.table (readable (g.B.Bank.history c.form_rows.new.bank))) c.form_rows.new.entry)
     c.in_ok-form_rows.ensures.steps c.next_seal-seal.ensures.number
-    (formed_next spellings (g.B.Bank.honest c.args.self.now.bank) c.args.self.now.entry c.args.writes.now.sectors.now c.args.self.now.table c.form_rows.new.table
+    (formed_next spellings (g.B.Bank.honest c.args.self.now.bank) c.args.self.now.entry c.args.writes.now.sectors.now c.args.self.now.table
+    c.form_rows.new.table
     (g.B.Bank.panel c.args.self.now.bank) (g.B.Bank.panel c.form_rows.new.bank) (g.B.Bank.history c.args.self.now.bank) (g.B.Bank.history c.form_rows.new.bank)
     (λ fair. g.met.B.Bank.true_to _ fair) (λ fair. g.met.B.Bank.true_to _ (c.form_rows.ensures.honest.0 fair))
     c.requires.may c.next_seal-seal.result c.form_rows.new.entry c.in_ok-form_rows.ensures.steps c.in_ok-form_rows.ensures.formed c.next_seal-seal.ensures.id
@@ -111,7 +113,8 @@ returns-clause-commits g c =
     (g.B.Bank.honest c.form_rows.new.bank) (λ fair. c.form_rows.ensures.honest.0 fair) c.next_seal-seal.result c.form_rows.new.entry
     (values_of c.form_rows.new.table.geometry.members (rows_by c.form_rows.new.table (readable (g.B.Bank.history c.form_rows.new.bank))) c.form_rows.new.entry)
     c.in_ok-form_rows.ensures.steps c.next_seal-seal.ensures.number
-    (formed_next spellings (g.B.Bank.honest c.args.self.now.bank) c.args.self.now.entry c.args.writes.now.sectors.now c.args.self.now.table c.form_rows.new.table
+    (formed_next spellings (g.B.Bank.honest c.args.self.now.bank) c.args.self.now.entry c.args.writes.now.sectors.now c.args.self.now.table
+    c.form_rows.new.table
     (g.B.Bank.panel c.args.self.now.bank) (g.B.Bank.panel c.form_rows.new.bank) (g.B.Bank.history c.args.self.now.bank) (g.B.Bank.history c.form_rows.new.bank)
     (λ fair. g.met.B.Bank.true_to _ fair) (λ fair. g.met.B.Bank.true_to _ (c.form_rows.ensures.honest.0 fair))
     c.requires.may c.next_seal-seal.result c.form_rows.new.entry c.in_ok-form_rows.ensures.steps c.in_ok-form_rows.ensures.formed c.next_seal-seal.ensures.id

@@ -62,7 +62,8 @@ put_on_members-requires-clause-its_rows g c =
 pub returns-in_err-put_on_journals-clause-commits : goal.returns-in_err-put_on_journals-clause-commits
 returns-in_err-put_on_journals-clause-commits g c =
     let p = err_from_is_err_and c.from_residual.result c.from_residual.ensures.1 in
-    rw (p.1, p.2) (of_runs c.args.self.now.table.geometry (runs_in c.args.rows.now) c.set_rows.new.self c.set_rows.ensures (put_unsealed spellings (g.B.Bank.honest c.args.self.now.bank) c.args.self.now.entry
+    rw (p.1, p.2) (of_runs c.args.self.now.table.geometry (runs_in c.args.rows.now) c.set_rows.new.self c.set_rows.ensures
+    (put_unsealed spellings (g.B.Bank.honest c.args.self.now.bank) c.args.self.now.entry
     (zeros_in c.args.self.now.table.geometry (numbers_of c.set_rows.new.self)) c.args.self.now.table c.args.self.now.table
     (g.B.Bank.panel c.args.self.now.bank) (g.B.Bank.panel c.args.self.now.bank) (g.B.Bank.history c.args.self.now.bank) (g.B.Bank.history c.args.self.now.bank)
     (λ fair. g.met.B.Bank.true_to _ fair) (λ fair. g.met.B.Bank.true_to _ fair) (g.B.Bank.honest c.args.self.now.bank) (λ fair. fair)
@@ -70,7 +71,8 @@ returns-in_err-put_on_journals-clause-commits g c =
     (keeps_none spellings (g.B.Bank.honest c.args.self.now.bank) c.args.self.now.table (g.B.Bank.panel c.args.self.now.bank)
     (g.B.Bank.history c.args.self.now.bank) (λ fair. g.met.B.Bank.true_to _ fair))
     c.next_seal-seal.ensures.number
-    (λ fair lost V rests. zeros_next c.args.self.now.entry c.args.self.now.table (g.B.Bank.history c.args.self.now.bank) c.next_seal-seal.result c.set_rows.new.self
+    (λ fair lost V rests. zeros_next c.args.self.now.entry c.args.self.now.table (g.B.Bank.history c.args.self.now.bank) c.next_seal-seal.result
+    c.set_rows.new.self
     c.next_seal-seal.ensures.id c.next_seal-seal.ensures.number c.next_seal-seal.ensures.form
     (its_zeros c.args.self.now.table (runs_in c.args.rows.now) c.set_rows.new.self c.requires c.set_rows.ensures).zeros
     (its_zeros c.args.self.now.table (runs_in c.args.rows.now) c.set_rows.new.self c.requires c.set_rows.ensures).of_set)
@@ -80,7 +82,8 @@ returns-in_err-put_on_journals-clause-commits g c =
 pub returns-in_err-put_on_members-clause-commits : goal.returns-in_err-put_on_members-clause-commits
 returns-in_err-put_on_members-clause-commits g c =
     let p = err_from_is_err_and c.from_residual-in_err-put_on_members.result c.from_residual-in_err-put_on_members.ensures.1 in
-    rw (p.1, p.2) (of_runs c.args.self.now.table.geometry (runs_in c.args.rows.now) c.set_rows.new.self c.set_rows.ensures (put_unput spellings (g.B.Bank.honest c.args.self.now.bank) c.args.self.now.entry
+    rw (p.1, p.2) (of_runs c.args.self.now.table.geometry (runs_in c.args.rows.now) c.set_rows.new.self c.set_rows.ensures
+    (put_unput spellings (g.B.Bank.honest c.args.self.now.bank) c.args.self.now.entry
     (zeros_in c.args.self.now.table.geometry (numbers_of c.set_rows.new.self)) c.args.self.now.table c.args.self.now.table
     (g.B.Bank.panel c.args.self.now.bank) (g.B.Bank.panel c.args.self.now.bank) (g.B.Bank.history c.args.self.now.bank) (g.B.Bank.history c.args.self.now.bank)
     (λ fair. g.met.B.Bank.true_to _ fair) (λ fair. g.met.B.Bank.true_to _ fair) (g.B.Bank.honest c.args.self.now.bank) (λ fair. fair)
@@ -88,7 +91,8 @@ returns-in_err-put_on_members-clause-commits g c =
     (keeps_none spellings (g.B.Bank.honest c.args.self.now.bank) c.args.self.now.table (g.B.Bank.panel c.args.self.now.bank)
     (g.B.Bank.history c.args.self.now.bank) (λ fair. g.met.B.Bank.true_to _ fair))
     c.next_seal-seal.ensures.number
-    (λ fair lost V rests. zeros_next c.args.self.now.entry c.args.self.now.table (g.B.Bank.history c.args.self.now.bank) c.next_seal-seal.result c.set_rows.new.self
+    (λ fair lost V rests. zeros_next c.args.self.now.entry c.args.self.now.table (g.B.Bank.history c.args.self.now.bank) c.next_seal-seal.result
+    c.set_rows.new.self
     c.next_seal-seal.ensures.id c.next_seal-seal.ensures.number c.next_seal-seal.ensures.form
     (its_zeros c.args.self.now.table (runs_in c.args.rows.now) c.set_rows.new.self c.requires c.set_rows.ensures).zeros
     (its_zeros c.args.self.now.table (runs_in c.args.rows.now) c.set_rows.new.self c.requires c.set_rows.ensures).of_set)
@@ -101,7 +105,8 @@ returns-in_err-put_on_members-clause-commits g c =
 
 pub returns-clause-commits : goal.returns-clause-commits
 returns-clause-commits g c =
-    of_runs c.args.self.now.table.geometry (runs_in c.args.rows.now) c.set_rows.new.self c.set_rows.ensures (put_done spellings (g.B.Bank.honest c.args.self.now.bank) c.args.self.now.entry
+    of_runs c.args.self.now.table.geometry (runs_in c.args.rows.now) c.set_rows.new.self c.set_rows.ensures
+    (put_done spellings (g.B.Bank.honest c.args.self.now.bank) c.args.self.now.entry
     (zeros_in c.args.self.now.table.geometry (numbers_of c.set_rows.new.self)) c.args.self.now.table c.args.self.now.table
     (g.B.Bank.panel c.args.self.now.bank) (g.B.Bank.panel c.args.self.now.bank) (g.B.Bank.history c.args.self.now.bank) (g.B.Bank.history c.args.self.now.bank)
     (λ fair. g.met.B.Bank.true_to _ fair) (λ fair. g.met.B.Bank.true_to _ fair) (g.B.Bank.honest c.args.self.now.bank) (λ fair. fair)
@@ -109,7 +114,8 @@ returns-clause-commits g c =
     (keeps_none spellings (g.B.Bank.honest c.args.self.now.bank) c.args.self.now.table (g.B.Bank.panel c.args.self.now.bank)
     (g.B.Bank.history c.args.self.now.bank) (λ fair. g.met.B.Bank.true_to _ fair))
     c.next_seal-seal.ensures.number
-    (λ fair lost V rests. zeros_next c.args.self.now.entry c.args.self.now.table (g.B.Bank.history c.args.self.now.bank) c.next_seal-seal.result c.set_rows.new.self
+    (λ fair lost V rests. zeros_next c.args.self.now.entry c.args.self.now.table (g.B.Bank.history c.args.self.now.bank) c.next_seal-seal.result
+    c.set_rows.new.self
     c.next_seal-seal.ensures.id c.next_seal-seal.ensures.number c.next_seal-seal.ensures.form
     (its_zeros c.args.self.now.table (runs_in c.args.rows.now) c.set_rows.new.self c.requires c.set_rows.ensures).zeros
     (its_zeros c.args.self.now.table (runs_in c.args.rows.now) c.set_rows.new.self c.requires c.set_rows.ensures).of_set)

@@ -3,7 +3,8 @@ use Rattle.extents.specs.Versions.{record_sectors, table_length}
 use Rattle.extents.specs.TableSpelling.{entries_in, entry_bytes}
 use Rattle.extents.proofs.Bytes.{filled}
 use Rattle.extents.proofs.FirstSectors.{first_written}
-use Rattle.extents.proofs.Sectors.{wrote_first, wrote_records, wrote_extents, part_short, table_short, table_all_records, table_all_extents, table_room, table_version}
+use Rattle.extents.proofs.Sectors.{wrote_first, wrote_records, wrote_extents, part_short, table_short, table_all_records, table_all_extents, table_room}
+use Rattle.extents.proofs.Sectors.{table_version}
 use Rattle.std.specs.List.{flat_map}
 use Rattle.extents.proofs.Entries.{entries_part, part_has_room}
 use Rattle.extents.proofs.Versions.{records_within, table_length_is}

@@ -4,7 +4,8 @@ use Rattle.set_commands.proofs.serving.fresh.fresh_array.Goals as goal
 
 -- src/serving/fresh.rt:60:1
 pub returns-in-Ok-clause-fresh : goal.returns-in-Ok-clause-fresh
-returns-in-Ok-clause-fresh c = made_fresh _ c.in_ok-geometry.geometry _ _ refl c.in_ok-geometry.ensures.format c.in_ok-geometry.ensures.members c.in_ok-geometry.ensures.chunk
+returns-in-Ok-clause-fresh c = made_fresh _ c.in_ok-geometry.geometry _ _ refl c.in_ok-geometry.ensures.format c.in_ok-geometry.ensures.members
+    c.in_ok-geometry.ensures.chunk
     c.in_ok-geometry.ensures.stripes
     (c.in_ok-bank.ensures.quiet _) c.in-Ok.ensures.made
 

@@ -35,7 +35,8 @@ returns-in-Some-clause-upgrades g c =
 pub returns-then-upgraded_version-self-clause-upgrades : goal.returns-then-upgraded_version-self-clause-upgrades
 returns-then-upgraded_version-self-clause-upgrades g c =
     let its = c.args.self.now in
-    upgraded_already (g.B.Bank.honest its.array.bank) (store_view its) c.in_default.is (sym c.upgraded_version.ensures ∙ c.if-upgraded_version-self.true) (λ fair. g.met.B.Bank.true_to _ fair)
+    upgraded_already (g.B.Bank.honest its.array.bank) (store_view its) c.in_default.is (sym c.upgraded_version.ensures ∙ c.if-upgraded_version-self.true)
+    (λ fair. g.met.B.Bank.true_to _ fair)
 
 pub invariant_of-self : goal.invariant_of-self
 invariant_of-self g c =
@@ -43,7 +44,13 @@ invariant_of-self g c =
     record {
       kept = kept_upgraded its.array.table.geometry c.put_whole_table-answer.new.array.table.geometry its.table c.upgrade.new.self its.map
           (c.put_whole_table-answer.ensures.changes its.table).goes_on.not_older.same_geometry
-          record { version = c.upgrade.ensures.version; dirty = c.upgrade.ensures.dirty; records = c.upgrade.ensures.records; extents = c.upgrade.ensures.extents } its.kept;
+          record {
+            version = c.upgrade.ensures.version;
+            dirty = c.upgrade.ensures.dirty;
+            records = c.upgrade.ensures.records;
+            extents =
+                c.upgrade.ensures.extents;
+          } its.kept;
     }
 
 pub returns-then-upgraded_version-self-clause-kept : goal.returns-then-upgraded_version-self-clause-kept

@@ -5,7 +5,8 @@ use Rattle.extents.specs.SetExtents.{extents_in}
 use Rattle.extents.specs.ExtentMaps.{IsTaken}
 use Rattle.extents.proofs.Blocks.{more_take_more}
 use Rattle.extents.proofs.Versions.{most_volumes_most}
-use Rattle.volume_table.proofs.GrownTables.{clean_as_before, counted_by, kept_after, grown_has_places, grown_is_table, grown_is_placed, zeroed_in_part, zeroed_then_put}
+use Rattle.volume_table.proofs.GrownTables.{clean_as_before, counted_by, kept_after, grown_has_places, grown_is_table, grown_is_placed, zeroed_in_part}
+use Rattle.volume_table.proofs.GrownTables.{zeroed_then_put}
 use Rattle.volume_table.proofs.KeptMaps.{kept_sized}
 use Rattle.array_io.specs.Believed.OpenArray.{array_view}
 use Rattle.volume_table.proofs.store.growing.grow.Goals as goal

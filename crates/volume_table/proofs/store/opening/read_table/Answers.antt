@@ -81,12 +81,14 @@ returns-clause-gives g c = λ fair. where_ok c.read_from.result (c.read_from.ens
     let there = get_or-set_same c.args.sectors.now 0 to [] (omega (arith, c.told-sectors)) in
     let beyond = length-beyond n c.args.sectors.now to c.told-sectors (omega (arith, is, table_short version)) in
     let many : length part + 1 ≡ n = omega (arith, c.read_from.auto.sectors, beyond, is, table_long version) in
-    gives_table c.args.array.now.table.geometry.format (g.B.Bank.honest c.args.array.now.bank) (array_view c.args.array.now) (array_view c.read.new.self) version n to part _ c.in-Some.ensures.some.0
+    gives_table c.args.array.now.table.geometry.format (g.B.Bank.honest c.args.array.now.bank) (array_view c.args.array.now) (array_view c.read.new.self)
+    version n to part _ c.in-Some.ensures.some.0
     (sym there ∙ c.in-Some.ensures.some.1) is
     (put_is n c.args.sectors.now part to (omega (arith, c.told-sectors)) many) beyond c.in_ok-read.ensures.reads gives fair)
 
 pub returns-clause-spelled : goal.returns-clause-spelled
-returns-clause-spelled g c = λ fair. where_ok c.read_from.result (c.read_from.ensures.reads (c.read.ensures.honest.0 fair)) (λ reads none table of_format spelled.
+returns-clause-spelled g c = λ fair. where_ok c.read_from.result (c.read_from.ensures.reads (c.read.ensures.honest.0 fair))
+    (λ reads none table of_format spelled.
     let version = c.in-Some.version in
     let to = c.read.new.to in
     let part = c.read_from.new.sectors in
@@ -95,7 +97,8 @@ returns-clause-spelled g c = λ fair. where_ok c.read_from.result (c.read_from.e
     let there = get_or-set_same c.args.sectors.now 0 to [] (omega (arith, c.told-sectors)) in
     let beyond = length-beyond n c.args.sectors.now to c.told-sectors (omega (arith, is, table_short version)) in
     let many : length part + 1 ≡ n = omega (arith, c.read_from.auto.sectors, beyond, is, table_long version) in
-    reads_spelled c.args.array.now.table.geometry.format (array_view c.args.array.now) (array_view c.read.new.self) (array_view c.read_from.new.array) version n to part _ table of_format
+    reads_spelled c.args.array.now.table.geometry.format (array_view c.args.array.now) (array_view c.read.new.self) (array_view c.read_from.new.array) version
+    n to part _ table of_format
     c.in-Some.ensures.some.0 (sym there ∙ c.in-Some.ensures.some.1) is
     (put_is n c.args.sectors.now part to (omega (arith, c.told-sectors)) many) c.in_ok-read.ensures.reads.goes_on c.read_from.ensures.changes.goes_on none
     (c.in_ok-read.ensures.whole fair) (λ up k below. reads up k (omega (arith, below, beyond))) spelled)

@@ -6,7 +6,8 @@ use Rattle.array_io.specs.Believed.OpenArray.{array_view}
 use Rattle.volume_table.proofs.store.placing.zero_blocks.Given as goal
 
 abbrev pub invariant-loop-at : goal.invariant-loop-at
-invariant-loop-at g l = IsZeroing (extents_in l.initial.array.table.geometry) (g.B.Bank.honest l.initial.array.bank) (g.B.Bank.honest l.array.bank) l.dirty l.map
+invariant-loop-at g l = IsZeroing (extents_in l.initial.array.table.geometry) (g.B.Bank.honest l.initial.array.bank) (g.B.Bank.honest l.array.bank) l.dirty
+    l.map
     l.volume l.first l.last l.at
     (array_view l.initial.array)
     (array_view l.array)

@@ -8,7 +8,8 @@ use Rattle.extents.specs.SetExtents.{extents_in}
 pub set-requires-clause-is_table : goal.set-requires-clause-is_table
 set-requires-clause-is_table g c =
     let geometry = c.args.array.now.table.geometry in
-    rw (c.mark_dirty.ensures.version, c.mark_dirty.ensures.records) (shrunk_is_table (extents_in geometry) c.args.table.now c.args.map.now c.give_back.new.self c.args.volume
+    rw (c.mark_dirty.ensures.version, c.mark_dirty.ensures.records) (shrunk_is_table (extents_in geometry) c.args.table.now c.args.map.now c.give_back.new.self
+    c.args.volume
     c.requires.kept c.requires.of_table c.give_back.ensures)
 
 pub returns-clause-kept : goal.returns-clause-kept
@@ -22,7 +23,8 @@ returns-clause-kept g c =
     c.requires.kept c.give_back.ensures.extents c.set.ensures.extents (rw (← c.mark_dirty.ensures.records) c.set.ensures.records)
     (shrunk_has_places (extents_in geometry) c.args.table.now c.args.map.now c.give_back.new.self c.args.volume c.requires.kept c.requires.of_table
     c.give_back.ensures)
-    (c.put_table.ensures.changes c.args.table.now c.spelled-before.ensures (sym (c.set.ensures.version ∙ c.mark_dirty.ensures.version))).goes_on.not_older.same_geometry
+    (c.put_table.ensures.changes c.args.table.now c.spelled-before.ensures (sym (c.set.ensures.version ∙
+    c.mark_dirty.ensures.version))).goes_on.not_older.same_geometry
 
 pub set-requires-clause-of_table : goal.set-requires-clause-of_table
 set-requires-clause-of_table g c = c.requires.of_table

@@ -23,7 +23,8 @@ pub loop-end-init : goal.loop-end-init
 loop-end-init c = record {
   least = omega arith;
   most = c.requires.order;
-  gathers = subst (λ (runs : List Run). GathersStripes c.args.geometry.now (extents_in c.args.geometry.now) c.args.map.now c.args.volume c.args.at c.args.at runs)
+  gathers = subst (λ (runs : List Run). GathersStripes c.args.geometry.now (extents_in c.args.geometry.now) c.args.map.now c.args.volume c.args.at c.args.at
+      runs)
       (sym c.clear.ensures) (none_gathered c.args.geometry.now (extents_in c.args.geometry.now) c.args.map.now c.args.volume c.args.at);
 }
 

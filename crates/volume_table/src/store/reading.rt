@@ -28,6 +28,7 @@ impl<B: Bank> Store<B> {
     pub fn read(&mut self, name: &[u8], at: u32, to: &mut [Sector]) -> Result<(), Refusal>
         ensures honest { IsHonest self.old.array ↔ IsHonest self.new.array }
         ensures few { OnOk result (length to.old ≤ MOST_BLOCKS_AT_ONCE) }
+        ensures table { self.new.table ≡ self.old.table }
         ensures reads { ReadsBlocks (IsHonest self.old.array) name.now at to.old to.new (store_view self.old)
             (store_view self.new) result }
     {

@@ -54,6 +54,7 @@ impl<B: Bank> Store<B> {
             → HoldsWrites (extents_in self.old.array.table.geometry) self.old.table writes (waiting batch.old)
             → CommitsStaged (IsHonest self.old.array) writes (store_view self.old) (store_view self.new) result }
         ensures empty { waiting batch.new ≡ [] }
+        ensures table { self.new.table ≡ self.old.table }
         ensures geometry { batch.new.geometry ≡ batch.old.geometry }
     {
         if let Some(refusal) = self.ended {

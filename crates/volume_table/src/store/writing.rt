@@ -1,5 +1,5 @@
 //! Blocks of a volume are written.
-ghost use Rattle.std.specs.Prelude.{◌↔◌, ◌≤◌, OnOk, length};
+ghost use Rattle.std.specs.Prelude.{◌≡◌, ◌↔◌, ◌≤◌, OnOk, length};
 ghost use Rattle.array_io.specs.Believed.OpenArray.{IsHonest};
 ghost use Rattle.volume_table.specs.StoreFunctions.{WritesBlocks};
 ghost use Rattle.volume_table.specs.OpenStore.{store_view};
@@ -20,6 +20,7 @@ impl<B: Bank> Store<B> {
     pub fn write(&mut self, name: &[u8], at: u32, from: &[Sector]) -> Result<(), Refusal>
         ensures honest { IsHonest self.old.array ↔ IsHonest self.new.array }
         ensures few { OnOk result (length from.now ≤ MOST_BLOCKS_AT_ONCE) }
+        ensures table { self.new.table ≡ self.old.table }
         ensures writes { WritesBlocks (IsHonest self.old.array) name.now at from.now (store_view self.old)
             (store_view self.new) result }
     {

@@ -5,6 +5,7 @@ pub mod EntryAtRest
 pub mod FillingRows
 pub mod Forming
 pub mod FormingRows
+pub mod GivenData
 pub mod LiveByTable
 pub mod MarkingOn
 pub mod Putting

@@ -10,11 +10,11 @@ ghost use Rattle.entry_runs.specs.Built.{runs_in};
 ghost use Rattle.array_io.specs.Believed.ArrayCalls.{Commits, MayCommit, MayForm};
 ghost use Rattle.array_io.specs.Believed.OpenArray.{IsHonest, array_view};
 ghost use Rattle.array_io.specs.Steps.FormingRows.{IsPlanned};
-ghost use Rattle.array_io.specs.Steps.GivenData.{given_of};
+ghost use Rattle.array_io.specs.Steps.Contents.{given_of};
 
 use super::put::{put_on_journals, put_on_members};
 use crate::Array;
-use crate::forming::{Data, Writes, form_rows};
+use crate::forming::{Contents, Writes, form_rows};
 use batch::{Batch, Places, ZeroSectors, plan_rows};
 use entry_runs::RunsBuilder;
 use sector_model::{Bank, GREATEST_COUNT, Refusal, Sector};
@@ -45,7 +45,7 @@ impl<B: Bank> Array<B> {
             unreachable!();
         }
         self.commit_planned(&Writes {
-            data: Data::Sectors(sectors),
+            contents: Contents::Sectors(sectors),
             places,
             rows: &rows,
         })
@@ -61,7 +61,7 @@ impl<B: Bank> Array<B> {
             result }
     {
         self.commit_planned(&Writes {
-            data: Data::Sectors(batch.sectors()),
+            contents: Contents::Sectors(batch.sectors()),
             places: batch.places(),
             rows: batch.runs(),
         })
@@ -81,7 +81,7 @@ impl<B: Bank> Array<B> {
             return Ok(());
         }
         self.commit_planned(&Writes {
-            data: Data::Zeros(zeros.sectors()),
+            contents: Contents::Zeros(zeros.sectors()),
             places: zeros.places(),
             rows: zeros.runs(),
         })
@@ -89,11 +89,11 @@ impl<B: Bank> Array<B> {
 
     // Writes logical sectors of the set, 1 at least and none twice, whose rows are planned (conditions), by one entry.
     fn commit_planned(&mut self, writes: &Writes) -> Result<(), Refusal>
-        requires may { MayForm self.old.table (given_of writes.now.data) }
-        requires planned { IsPlanned self.old.table.geometry (given_of writes.now.data) writes.now.places.now
+        requires may { MayForm self.old.table (given_of writes.now.contents) }
+        requires planned { IsPlanned self.old.table.geometry (given_of writes.now.contents) writes.now.places.now
             (runs_in writes.now.rows.now) }
         ensures honest { IsHonest self.old ↔ IsHonest self.new }
-        ensures commits { Commits (IsHonest self.old) (given_of writes.now.data) (array_view self.old)
+        ensures commits { Commits (IsHonest self.old) (given_of writes.now.contents) (array_view self.old)
             (array_view self.new) result }
     {
         if self.entry >= GREATEST_COUNT {

@@ -7,7 +7,7 @@ use Rattle.stripe_journal.specs.Entries.{numbers_of, sector_at}
 use Rattle.stripe_journal.specs.Forms.{has_bit}
 use Rattle.stripe_journal.specs.Seals.{row_at}
 use Rattle.stripe_journal.proofs.Places.{rising_order}
-use Rattle.array_io.specs.Steps.GivenData.{given_of}
+use Rattle.array_io.specs.Steps.Contents.{given_of}
 use Rattle.array_io.proofs.Commits.BufferRows.{same_mask}
 use Rattle.array_io.proofs.Commits.PlannedRows.{one_place, same_numbers}
 use Rattle.array_io.proofs.forming.put_given.Goals as goal
@@ -40,7 +40,7 @@ put_one-requires-clause-held c =
 pub loop-placed-preserved : goal.loop-placed-preserved
 loop-placed-preserved c =
     let now = c.loop-placed in
-    let sectors = given_of c.args.data.now in
+    let sectors = given_of c.args.contents.now in
     let places = c.args.places.now in
     let old = c.args.entry.now in
     let here = placed_at places now.placed-index in

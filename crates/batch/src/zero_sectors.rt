@@ -44,6 +44,13 @@ impl ZeroSectors {
         }
     }
 
+    /// The geometry of the set.
+    pub fn geometry(&self) -> &Geometry
+        ensures { result.now ≡ self.now.geometry }
+    {
+        &self.geometry
+    }
+
     /// How many sectors there are, at most 2,048.
     pub fn len(&self) -> usize
         ensures { result ≡ length (zeroed self.now) }

@@ -59,22 +59,22 @@ loop-placed-preserved c =
           let inside : i < length (numbers_of now.entry) = omega (arith, inside_after, ap length still) in
           let same : row_at (numbers_of now.entry) i ≡ (placed_at places j).row = ap (λ rows. row_at rows i) (sym still) ∙ same_after in
           elim (cases_eq j now.placed-index) [
-        | inl is ↦
-            let same_row : row_at (numbers_of now.entry) i ≡ row_at (numbers_of now.entry) at =
-            same ∙ ap (λ (n : ℕ). (placed_at places n).row) is ∙ sym c.row_from-i.ensures.is in
-            let one : i ≡ at = one_place (numbers_of now.entry) i at (subst (λ rows. IsStrictlyIncreasing rows) (sym numbers) c.requires.rows) inside
-            c.row_from-i.ensures.within same_row in
-            ap (λ (n : ℕ). sector_at after n (placed_at places j).member) one
-            ∙ ap (λ (n : ℕ). sector_at after at (placed_at places n).member) is
-            ∙ c.put_one.ensures.put
-            ∙ ap (λ (n : ℕ). bytes_at sectors (placed_at places n).at) (sym is)
-        | inr other ↦
-            let earlier : j < now.placed-index = omega (arith, below, other) in
-            let before = c.requires.rising j now.placed-index earlier c.loop-placed-test.true in
-            c.put_one.ensures.others i (placed_at places j).member
-            (c.requires.members j (omega (arith, earlier, c.loop-placed-test.true)))
-            (λ same_row same_member. is_another (placed_at places j) here before
-            (sym same ∙ ap (λ (n : ℕ). row_at (numbers_of now.entry) n) same_row ∙ c.row_from-i.ensures.is) same_member)
-            ∙ now.invariant.given i j inside earlier same
-      ];
+            | inl is ↦
+                let same_row : row_at (numbers_of now.entry) i ≡ row_at (numbers_of now.entry) at =
+                same ∙ ap (λ (n : ℕ). (placed_at places n).row) is ∙ sym c.row_from-i.ensures.is in
+                let one : i ≡ at = one_place (numbers_of now.entry) i at (subst (λ rows. IsStrictlyIncreasing rows) (sym numbers) c.requires.rows) inside
+                c.row_from-i.ensures.within same_row in
+                ap (λ (n : ℕ). sector_at after n (placed_at places j).member) one
+                ∙ ap (λ (n : ℕ). sector_at after at (placed_at places n).member) is
+                ∙ c.put_one.ensures.put
+                ∙ ap (λ (n : ℕ). bytes_at sectors (placed_at places n).at) (sym is)
+            | inr other ↦
+                let earlier : j < now.placed-index = omega (arith, below, other) in
+                let before = c.requires.rising j now.placed-index earlier c.loop-placed-test.true in
+                c.put_one.ensures.others i (placed_at places j).member
+                (c.requires.members j (omega (arith, earlier, c.loop-placed-test.true)))
+                (λ same_row same_member. is_another (placed_at places j) here before
+                (sym same ∙ ap (λ (n : ℕ). row_at (numbers_of now.entry) n) same_row ∙ c.row_from-i.ensures.is) same_member)
+                ∙ now.invariant.given i j inside earlier same
+          ];
     }

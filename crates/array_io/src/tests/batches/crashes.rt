@@ -2,8 +2,8 @@
 //! sectors. Stripe 4 has its parity on member 1, stripe 5 on member 0 and stripe 6 on member 2; logical sectors 64, 80
 //! and 96 begin them, and rows 32, 40 and 48.
 use super::set::{
-    Stretch, array_on, bank_on, byte_at, commit_batch, commit_zero_sectors, commit_zeros, large, made,
-    table_of,
+    Stretch, array_on, bank_on, byte_at, commit_batch, commit_zero_sectors, commit_zeros, large,
+    made, table_of,
 };
 use crate::Array;
 use crate::oracle::{is_row_sound_in, logical_in};

@@ -1,6 +1,7 @@
 pub mod Among
 pub mod Batches
 pub mod Changes
+pub mod Claims
 pub mod Listed
 pub mod Places
 pub mod Rising

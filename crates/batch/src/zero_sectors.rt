@@ -7,7 +7,7 @@ ghost use Rattle.batch.specs.Listed.{places_in};
 ghost use Rattle.batch.specs.Staging.{AreAdded, AreHeld, IsAdded, IsFull, KeepsPlaces, KeepsPlan, sector_at};
 ghost use Rattle.batch.specs.ZeroSectors.{with_zeros, zeros_from};
 
-use crate::staging::most_places;
+use crate::staging::{Claim, claim_place, most_places};
 use crate::{MOST_PLACES, Placed, Places, plan_rows};
 use entry_runs::RunsBuilder;
 use layout_map::Geometry;
@@ -145,22 +145,14 @@ fn list_one(
     ensures { IsAdded geometry.now most (logical, zero_sector) (with_zeros sectors.old) (with_zeros sectors.new)
         (places_in places.old) (places_in places.new) result }
 {
-    let place = geometry.place(logical);
-    let row = place.row as u32;
-    if places.find(row, place.member).is_some() {
-        return true;
+    match claim_place(geometry, most, places, logical) {
+        Claim::Has => true,
+        Claim::Full => false,
+        Claim::At(at) => {
+            sectors[at] = logical;
+            true
+        }
     }
-    let at = places.len();
-    if at >= most {
-        return false;
-    }
-    sectors[at] = logical;
-    places.insert(Placed {
-        row,
-        member: place.member,
-        at: at as u16,
-    });
-    true
 }
 
 // Puts the logical sectors from one on, so many, after those that have a place, unless they have one already. False

@@ -1,6 +1,7 @@
 pub mod Among
 pub mod Batches
 pub mod Changes
+pub mod Claims
 pub mod Listed
 pub mod Places
 pub mod Rising
@@ -8,3 +9,5 @@ pub mod Rows
 pub mod Staging
 pub mod ZeroRows
 pub mod ZeroRuns
+pub mod ZeroSectors
+pub mod Zeroed

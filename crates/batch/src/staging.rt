@@ -3,6 +3,7 @@ ghost use Rattle.std.specs.Prelude.{◌≡◌, ◌≢◌, ◌+◌, ◌≤◌, �
 ghost use Rattle.layout_map.specs.Placement.{data_sectors_of};
 ghost use Rattle.batch.specs.Listed.{places_in};
 ghost use Rattle.batch.specs.Places.{AreApart, AreOfSet, bytes_at, logical_at};
+ghost use Rattle.batch.specs.Claims.{IsClaimed};
 ghost use Rattle.batch.specs.Staging.{AreAdded, AreHeld, ArePut, HasLogical, IsAdded, IsFull};
 ghost use Rattle.batch.specs.Staging.{IsPut, most_of, sector_at};
 
@@ -18,6 +19,45 @@ pub(crate) fn most_places(format: Format) -> usize
         Format::One => 32,
         Format::Two => MOST_PLACES,
     }
+}
+
+// The place that a logical sector gets.
+#[derive(Clone, Copy)]
+pub(crate) enum Claim {
+    // None, since it has one already.
+    Has,
+    // None, since so many have one.
+    Full,
+    // One after those that have one: this number of the sectors is its.
+    At(usize),
+}
+
+// Gives a logical sector a place after those that have one, unless it has one already, or so many have one.
+pub(crate) fn claim_place(
+    geometry: &Geometry,
+    most: usize,
+    places: &mut Places,
+    logical: u64,
+) -> Claim
+    requires most { most ≤ MOST_PLACES }
+    requires of_set { logical < data_sectors_of geometry.now.members geometry.now.chunk geometry.now.stripes }
+    ensures { IsClaimed geometry.now most logical (places_in places.old) (places_in places.new) result }
+{
+    let place = geometry.place(logical);
+    let row = place.row as u32;
+    if places.find(row, place.member).is_some() {
+        return Claim::Has;
+    }
+    let at = places.len();
+    if at >= most {
+        return Claim::Full;
+    }
+    places.insert(Placed {
+        row,
+        member: place.member,
+        at: at as u16,
+    });
+    Claim::At(at)
 }
 
 // Puts a sector after those that have a place, unless it has one already. False, with nothing changed, where so many
@@ -36,22 +76,14 @@ fn place_one(
     ensures { IsAdded geometry.now most sector.now all.old all.new (places_in places.old) (places_in places.new)
         result }
 {
-    let place = geometry.place(sector.0);
-    let row = place.row as u32;
-    if places.find(row, place.member).is_some() {
-        return true;
+    match claim_place(geometry, most, places, sector.0) {
+        Claim::Has => true,
+        Claim::Full => false,
+        Claim::At(at) => {
+            all[at] = *sector;
+            true
+        }
     }
-    let at = places.len();
-    if at >= most {
-        return false;
-    }
-    all[at] = *sector;
-    places.insert(Placed {
-        row,
-        member: place.member,
-        at: at as u16,
-    });
-    true
 }
 
 // Puts each given sector after those that have a place, unless it has one already. False where there would be more than

@@ -57,7 +57,7 @@ length-zero_block : length zero_block ≡ 512
 unfolding zero_block
 length-zero_block = length-replicate {A = ℕ} 512 0
 
-zero_blocks_whole : (count : ℕ) → All IsBlock (zero_blocks count)
+pub zero_blocks_whole : (count : ℕ) → All IsBlock (zero_blocks count)
 zero_blocks_whole count = All-replicate IsBlock count zero_block length-zero_block
 
 -- the facts under which a command is done

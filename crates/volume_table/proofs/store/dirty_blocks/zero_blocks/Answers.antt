@@ -15,7 +15,7 @@ use Rattle.volume_table.specs.VolumeStep.{zero_blocks}
 use Rattle.volume_table.proofs.ZeroedBlocks.{IsZeroing, zeroing_begins, zeroing_goes_on, zeroing_passes, zeroing_refused}
 use Rattle.volume_table.specs.Stretches.{IsStretch}
 use Rattle.extents.specs.declared.extent_layout.ExtentLayout.{ExtentLayout}
-use Rattle.volume_table.proofs.store.placing.zero_blocks.Goals as goal
+use Rattle.volume_table.proofs.store.dirty_blocks.zero_blocks.Goals as goal
 use Rattle.volume_table.specs.declared.event.TheConstants.{MOST_BLOCKS_AT_ONCE}
 use Rattle.array_io.specs.Believed.OpenArray.{array_view}
 use Rattle.extents.specs.SetExtents.{extents_in}

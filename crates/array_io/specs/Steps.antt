@@ -1,6 +1,7 @@
 -- What clauses between the steps of a call say; each is proved, and none need be believed.
 pub mod Bringing
 pub mod CallSteps
+pub mod Contents
 pub mod EntryAtRest
 pub mod FillingRows
 pub mod Forming

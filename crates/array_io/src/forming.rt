@@ -13,6 +13,8 @@ ghost use Rattle.degraded.specs.ReadMember.{is_read};
 ghost use Rattle.array_io.specs.Believed.ArrayCalls.{MayForm};
 ghost use Rattle.array_io.specs.Believed.Views.{HasItsSlots};
 ghost use Rattle.array_io.specs.Steps.FillingRows.{FormsRow, SumsRow, reads_below};
+ghost use Rattle.array_io.specs.Steps.Contents.{given_of};
+ghost use Rattle.batch.specs.Places.{bytes_at};
 ghost use Rattle.array_io.specs.Steps.FormingRows.{AreRowsOf, AreRowsOfSet, FormsListed, HasParityOn, HasPut};
 ghost use Rattle.array_io.specs.Steps.FormingRows.{HasRoomFor, HasRowFrom, HasSoundRow, HoldsChanged, IsPlanned};
 ghost use Rattle.array_io.specs.Steps.ReadingOn.{Between, KeepsFrom, KeepsOn};
@@ -27,11 +29,20 @@ use sector_model::{Bank, Refusal, Sector};
 use stripe_journal::Entry;
 use superblock::Table;
 
-/// What a commit is given: logical sectors, where they lie, and the rows that change by them.
+/// Logical sectors that a commit writes, and what it writes there.
+#[derive(Clone, Copy)]
+pub(crate) enum Contents<'a> {
+    /// The sectors, each with its data.
+    Sectors(&'a [(u64, Sector)]),
+    /// The sectors, each of which becomes zero.
+    Zeros(&'a [u64]),
+}
+
+/// What a commit is given: logical sectors with their data, where they lie, and the rows that change by them.
 #[derive(Clone, Copy)]
 pub(crate) struct Writes<'a> {
     /// The sectors, each with what is written there.
-    pub sectors: &'a [(u64, Sector)],
+    pub contents: Contents<'a>,
     /// Where they lie, by row and then by member.
     pub places: &'a [Placed],
     /// The rows that change, with the members whose sectors do.
@@ -52,16 +63,46 @@ fn row_from(entry: &Entry, i: usize, row: u32) -> usize
     unreachable!()
 }
 
-// Puts each given sector at its place in the entry, which holds it.
-fn put_given(sectors: &[(u64, Sector)], places: &[Placed], entry: &mut Entry)
-    requires { HasRoomFor sectors.now places.now entry.old }
+// Puts a sector in place of a member's of the i-th row, which the entry holds.
+fn put_sector(sector: &Sector, entry: &mut Entry, i: usize, member: u8)
+    requires row { i < length (numbers_of entry.old) }
+    requires member { member < MOST_MEMBERS }
+    requires held { has_bit (row_mask entry.old i) member ≡ true }
     ensures form { form_of entry.new ≡ form_of entry.old }
-    ensures given { HasPut sectors.now places.now (length places.now) entry.new }
+    ensures put { sector_at entry.new i member ≡ sector.now }
+    ensures others { (k other : ℕ) → other < MOST_MEMBERS → (k ≡ i → other ≢ member)
+        → sector_at entry.new k other ≡ sector_at entry.old k other }
+{
+    *entry.sector_mut(i, member) = *sector;
+}
+
+// Puts what is given of the sector of this number in place of a member's of the i-th row, which the entry holds.
+fn put_one(contents: &Contents, at: u16, entry: &mut Entry, i: usize, member: u8)
+    requires given { at < length (given_of contents.now) }
+    requires row { i < length (numbers_of entry.old) }
+    requires member { member < MOST_MEMBERS }
+    requires held { has_bit (row_mask entry.old i) member ≡ true }
+    ensures form { form_of entry.new ≡ form_of entry.old }
+    ensures put { sector_at entry.new i member ≡ bytes_at (given_of contents.now) at }
+    ensures others { (k other : ℕ) → other < MOST_MEMBERS → (k ≡ i → other ≢ member)
+        → sector_at entry.new k other ≡ sector_at entry.old k other }
+{
+    match *contents {
+        Contents::Sectors(sectors) => put_sector(&sectors[usize::from(at)].1, entry, i, member),
+        Contents::Zeros(_) => clear_sector(entry, i, member),
+    }
+}
+
+// Puts each given sector at its place in the entry, which holds it.
+fn put_given(contents: &Contents, places: &[Placed], entry: &mut Entry)
+    requires { HasRoomFor (given_of contents.now) places.now entry.old }
+    ensures form { form_of entry.new ≡ form_of entry.old }
+    ensures given { HasPut (given_of contents.now) places.now (length places.now) entry.new }
 {
     let mut i = 0;
     for placed in places {
         i = row_from(entry, i, placed.row);
-        *entry.sector_mut(i, placed.member) = sectors[usize::from(placed.at)].1;
+        put_one(contents, placed.at, entry, i, placed.member);
     }
 }
 
@@ -273,21 +314,21 @@ pub(crate) fn form_rows<B: Bank>(
     entry: &mut Entry,
 ) -> Result<(), Refusal>
     requires its_slots { HasItsSlots table.old (B.panel bank.old) }
-    requires may { MayForm table.old writes.now.sectors.now }
-    requires planned { IsPlanned table.old.geometry writes.now.sectors.now writes.now.places.now
+    requires may { MayForm table.old (given_of writes.now.contents) }
+    requires planned { IsPlanned table.old.geometry (given_of writes.now.contents) writes.now.places.now
         (runs_in writes.now.rows.now) }
     ensures honest { B.honest bank.old ↔ B.honest bank.new }
     ensures its_slots { HasItsSlots table.new (B.panel bank.new) }
     ensures steps { KeepsOn (B.honest bank.old) table.old table.new (B.panel bank.old) (B.panel bank.new)
         (B.history bank.old) (B.history bank.new) result }
-    ensures rows { OnOk result (AreRowsOf table.old.geometry writes.now.sectors.now (numbers_of entry.new)) }
-    ensures held { OnOk result (HoldsChanged table.old.geometry writes.now.sectors.now entry.new) }
+    ensures rows { OnOk result (AreRowsOf table.old.geometry (given_of writes.now.contents) (numbers_of entry.new)) }
+    ensures held { OnOk result (HoldsChanged table.old.geometry (given_of writes.now.contents) entry.new) }
     ensures formed { (number : ℕ) (from : KeepsFrom) → B.honest bank.old
         → Between (B.panel bank.old).devices number from table.old (B.history bank.old)
-        → OnOk result (FormsListed table.old.geometry writes.now.sectors.now from.logical entry.new) }
+        → OnOk result (FormsListed table.old.geometry (given_of writes.now.contents) from.logical entry.new) }
 {
     entry.set_rows(writes.rows);
-    put_given(writes.sectors, writes.places, entry);
+    put_given(&writes.contents, writes.places, entry);
     form_parities(bank, table, entry)
 }
 

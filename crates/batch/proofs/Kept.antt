@@ -1,5 +1,5 @@
 -- What a batch keeps, and what that says.
-use Rattle.std.proofs.Common.{◌≡◌, inl, inr, ℕ, suc, ◌<◌, ◌≤◌, ◌==◌, ◌&&◌, Bool, true, List, [], ◌∷◌, length, get_or, take, sym, ◌∙◌, ap, subst, arith}
+use Rattle.std.proofs.Common.{◌≡◌, inl, inr, ℕ, suc, ◌<◌, ◌≤◌, ◌==◌, ◌&&◌, Bool, true, List, [], ◌∷◌, length, get_or, take, refl, sym, ◌∙◌, ap, subst, arith}
 use Rattle.std.specs.List.{list_any}
 use Rattle.std.specs.Prelude.{◌||◌}
 use Rattle.std.proofs.lemmas.Bool.{and_from, and_parts, cases_Bool, eq-eqb, eqb-true, false≢true}
@@ -130,6 +130,11 @@ same_first old new places long room same =
     ext_get_or (0, []) (take n new) (take n old) (new_long ∙ sym (length-take-le n old room)) (λ k inside.
     let below : k < n = omega (arith, inside, new_long) in
     taken_sector new n k below ∙ same k below ∙ sym (taken_sector old n k below))
+
+-- a list that has nothing
+pub none_left : {X : Type 0} (xs : List X) → length xs ≡ 0 → xs ≡ []
+none_left [] none = refl
+none_left (x ∷ xs) none = absurd (omega (arith, none))
 
 -- as many wait as have a place
 pub waiting_long : (batch : Batch) → length (waiting batch) ≡ length (places_in batch.places)

@@ -12,3 +12,4 @@ pub mod ZeroJoins
 pub mod ZeroLists
 pub mod ZeroOrder
 pub mod ZeroPut
+pub mod ZeroedSectors

@@ -1,7 +1,9 @@
 -- Sectors that are put among those that wait.
 use Rattle.std.proofs.Common.{◌≡◌, ◌≢◌, inl, inr, ℕ, ◌+◌, ◌<◌, ◌≤◌, true, false, List, [], length, take, refl, sym, ◌∙◌, ap, subst, arith}
+use Rattle.std.proofs.Common.{Option, Some, None, IfSome, IsNone}
+use Rattle.std.specs.Option.{is_some}
 use Rattle.std.specs.Prelude.{slice_set}
-use Rattle.std.proofs.lemmas.Bool.{cases_eq, cases_lt}
+use Rattle.std.proofs.lemmas.Bool.{cases_eq, cases_lt, false≢true}
 use Rattle.std.proofs.lemmas.List.{get_or-set_same, get_or-set_other, get_or-take, length-set, length-take-le, take_all}
 use Rattle.sector_model.specs.History.{Bytes}
 use Rattle.layout_map.specs.declared.geometry.Geometry.{Geometry}
@@ -17,6 +19,16 @@ use Rattle.batch.proofs.Placing.{IsInserted, logical_taken, placed_more}
 -- a sector is known by its number and its bytes
 pub same_sector : (one other : ℕ × Bytes) → one.0 ≡ other.0 → one.1 ≡ other.1 → one ≡ other
 same_sector one other logical bytes = ap (λ (l : ℕ). (l, one.1)) logical ∙ ap (λ (b : Bytes). (other.0, b)) bytes
+
+-- what a search found
+
+pub some_found : (found : Option ℕ) (P : ℕ → Type 0) → true ≡ is_some found → IfSome found P → (at : ℕ) × P at
+some_found None P is all = absurd (false≢true (sym is))
+some_found (Some at) P is all = (at, all)
+
+pub none_found : (found : Option ℕ) → false ≡ is_some found → IsNone found
+none_found None is = refl
+none_found (Some at) is = absurd (false≢true is)
 
 -- the first of some sectors
 

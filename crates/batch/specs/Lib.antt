@@ -8,3 +8,5 @@ pub mod Rows
 pub mod Staging
 pub mod ZeroRows
 pub mod ZeroRuns
+pub mod ZeroSectors
+pub mod Zeroed

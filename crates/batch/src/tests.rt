@@ -14,6 +14,7 @@ use std::fmt::Debug;
 use std::process::Abort;
 
 mod zero_rows;
+mod zero_sectors;
 
 // Ends the test where `got` is not `want`.
 fn same<T: PartialEq + Debug + Drop>(rt: &impl Abort, got: T, want: T) {

@@ -1,19 +1,21 @@
 //! Logical sectors are written, all of them or none.
-ghost use Rattle.std.specs.Prelude.{◌≡◌, ◌≤◌, ◌<◌, ◌+◌, ◌^◌, ◌↔◌, ℕ, count_ones, length};
+ghost use Rattle.std.specs.Prelude.{◌≡◌, ◌≤◌, ◌<◌, ◌+◌, ◌^◌, ◌↔◌, ℕ, [], Ok, count_ones, length};
 ghost use Rattle.layout_map.specs.declared.format.Format.TheVariants.{One};
 ghost use Rattle.layout_map.specs.declared.sizes.TheConstants.{ENTRY_ROWS};
 ghost use Rattle.sector_model.specs.declared.calls.TheConstants.{GREATEST_COUNT};
 ghost use Rattle.stripe_journal.specs.Entries.{IsFormOf, ListsItsRows, numbers_of};
 ghost use Rattle.batch.specs.Batches.{waiting};
+ghost use Rattle.batch.specs.Zeroed.{zeroed};
 ghost use Rattle.entry_runs.specs.Built.{runs_in};
 ghost use Rattle.array_io.specs.Believed.ArrayCalls.{Commits, MayCommit, MayForm};
 ghost use Rattle.array_io.specs.Believed.OpenArray.{IsHonest, array_view};
 ghost use Rattle.array_io.specs.Steps.FormingRows.{IsPlanned};
+ghost use Rattle.array_io.specs.Steps.Contents.{given_of};
 
 use super::put::{put_on_journals, put_on_members};
 use crate::Array;
-use crate::forming::{Writes, form_rows};
-use batch::{Batch, Places, plan_rows};
+use crate::forming::{Contents, Writes, form_rows};
+use batch::{Batch, Places, ZeroSectors, plan_rows};
 use entry_runs::RunsBuilder;
 use sector_model::{Bank, GREATEST_COUNT, Refusal, Sector};
 use stripe_journal::{Entry, Seal};
@@ -43,7 +45,7 @@ impl<B: Bank> Array<B> {
             unreachable!();
         }
         self.commit_planned(&Writes {
-            sectors,
+            contents: Contents::Sectors(sectors),
             places,
             rows: &rows,
         })
@@ -59,20 +61,40 @@ impl<B: Bank> Array<B> {
             result }
     {
         self.commit_planned(&Writes {
-            sectors: batch.sectors(),
+            contents: Contents::Sectors(batch.sectors()),
             places: batch.places(),
             rows: batch.runs(),
         })
     }
 
+    /// Makes the listed sectors zero, of a set of this geometry (condition), by one entry: as `commit` writes those that
+    /// it is given. Of rows that become zero as a whole nothing is read. Where none is listed, no device is called.
+    /// Refused as `commit` is.
+    pub fn commit_zero_sectors(&mut self, zeros: &ZeroSectors) -> Result<(), Refusal>
+        requires same { zeros.now.geometry ≡ self.old.table.geometry }
+        ensures honest { IsHonest self.old ↔ IsHonest self.new }
+        ensures none { zeroed zeros.now ≡ [] → (result ≡ Ok tt) × (self.new ≡ self.old) }
+        ensures commits { 1 ≤ length (zeroed zeros.now) → Commits (IsHonest self.old) (zeroed zeros.now)
+            (array_view self.old) (array_view self.new) result }
+    {
+        if zeros.is_empty() {
+            return Ok(());
+        }
+        self.commit_planned(&Writes {
+            contents: Contents::Zeros(zeros.sectors()),
+            places: zeros.places(),
+            rows: zeros.runs(),
+        })
+    }
+
     // Writes logical sectors of the set, 1 at least and none twice, whose rows are planned (conditions), by one entry.
     fn commit_planned(&mut self, writes: &Writes) -> Result<(), Refusal>
-        requires may { MayForm self.old.table writes.now.sectors.now }
-        requires planned { IsPlanned self.old.table.geometry writes.now.sectors.now writes.now.places.now
+        requires may { MayForm self.old.table (given_of writes.now.contents) }
+        requires planned { IsPlanned self.old.table.geometry (given_of writes.now.contents) writes.now.places.now
             (runs_in writes.now.rows.now) }
         ensures honest { IsHonest self.old ↔ IsHonest self.new }
-        ensures commits { Commits (IsHonest self.old) writes.now.sectors.now (array_view self.old) (array_view self.new)
-            result }
+        ensures commits { Commits (IsHonest self.old) (given_of writes.now.contents) (array_view self.old)
+            (array_view self.new) result }
     {
         if self.entry >= GREATEST_COUNT {
             return Err(Refusal::Worn);

@@ -5,7 +5,7 @@
 ghost use Rattle.array_io.specs.Believed.ArrayCalls.{MayCommit};
 ghost use Rattle.array_io.specs.Believed.Views.{HasItsSlots};
 
-use super::{Writes, form_rows};
+use super::{Contents, Writes, form_rows};
 use crate::testing::{
     Bytes, Failure, Row, Slots, WHOLE, WITHOUT_0, WITHOUT_1, all, bank_of, blank, check_rows,
     check_sectors, check_slots, entry_of, put, put_row, same, table_of,
@@ -38,7 +38,7 @@ fn form<B: Bank>(
         bank,
         table,
         &Writes {
-            sectors: given,
+            contents: Contents::Sectors(given),
             places,
             rows: &rows,
         },

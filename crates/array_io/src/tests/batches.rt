@@ -10,8 +10,8 @@ mod set;
 mod tally;
 
 use set::{
-    Set, Stretch, array_on, bank_on, commit, commit_batch, commit_full_batch, commit_zeros, large,
-    made, small,
+    Set, Stretch, array_on, bank_on, commit, commit_batch, commit_full_batch, commit_zero_sectors,
+    commit_zeros, large, made, small,
 };
 use tally::{Calls, Tally, check_calls, tallied};
 
@@ -193,4 +193,53 @@ fn zeros_take_no_read_and_no_body(rt: HostRuntime) {
     commit_zeros(&rt, &mut array, 20, 1_000);
     let seal = seal_of_runs(&[(20, 1_000, 0), (0, 0, 0)], 1);
     check_entry(&rt, array, &OF_ZEROS, 5, &seal);
+}
+
+// Logical 512 begins stripe 1 of 512 blocks, in row 128: on member 4, and the parity on member 3. Of each of the rows
+// 136 to 235 the two old values are read, of which there are fewer than of the others.
+const OF_100_SECTORS: Calls = Calls {
+    reads: [0, 0, 0, 100, 100, 0, 0, 0, 0, 0],
+    writes: [0, 0, 0, 100, 100, 201, 201, 0, 0, 0],
+    flushes: [0, 0, 0, 1, 1, 2, 2, 0, 0, 0],
+};
+
+#[test]
+fn zero_sectors_of_one_stripe_are_one_commit(rt: HostRuntime) {
+    let mut array = counted(&rt, &large(5, 128, 10));
+    commit_zero_sectors(&rt, &mut array, &[(520, 100)]);
+    let seal = seal_of_runs(&[(136, 100, 0x18), (0, 0, 0)], 1);
+    check_entry(&rt, array, &OF_100_SECTORS, 5, &seal);
+}
+
+#[test]
+fn zero_sectors_of_whole_rows_are_not_read(rt: HostRuntime) {
+    let seal = seal_of_runs(&[(16, 512, 0x1f), (0, 0, 0)], 1);
+    let mut array = counted(&rt, &large(5, 8, 80));
+    commit_zero_sectors(&rt, &mut array, &[(64, 2_048)]);
+    check_entry(&rt, array, &WHOLE_STRIPES, 5, &seal);
+}
+
+#[test]
+fn one_zero_sector_takes_what_a_commit_does(rt: HostRuntime) {
+    for set in [small(5, 8, 32), large(5, 8, 32)] {
+        let mut array = counted(&rt, &set);
+        commit_zero_sectors(&rt, &mut array, &[(64, 1)]);
+        check_calls(&rt, &array.bank.calls, &OF_ONE_BLOCK);
+    }
+}
+
+const NO_CALLS: Calls = Calls {
+    reads: [0; 10],
+    writes: [0; 10],
+    flushes: [0; 10],
+};
+
+#[test]
+fn no_zero_sector_takes_no_call(rt: HostRuntime) {
+    for set in [small(5, 8, 32), large(5, 8, 32)] {
+        let mut array = counted(&rt, &set);
+        commit_zero_sectors(&rt, &mut array, &[]);
+        check_calls(&rt, &array.bank.calls, &NO_CALLS);
+        same(&rt, array.entry, 0);
+    }
 }

@@ -11,6 +11,7 @@ use Rattle.stripe_journal.specs.Seals.{row_at}
 use Rattle.array_io.specs.Believed.ArrayCalls.{Answer}
 use Rattle.array_io.specs.Steps.FormingRows.{AreOfSet, AreRowsOf, Given, HasParityOn, HasPut, HasSoundRow, HoldsChanged, HoldsGiven}
 use Rattle.array_io.specs.Steps.FormingRows.{IsPlanned, LiesAt, logical_at}
+use Rattle.array_io.specs.Steps.Contents.{given_of}
 use Rattle.array_io.proofs.Commits.ChangedRows.{changed_stays}
 use Rattle.array_io.proofs.Commits.PlannedRows.{planned_given, planned_masks, planned_room, planned_rows, same_numbers}
 use Rattle.array_io.proofs.forming.form_rows.Goals as goal
@@ -32,8 +33,8 @@ its_plan geometry sectors places runs entry same plan = subst (λ (list : List R
 
 pub put_given-requires : goal.put_given-requires
 put_given-requires g c =
-    planned_room c.args.table.now.geometry c.args.writes.now.sectors.now c.args.writes.now.places.now c.set_rows.new.self
-    (its_plan c.args.table.now.geometry c.args.writes.now.sectors.now c.args.writes.now.places.now (runs_in c.args.writes.now.rows.now) c.set_rows.new.self
+    planned_room c.args.table.now.geometry (given_of c.args.writes.now.contents) c.args.writes.now.places.now c.set_rows.new.self
+    (its_plan c.args.table.now.geometry (given_of c.args.writes.now.contents) c.args.writes.now.places.now (runs_in c.args.writes.now.rows.now) c.set_rows.new.self
     c.set_rows.ensures c.requires.planned)
 
 pub form_parities-requires-clause-its_slots : goal.form_parities-requires-clause-its_slots
@@ -53,18 +54,18 @@ held_of_form geometry sectors places entry new plan form =
 
 pub form_parities-requires-clause-rows : goal.form_parities-requires-clause-rows
 form_parities-requires-clause-rows g c =
-    let plan = its_plan c.args.table.now.geometry c.args.writes.now.sectors.now c.args.writes.now.places.now (runs_in c.args.writes.now.rows.now)
+    let plan = its_plan c.args.table.now.geometry (given_of c.args.writes.now.contents) c.args.writes.now.places.now (runs_in c.args.writes.now.rows.now)
     c.set_rows.new.self
     c.set_rows.ensures c.requires.planned in
-    (rows_of_form c.args.table.now.geometry c.args.writes.now.sectors.now c.args.writes.now.places.now c.set_rows.new.self c.put_given.new.entry plan
+    (rows_of_form c.args.table.now.geometry (given_of c.args.writes.now.contents) c.args.writes.now.places.now c.set_rows.new.self c.put_given.new.entry plan
     c.put_given.ensures.form c.requires.may.least c.requires.may.of_set).of_set
 
 pub form_parities-requires-clause-held : goal.form_parities-requires-clause-held
 form_parities-requires-clause-held g c = λ i member inside parity.
-    let plan = its_plan c.args.table.now.geometry c.args.writes.now.sectors.now c.args.writes.now.places.now (runs_in c.args.writes.now.rows.now)
+    let plan = its_plan c.args.table.now.geometry (given_of c.args.writes.now.contents) c.args.writes.now.places.now (runs_in c.args.writes.now.rows.now)
     c.set_rows.new.self
     c.set_rows.ensures c.requires.planned in
-    (held_of_form c.args.table.now.geometry c.args.writes.now.sectors.now c.args.writes.now.places.now c.set_rows.new.self c.put_given.new.entry plan
+    (held_of_form c.args.table.now.geometry (given_of c.args.writes.now.contents) c.args.writes.now.places.now c.set_rows.new.self c.put_given.new.entry plan
     c.put_given.ensures.form i member inside).1 (inr parity)
 
 pub returns-clause-honest : goal.returns-clause-honest
@@ -78,18 +79,18 @@ returns-clause-steps g c = c.form_parities.ensures.steps
 
 pub returns-clause-rows : goal.returns-clause-rows
 returns-clause-rows g c =
-    let plan = its_plan c.args.table.now.geometry c.args.writes.now.sectors.now c.args.writes.now.places.now (runs_in c.args.writes.now.rows.now)
+    let plan = its_plan c.args.table.now.geometry (given_of c.args.writes.now.contents) c.args.writes.now.places.now (runs_in c.args.writes.now.rows.now)
     c.set_rows.new.self
     c.set_rows.ensures c.requires.planned in
-    in_any_case c.form_parities.result _ (rows_of_form c.args.table.now.geometry c.args.writes.now.sectors.now c.args.writes.now.places.now c.set_rows.new.self
+    in_any_case c.form_parities.result _ (rows_of_form c.args.table.now.geometry (given_of c.args.writes.now.contents) c.args.writes.now.places.now c.set_rows.new.self
     c.form_parities.new.entry plan (c.form_parities.ensures.form ∙ c.put_given.ensures.form) c.requires.may.least c.requires.may.of_set)
 
 pub returns-clause-held : goal.returns-clause-held
 returns-clause-held g c =
-    let plan = its_plan c.args.table.now.geometry c.args.writes.now.sectors.now c.args.writes.now.places.now (runs_in c.args.writes.now.rows.now)
+    let plan = its_plan c.args.table.now.geometry (given_of c.args.writes.now.contents) c.args.writes.now.places.now (runs_in c.args.writes.now.rows.now)
     c.set_rows.new.self
     c.set_rows.ensures c.requires.planned in
-    in_any_case c.form_parities.result _ (held_of_form c.args.table.now.geometry c.args.writes.now.sectors.now c.args.writes.now.places.now c.set_rows.new.self
+    in_any_case c.form_parities.result _ (held_of_form c.args.table.now.geometry (given_of c.args.writes.now.contents) c.args.writes.now.places.now c.set_rows.new.self
     c.form_parities.new.entry plan (c.form_parities.ensures.form ∙ c.put_given.ensures.form))
 
 -- what was put stands there still, where no parity does
@@ -108,7 +109,7 @@ given_stays geometry sectors places entry put formed plan of_put has others k i 
 pub returns-clause-formed : goal.returns-clause-formed
 returns-clause-formed g c = λ number from honest at.
     let geometry = c.args.table.now.geometry in
-    let sectors = c.args.writes.now.sectors.now in
+    let sectors = (given_of c.args.writes.now.contents) in
     let places = c.args.writes.now.places.now in
     let planned = c.set_rows.new.self in
     let put = c.put_given.new.entry in

@@ -2,7 +2,8 @@
 //! without a member, and beside a member that is rebuilding. The set has 4 members and 4 stripes with chunks of 8
 //! sectors: 96 logical sectors, 24 a stripe, in 32 rows.
 use super::set::{
-    Set, Stretch, array_on, bank_on, byte_at, commit_batch, commit_zeros, large, made,
+    Set, Stretch, array_on, bank_on, byte_at, commit_batch, commit_zero_sectors, commit_zeros,
+    large, made,
 };
 use super::tally::{Calls, Tally, check_calls, tallied};
 use crate::Array;
@@ -18,7 +19,12 @@ enum Written {
     Batch,
     // Zeros into rows 5 to 18, which lie in stripes 0, 1 and 2.
     Zeros,
+    // Zeros into `ZERO_SECTORS`.
+    ZeroSectors,
 }
+
+// Logical sectors 18 to 33, and 60 to 70.
+const ZERO_SECTORS: &[(u64, u32)] = &[(18, 16), (60, 11)];
 
 // Logical sectors 20 to 70. Sectors 40 to 51 are staged twice, 30 and 31, and 59, too.
 const STAGES: &[Stretch] = &[(20, 32, 1), (40, 20, 2), (30, 2, 3), (59, 12, 4)];
@@ -48,13 +54,9 @@ fn is_in_zeros(logical: u64) -> bool {
 fn wanted(written: Written, logical: u64) -> Sector {
     match written {
         Written::Batch => all(byte_at(kind_of(logical), logical)),
-        Written::Zeros => {
-            if is_in_zeros(logical) {
-                BLANK
-            } else {
-                all(byte_at(0, logical))
-            }
-        }
+        Written::Zeros if is_in_zeros(logical) => BLANK,
+        Written::ZeroSectors if matches!(logical, 18..=33 | 60..=70) => BLANK,
+        _ => all(byte_at(0, logical)),
     }
 }
 
@@ -137,6 +139,7 @@ fn write<B: Bank>(rt: &(impl Abort + AllocGlobal), array: &mut Array<B>, written
     match written {
         Written::Batch => commit_batch(rt, array, STAGES, 51),
         Written::Zeros => commit_zeros(rt, array, 5, 14),
+        Written::ZeroSectors => commit_zero_sectors(rt, array, ZERO_SECTORS),
     }
 }
 
@@ -258,5 +261,35 @@ fn zeros_without_a_member(rt: HostRuntime) {
 fn zeros_beside_a_rebuilding_member(rt: HostRuntime) {
     for member in 0..4u8 {
         let _ = check(&rt, Written::Zeros, &rebuilding(member));
+    }
+}
+
+// Stripe 0 has rows 2 to 7 on member 2, with the parity on member 3. Stripe 1 has rows 8 to 15 on member 3 and 8 and 9
+// on member 0, with the parity on member 2; stripe 2 has rows 20 to 23 on member 3 and 16 to 22 on member 0, with the
+// parity on member 1. Of a row in which one of them lies two old values are read, and of the others, 8, 9 and 20 to 22,
+// the one sector that stays.
+const ZERO_SECTORS_CALLS: Calls = Calls {
+    reads: [4, 7, 15, 13, 0, 0, 0, 0, 0, 0],
+    writes: [9, 8, 14, 18, 50, 50, 0, 0, 0, 0],
+    flushes: [1, 1, 1, 1, 2, 2, 0, 0, 0, 0],
+};
+
+#[test]
+fn sectors_that_are_listed_become_zero(rt: HostRuntime) {
+    let (_, calls) = check(&rt, Written::ZeroSectors, &whole());
+    check_calls(&rt, &calls, &ZERO_SECTORS_CALLS);
+}
+
+#[test]
+fn zero_sectors_without_a_member(rt: HostRuntime) {
+    for member in 0..4u8 {
+        let _ = check(&rt, Written::ZeroSectors, &without(member));
+    }
+}
+
+#[test]
+fn zero_sectors_beside_a_rebuilding_member(rt: HostRuntime) {
+    for member in 0..4u8 {
+        let _ = check(&rt, Written::ZeroSectors, &rebuilding(member));
     }
 }

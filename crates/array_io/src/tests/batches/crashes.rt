@@ -2,7 +2,8 @@
 //! sectors. Stripe 4 has its parity on member 1, stripe 5 on member 0 and stripe 6 on member 2; logical sectors 64, 80
 //! and 96 begin them, and rows 32, 40 and 48.
 use super::set::{
-    Stretch, array_on, bank_on, byte_at, commit_batch, commit_zeros, large, made, table_of,
+    Stretch, array_on, bank_on, byte_at, commit_batch, commit_zero_sectors, commit_zeros, large, made,
+    table_of,
 };
 use crate::Array;
 use crate::oracle::{is_row_sound_in, logical_in};
@@ -24,6 +25,8 @@ enum Written {
     Batch,
     // Zeros into rows 36 to 51.
     Zeros,
+    // Zeros into logical sectors 70 to 83.
+    ZeroSectors,
 }
 
 // What stands on the set before, by an entry of its own: logical sectors 60 to 111.
@@ -47,6 +50,7 @@ fn is_written(written: Written, logical: u64) -> bool {
     match written {
         Written::Batch => matches!(logical, 64..=103),
         Written::Zeros => matches!(logical, 68..=71 | 76..=99 | 104..=107),
+        Written::ZeroSectors => matches!(logical, 70..=83),
     }
 }
 
@@ -57,7 +61,7 @@ fn new(written: Written, logical: u64) -> Sector {
     }
     match written {
         Written::Batch => all(byte_at(2, logical)),
-        Written::Zeros => BLANK,
+        Written::Zeros | Written::ZeroSectors => BLANK,
     }
 }
 
@@ -103,6 +107,19 @@ const OF_ZEROS: Case = Case {
     end: 57,
     rows: &[35, 36, 43, 51, 52],
     logical: &[67, 68, 75, 76, 80, 99, 100, 104, 107, 108],
+};
+
+// Sectors 70 and 71 lie on member 2 in rows 38 and 39, sectors 72 to 79 on member 0 in rows 32 to 39, and sectors 80 to
+// 83 on member 1 in rows 40 to 43. Of rows 32 to 37 and of the last four one sector is read. A body has 2 rows of 3
+// sectors and 10 of 2; of these 12, 12 and 2 are on the members.
+const OF_ZERO_SECTORS: Case = Case {
+    written: Written::ZeroSectors,
+    bodies: 64,
+    one_seal: 66,
+    seals: 68,
+    end: 97,
+    rows: &[31, 32, 37, 38, 40, 43, 44],
+    logical: &[69, 70, 71, 72, 79, 80, 83, 84],
 };
 
 // Which list the images of a crash after so many calls of the writing stand for.
@@ -231,6 +248,7 @@ fn write(rt: &(impl Abort + AllocGlobal), array: &mut Array<MemBank>, written: W
     match written {
         Written::Batch => commit_batch(rt, array, BATCH, 40),
         Written::Zeros => commit_zeros(rt, array, 36, 16),
+        Written::ZeroSectors => commit_zero_sectors(rt, array, &[(70, 14)]),
     }
 }
 
@@ -270,4 +288,14 @@ fn batch_is_new_while_the_members_are_written(rt: HostRuntime) {
 #[test]
 fn zeros_are_written_whole_or_not_at_all(rt: HostRuntime) {
     check(&rt, &OF_ZEROS, 0, 57);
+}
+
+#[test]
+fn zero_sectors_are_old_while_their_bodies_are_written(rt: HostRuntime) {
+    check(&rt, &OF_ZERO_SECTORS, 0, 64);
+}
+
+#[test]
+fn zero_sectors_are_zero_once_they_are_sealed(rt: HostRuntime) {
+    check(&rt, &OF_ZERO_SECTORS, 65, 97);
 }

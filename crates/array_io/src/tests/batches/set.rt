@@ -9,7 +9,7 @@ use crate::Array;
 use crate::testing::{
     Slots, all, blank_device, check_sectors, check_slots, is_out, put, same, superblock,
 };
-use batch::Batch;
+use batch::{Batch, ZeroSectors};
 use entry_runs::RunsBuilder;
 use layout_map::Format;
 use sector_model::{Bank, Image, MemBank, Plan, Sector};
@@ -227,4 +227,29 @@ pub(crate) fn commit_zeros<B: Bank>(rt: &impl Abort, array: &mut Array<B>, first
     assert!(rt; is_pushed);
     check_zeros(rt, &array.table, &rows);
     same(rt, array.commit_zeros(&rows), Ok(()));
+}
+
+// Lists the sectors of a stretch among those of this table's set (condition).
+fn list(rt: &impl Abort, table: &Table, stretch: &(u64, u32), zeros: &mut ZeroSectors)
+    requires { zeros.old.geometry ≡ table.now.geometry }
+    ensures { zeros.new.geometry ≡ table.now.geometry }
+{
+    let end = stretch.0.checked_add(u64::from(stretch.1));
+    let end = end.expect(rt, "a number");
+    assert!(rt; end <= table.geometry.data_sectors());
+    let is_listed = zeros.add(stretch.0, stretch.1);
+    assert!(rt; is_listed);
+}
+
+/// Makes the sectors of these stretches zero by one entry: the first of each, and how many.
+pub(crate) fn commit_zero_sectors<B: Bank>(
+    rt: &impl Abort,
+    array: &mut Array<B>,
+    stretches: &[(u64, u32)],
+) {
+    let mut zeros = ZeroSectors::new(&array.table.geometry);
+    for stretch in stretches {
+        list(rt, &array.table, stretch, &mut zeros);
+    }
+    same(rt, array.commit_zero_sectors(&zeros), Ok(()));
 }

@@ -1,22 +1,12 @@
-use Rattle.std.proofs.Common.{◌≡◌, ℕ, Option, Some, None, IfSome, IsNone, length, true, false, refl, sym, subst, arith}
-use Rattle.std.specs.Option.{is_some}
+use Rattle.std.proofs.Common.{◌≡◌, ℕ, length, true, sym, subst, arith}
 use Rattle.std.specs.Prelude.{slice_set}
-use Rattle.std.proofs.lemmas.Bool.{false≢true}
 use Rattle.batch.specs.declared.placed.Placed.{Placed}
 use Rattle.batch.specs.Among.{IsPlacedAs}
 use Rattle.batch.specs.Listed.{places_in}
 use Rattle.batch.specs.Staging.{IsAdded}
 use Rattle.batch.proofs.Placing.{IsInserted}
-use Rattle.batch.proofs.Staged.{added_not, added_one, added_there}
+use Rattle.batch.proofs.Staged.{added_not, added_one, added_there, none_found, some_found}
 use Rattle.batch.proofs.staging.place_one.Goals as goal
-
-some_found : (found : Option ℕ) (P : ℕ → Type 0) → true ≡ is_some found → IfSome found P → (at : ℕ) × P at
-some_found None P is all = absurd (false≢true (sym is))
-some_found (Some at) P is all = (at, all)
-
-none_found : (found : Option ℕ) → false ≡ is_some found → IsNone found
-none_found None is = refl
-none_found (Some at) is = absurd (false≢true is)
 
 pub returns-then-is_some : goal.returns-then-is_some
 returns-then-is_some c =

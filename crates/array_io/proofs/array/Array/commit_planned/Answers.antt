@@ -8,6 +8,7 @@ use Rattle.stripe_journal.proofs.HeldEntries.{body_fits, entry_of_form}
 use Rattle.array_io.specs.Believed.Holds.{row_count}
 use Rattle.sector_model.specs.Readable.{readable}
 use Rattle.array_io.specs.Believed.Settled.{rows_by}
+use Rattle.array_io.specs.Steps.Contents.{given_of}
 use Rattle.array_io.proofs.Images.Codecs.{spellings}
 use Rattle.array_io.proofs.Commits.EntryValues.{values_of}
 use Rattle.array_io.proofs.Commits.FormedEntry.{two_held}
@@ -16,14 +17,14 @@ use Rattle.array_io.proofs.array.Array.commit_planned.Goals as goal
 
 pub returns-then-self-ge-GREATEST_COUNT-clause-commits : goal.returns-then-self-ge-GREATEST_COUNT-clause-commits
 returns-then-self-ge-GREATEST_COUNT-clause-commits g c =
-    commit_worn spellings (g.B.Bank.honest c.args.self.now.bank) c.args.writes.now.sectors.now c.args.self.now.entry c.args.self.now.table
+    commit_worn spellings (g.B.Bank.honest c.args.self.now.bank) (given_of c.args.writes.now.contents) c.args.self.now.entry c.args.self.now.table
     (g.B.Bank.panel c.args.self.now.bank) (g.B.Bank.history c.args.self.now.bank)
     (λ fair. g.met.B.Bank.true_to _ fair) c.if-self-ge-GREATEST_COUNT.true
 
 pub returns-in_err-form_rows-clause-commits : goal.returns-in_err-form_rows-clause-commits
 returns-in_err-form_rows-clause-commits g c =
     let p = err_from_is_err_and c.from_residual.result c.from_residual.ensures.1 in
-    rw (p.1, p.2) (commit_unformed spellings (g.B.Bank.honest c.args.self.now.bank) c.args.self.now.entry c.args.writes.now.sectors.now c.args.self.now.table
+    rw (p.1, p.2) (commit_unformed spellings (g.B.Bank.honest c.args.self.now.bank) c.args.self.now.entry (given_of c.args.writes.now.contents) c.args.self.now.table
     c.form_rows.new.table
     (g.B.Bank.panel c.args.self.now.bank) (g.B.Bank.panel c.form_rows.new.bank) (g.B.Bank.history c.args.self.now.bank) (g.B.Bank.history c.form_rows.new.bank)
     (λ fair. g.met.B.Bank.true_to _ fair) (λ fair. g.met.B.Bank.true_to _ (c.form_rows.ensures.honest.0 fair)) c.in_err-form_rows.field-0.0
@@ -59,21 +60,21 @@ next_seal-seal-requires-clause-listed g c = λ one.
         c.requires.may.few (ap (λ (s : Geometry). s.format)
             (sym {a = c.form_rows.new.table.geometry} same) ∙ one),
       );
-      two = two_held c.args.self.now.table.geometry c.args.writes.now.sectors.now c.form_rows.new.entry c.in_ok-form_rows.ensures.rows
+      two = two_held c.args.self.now.table.geometry (given_of c.args.writes.now.contents) c.form_rows.new.entry c.in_ok-form_rows.ensures.rows
           c.in_ok-form_rows.ensures.held;
     }
 
 pub returns-in_err-put_on_journals-clause-commits : goal.returns-in_err-put_on_journals-clause-commits
 returns-in_err-put_on_journals-clause-commits g c =
     let p = err_from_is_err_and c.from_residual-in_err-put_on_journals.result c.from_residual-in_err-put_on_journals.ensures.1 in
-    rw (p.1, p.2) (put_unsealed spellings (g.B.Bank.honest c.args.self.now.bank) c.args.self.now.entry c.args.writes.now.sectors.now c.args.self.now.table
+    rw (p.1, p.2) (put_unsealed spellings (g.B.Bank.honest c.args.self.now.bank) c.args.self.now.entry (given_of c.args.writes.now.contents) c.args.self.now.table
     c.form_rows.new.table
     (g.B.Bank.panel c.args.self.now.bank) (g.B.Bank.panel c.form_rows.new.bank) (g.B.Bank.history c.args.self.now.bank) (g.B.Bank.history c.form_rows.new.bank)
     (λ fair. g.met.B.Bank.true_to _ fair) (λ fair. g.met.B.Bank.true_to _ (c.form_rows.ensures.honest.0 fair))
     (g.B.Bank.honest c.form_rows.new.bank) (λ fair. c.form_rows.ensures.honest.0 fair) c.next_seal-seal.result c.form_rows.new.entry
     (values_of c.form_rows.new.table.geometry.members (rows_by c.form_rows.new.table (readable (g.B.Bank.history c.form_rows.new.bank))) c.form_rows.new.entry)
     c.in_ok-form_rows.ensures.steps c.next_seal-seal.ensures.number
-    (formed_next spellings (g.B.Bank.honest c.args.self.now.bank) c.args.self.now.entry c.args.writes.now.sectors.now c.args.self.now.table
+    (formed_next spellings (g.B.Bank.honest c.args.self.now.bank) c.args.self.now.entry (given_of c.args.writes.now.contents) c.args.self.now.table
     c.form_rows.new.table
     (g.B.Bank.panel c.args.self.now.bank) (g.B.Bank.panel c.form_rows.new.bank) (g.B.Bank.history c.args.self.now.bank) (g.B.Bank.history c.form_rows.new.bank)
     (λ fair. g.met.B.Bank.true_to _ fair) (λ fair. g.met.B.Bank.true_to _ (c.form_rows.ensures.honest.0 fair))
@@ -85,14 +86,14 @@ returns-in_err-put_on_journals-clause-commits g c =
 pub returns-in_err-put_on_members-clause-commits : goal.returns-in_err-put_on_members-clause-commits
 returns-in_err-put_on_members-clause-commits g c =
     let p = err_from_is_err_and c.from_residual-in_err-put_on_members.result c.from_residual-in_err-put_on_members.ensures.1 in
-    rw (p.1, p.2) (put_unput spellings (g.B.Bank.honest c.args.self.now.bank) c.args.self.now.entry c.args.writes.now.sectors.now c.args.self.now.table
+    rw (p.1, p.2) (put_unput spellings (g.B.Bank.honest c.args.self.now.bank) c.args.self.now.entry (given_of c.args.writes.now.contents) c.args.self.now.table
     c.form_rows.new.table
     (g.B.Bank.panel c.args.self.now.bank) (g.B.Bank.panel c.form_rows.new.bank) (g.B.Bank.history c.args.self.now.bank) (g.B.Bank.history c.form_rows.new.bank)
     (λ fair. g.met.B.Bank.true_to _ fair) (λ fair. g.met.B.Bank.true_to _ (c.form_rows.ensures.honest.0 fair))
     (g.B.Bank.honest c.form_rows.new.bank) (λ fair. c.form_rows.ensures.honest.0 fair) c.next_seal-seal.result c.form_rows.new.entry
     (values_of c.form_rows.new.table.geometry.members (rows_by c.form_rows.new.table (readable (g.B.Bank.history c.form_rows.new.bank))) c.form_rows.new.entry)
     c.in_ok-form_rows.ensures.steps c.next_seal-seal.ensures.number
-    (formed_next spellings (g.B.Bank.honest c.args.self.now.bank) c.args.self.now.entry c.args.writes.now.sectors.now c.args.self.now.table
+    (formed_next spellings (g.B.Bank.honest c.args.self.now.bank) c.args.self.now.entry (given_of c.args.writes.now.contents) c.args.self.now.table
     c.form_rows.new.table
     (g.B.Bank.panel c.args.self.now.bank) (g.B.Bank.panel c.form_rows.new.bank) (g.B.Bank.history c.args.self.now.bank) (g.B.Bank.history c.form_rows.new.bank)
     (λ fair. g.met.B.Bank.true_to _ fair) (λ fair. g.met.B.Bank.true_to _ (c.form_rows.ensures.honest.0 fair))
@@ -107,13 +108,13 @@ returns-in_err-put_on_members-clause-commits g c =
 
 pub returns-clause-commits : goal.returns-clause-commits
 returns-clause-commits g c =
-    put_done spellings (g.B.Bank.honest c.args.self.now.bank) c.args.self.now.entry c.args.writes.now.sectors.now c.args.self.now.table c.form_rows.new.table
+    put_done spellings (g.B.Bank.honest c.args.self.now.bank) c.args.self.now.entry (given_of c.args.writes.now.contents) c.args.self.now.table c.form_rows.new.table
     (g.B.Bank.panel c.args.self.now.bank) (g.B.Bank.panel c.form_rows.new.bank) (g.B.Bank.history c.args.self.now.bank) (g.B.Bank.history c.form_rows.new.bank)
     (λ fair. g.met.B.Bank.true_to _ fair) (λ fair. g.met.B.Bank.true_to _ (c.form_rows.ensures.honest.0 fair))
     (g.B.Bank.honest c.form_rows.new.bank) (λ fair. c.form_rows.ensures.honest.0 fair) c.next_seal-seal.result c.form_rows.new.entry
     (values_of c.form_rows.new.table.geometry.members (rows_by c.form_rows.new.table (readable (g.B.Bank.history c.form_rows.new.bank))) c.form_rows.new.entry)
     c.in_ok-form_rows.ensures.steps c.next_seal-seal.ensures.number
-    (formed_next spellings (g.B.Bank.honest c.args.self.now.bank) c.args.self.now.entry c.args.writes.now.sectors.now c.args.self.now.table
+    (formed_next spellings (g.B.Bank.honest c.args.self.now.bank) c.args.self.now.entry (given_of c.args.writes.now.contents) c.args.self.now.table
     c.form_rows.new.table
     (g.B.Bank.panel c.args.self.now.bank) (g.B.Bank.panel c.form_rows.new.bank) (g.B.Bank.history c.args.self.now.bank) (g.B.Bank.history c.form_rows.new.bank)
     (λ fair. g.met.B.Bank.true_to _ fair) (λ fair. g.met.B.Bank.true_to _ (c.form_rows.ensures.honest.0 fair))

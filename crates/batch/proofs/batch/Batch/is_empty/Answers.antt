@@ -1,12 +1,8 @@
-use Rattle.std.proofs.Common.{◌≡◌, List, [], ◌∷◌, length, refl, sym, ◌∙◌, ap, arith}
-use Rattle.batch.proofs.Kept.{waiting_long}
+use Rattle.std.proofs.Common.{◌≡◌, length, sym, ◌∙◌, ap}
+use Rattle.batch.proofs.Kept.{none_left, waiting_long}
 use Rattle.batch.specs.Listed.{places_in}
 use Rattle.batch.specs.Batches.{waiting}
 use Rattle.batch.proofs.batch.Batch.is_empty.Goals as goal
-
-none_left : {X : Type 0} (xs : List X) → length xs ≡ 0 → xs ≡ []
-none_left [] none = refl
-none_left (x ∷ xs) none = absurd (omega (arith, none))
 
 pub returns : goal.returns
 returns c =

@@ -61,3 +61,4 @@ pub mod ZeroedRanges
 pub mod ZeroedParts
 pub mod ZeroedVolumes
 pub mod GatheredBlocks
+pub mod ZeroedLaw

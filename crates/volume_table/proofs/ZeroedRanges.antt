@@ -188,3 +188,22 @@ zeroing_ends extents honest still dirty owners number first last at end old mid 
     refl (omega (arith, ends.some, ends.most, within)) (omega (arith, ends.some))
     (zeroing_in_turn extents honest still dirty owners number first last old (omega (arith, ends.some, ends.most, within)) true_to zeroing ends.before)
     (told_after still extents owners number true_to ends.before) refusal ends.ends.changes
+
+-- what is honest after them is so before
+pub zeroing_honest : (extents : ExtentLayout) (honest still then : Type 0) (dirty : List Bool) (owners : List (Option Owned)) (number first last at : ℕ)
+    (old now : ArrayView) → (still → then) → (then → still) → IsZeroing extents honest still dirty owners number first last at old now
+    → IsZeroing extents honest then dirty owners number first last at old now
+zeroing_honest extents honest still then dirty owners number first last at old now forth back zeroing = record {
+  forth = λ is. forth (zeroing.forth is);
+  back = λ is. zeroing.back (back is);
+  least = zeroing.least;
+  most = zeroing.most;
+  changes = zeroing.changes;
+}
+
+-- the set is the same after all
+pub zeroes_geometry : (honest : Type 0) (extents : ExtentLayout) (owners : List (Option Owned)) (number at end : ℕ) (old new : ArrayView) (answer : Answer)
+    → ZeroesInTurn honest extents owners number at end old new answer → new.table.geometry ≡ old.table.geometry
+zeroes_geometry honest extents owners number at end old new (Ok tt) zeroes = in_turn_geometry honest extents owners number zeroes
+zeroes_geometry honest extents owners number at end old new (Err refusal) zeroes =
+    zeroes.ends.changes.goes_on.not_older.same_geometry ∙ in_turn_geometry honest extents owners number zeroes.before

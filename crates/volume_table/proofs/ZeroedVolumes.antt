@@ -87,14 +87,14 @@ long_by extents table name number found V volumes shown = length_by extents tabl
     record { entry = found.entry; used = found.used; named = found.named; as_long = refl }
 
 -- a write within the volume is admitted
-admitted : (extents : ExtentLayout) (name : List ℕ) (long at count : ℕ) (volumes : VolumeMap) → 1 ≤ count → count ≤ MOST_BLOCKS_AT_ONCE → at + count ≤ long
+pub admitted : (extents : ExtentLayout) (name : List ℕ) (long at count : ℕ) (volumes : VolumeMap) → 1 ≤ count → count ≤ MOST_BLOCKS_AT_ONCE → at + count ≤ long
     → HasLength name long volumes.volumes → None ≡ refusal_of extents (Write name at (zero_blocks count)) volumes
 admitted extents name long at count volumes least most fits has =
     within_admitted name long at (length (zero_blocks count)) volumes.volumes has
     (omega (arith, least, length-zeros count)) (omega (arith, most, length-zeros count)) (omega (arith, fits, length-zeros count))
 
 -- and leaves it as long
-long_after : (extents : ExtentLayout) (name : List ℕ) (long at count : ℕ) (volumes : VolumeMap) → HasLength name long volumes.volumes
+pub long_after : (extents : ExtentLayout) (name : List ℕ) (long at count : ℕ) (volumes : VolumeMap) → HasLength name long volumes.volumes
     → reply_to extents (Write name at (zero_blocks count)) volumes ≡ Done
     → HasLength name long (volumes_after extents (Write name at (zero_blocks count)) volumes).volumes
 long_after extents name long at count volumes has done =
@@ -106,7 +106,7 @@ long_after extents name long at count volumes has done =
     one_list first second is = cc
 
 -- Each write was done.
-writes_are_done : (extents : ExtentLayout) (name : List ℕ) (long : ℕ) {at end : ℕ} {writes : List Command} (volumes : VolumeMap)
+pub writes_are_done : (extents : ExtentLayout) (name : List ℕ) (long : ℕ) {at end : ℕ} {writes : List Command} (volumes : VolumeMap)
     → AreZeroWrites name at end writes → end ≤ long → HasLength name long volumes.volumes → AreDone extents writes volumes
 writes_are_done extents name long volumes no_write within has = tt
 writes_are_done extents name long {at = at} volumes (then_write count least most rest) within has =

@@ -159,11 +159,13 @@ fn gather_blocks(
 {
     sectors.clear();
     let extents = ExtentLayout::of(geometry);
-    let last = end_of_some(at, last, most_together(geometry.format));
+    let limit = end_of_some(at, last, most_together(geometry.format));
     let mut end = at;
-    while end < last {
-        let next = end_of_extent(&extents, end, end_of_some(end, last, MOST_BLOCKS_AT_ONCE));
-        if !sectors.add(map.where_is(&extents, volume, end), next - end) {
+    while end < limit {
+        let most = end_of_some(end, limit, MOST_BLOCKS_AT_ONCE);
+        let next = end_of_extent(&extents, end, most);
+        let first = map.where_is(&extents, volume, end);
+        if !sectors.add(first, next - end) {
             break;
         }
         end = next;

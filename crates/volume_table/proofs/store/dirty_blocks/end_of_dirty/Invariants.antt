@@ -1,9 +1,9 @@
--- One block at least is counted, and no more than so many.
-use Rattle.std.proofs.Common.{◌-◌, ◌≤◌}
+-- Each step goes on to the next extent.
+use Rattle.std.proofs.Common.{◌<◌, ◌≤◌, ◌-◌}
 use Rattle.volume_table.proofs.store.dirty_blocks.end_of_dirty.Given as goal
 
-abbrev pub invariant-loop-count : goal.invariant-loop-count
-invariant-loop-count l = record { least : 1 ≤ l.count; most : l.count ≤ l.most }
+abbrev pub invariant-loop-end : goal.invariant-loop-end
+invariant-loop-end l = record { least : l.at < l.end; most : l.end ≤ l.last }
 
-abbrev pub decreases-loop-count : goal.decreases-loop-count
-decreases-loop-count l = l.most - l.count
+abbrev pub decreases-loop-end : goal.decreases-loop-end
+decreases-loop-end l = l.last - l.end

@@ -1,17 +1,17 @@
 -- The writes of zeros together make the blocks zero, and change no other.
 use Rattle.std.proofs.Common.{◌≡◌, ◌≢◌, inl, inr, ℕ, ◌+◌, ◌-◌, ◌<◌, ◌≤◌, List, [], ◌∷◌, length, get_or, replicate, Some, None, refl, sym, ◌∙◌, ap, subst, arith}
-use Rattle.std.specs.Prelude.{Contains, slice_index_or}
+use Rattle.std.specs.Prelude.{slice_index_or}
 use Rattle.std.proofs.lemmas.Bool.{cases_lt, ltb-false}
 use Rattle.std.proofs.lemmas.List.{get_or-replicate, length-replicate}
 use Rattle.extents.specs.declared.extent_layout.ExtentLayout.{ExtentLayout}
 use Rattle.volume_table.specs.declared.event.TheConstants.{MOST_BLOCKS_AT_ONCE}
-use Rattle.volume_table.specs.Law.{HasLength, IsWritten, names_of}
+use Rattle.volume_table.specs.Law.{HasLength, IsWritten}
 use Rattle.volume_table.specs.Staging.{after_all}
 use Rattle.volume_table.specs.Volumes.{Block, VolumeList, VolumeMap, blocks_of, zero_block}
 use Rattle.volume_table.specs.VolumeStep.{Command, Done, Write, blocks_in, first_refusal, or_refused, reply_to, volumes_after, zero_blocks}
 use Rattle.volume_table.specs.Zeroing.{AreZeroWrites, checks_of_zero, no_write, then_write}
 use Rattle.volume_table.specs.ZeroingLaw.{LeavesZeros}
-use Rattle.volume_table.proofs.StepLemmas.{none_applies, others_stay, there, write_changes_its_blocks}
+use Rattle.volume_table.proofs.StepLemmas.{none_applies, not_the_one, others_stay, there, write_changes_its_blocks}
 use Rattle.volume_table.proofs.ZeroedVolumes.{admitted, long_after, writes_are_done, writes_order}
 
 -- where it is not refused the volume has the blocks
@@ -42,10 +42,6 @@ length-zeros count = length-replicate {A = Block} count zero_block
 
 one_list : (first second : List Block) → Some first ≡ Some second → first ≡ second
 one_list first second is = cc
-
-not_named : (name other : List ℕ) (at : ℕ) (blocks : List Block) → other ≢ name → ¬ Contains (names_of (Write name at blocks)) other
-not_named name other at blocks apart (zero, below, is) = apart (sym is)
-not_named name other at blocks apart (suc k, below, is) = omega (arith, below)
 
 -- zeros after zeros
 zeros_then : (before mid left : List Block) (at count more : ℕ) → IsWritten before mid at (zero_blocks count) → IsWritten mid left (at + count) (zero_blocks more)
@@ -97,7 +93,7 @@ leaves_from extents name long {at = at} {end = end} volumes before (then_write c
       changes = subst (λ (n : ℕ). IsWritten before more.left at (zero_blocks n)) (omega (arith, order))
           (zeros_then before one.left more.left at count (end - (at + count)) first more.changes);
       others = λ other apart. more.others other apart
-          ∙ others_stay extents (Write name at (zero_blocks count)) volumes other (not_named name other at (zero_blocks count) apart);
+          ∙ others_stay extents (Write name at (zero_blocks count)) volumes other (not_the_one name other apart);
     }
 
 pub leaves_zeros : (extents : ExtentLayout) (name : List ℕ) (at count : ℕ) (writes : List Command) (volumes : VolumeMap)

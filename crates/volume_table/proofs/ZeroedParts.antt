@@ -49,10 +49,12 @@ module _ (extents : ExtentLayout) (owners : List (Option Owned)) (number at coun
   at_between sector within = get_or-map-range_with_len sector_between 0 (length V) sector sector [] within (omega arith)
 
   zero_if_first : (sector : ℕ) → OfFirst sector → (either : OfFirst sector ⊎ ¬ OfFirst sector) → block_of sector either ≡ zero_block
+  unfolding block_of
   zero_if_first sector here (inl there) = refl
   zero_if_first sector here (inr none) = absurd (none here)
 
   same_if_not : (sector : ℕ) → ¬ OfFirst sector → (either : OfFirst sector ⊎ ¬ OfFirst sector) → block_of sector either ≡ get_or V sector []
+  unfolding block_of
   same_if_not sector none (inl here) = absurd (none here)
   same_if_not sector none (inr still) = refl
 

@@ -111,9 +111,11 @@ pub writes_are_done : (extents : ExtentLayout) (name : List ℕ) (long : ℕ) {a
 writes_are_done extents name long volumes no_write within has = tt
 writes_are_done extents name long {at = at} volumes (then_write count least most rest) within has =
     let may = admitted extents name long at count volumes least most (omega (arith, writes_order name rest, within)) has in
-    let done : reply_to extents (Write name at (zero_blocks count)) volumes ≡ Done = ap (λ o. or_refused o Done) (sym may) in
-    (done, writes_are_done extents name long (volumes_after extents (Write name at (zero_blocks count)) volumes) rest within
-    (long_after extents name long at count volumes has done))
+    let done : reply_to extents (Write name at (zero_blocks count)) volumes ≡ Done = ap (λ o. or_refused o Done) (sym may) in (
+      done,
+      writes_are_done extents name long (volumes_after extents (Write name at (zero_blocks count)) volumes) rest within
+          (long_after extents name long at count volumes has done),
+    )
 
 -- A list with the blocks zero shows the volumes after the writes.
 writes_shown : (extents : ExtentLayout) (table : VolumeTable) (owners : List (Option Owned)) (name : List ℕ) (number : ℕ)

@@ -58,12 +58,7 @@ pub fn admit_within(table: &VolumeTable, name: &[u8], at: u32, count: usize) -> 
 ///
 /// Refused with `NoVolume` where no volume has the name, then with `BadCount` where `count` is 0 or above 65,536, then
 /// with `OutOfRange` where the volume has not so many blocks.
-pub fn admit_zeroing(
-    table: &VolumeTable,
-    name: &[u8],
-    at: u32,
-    count: u32,
-) -> Result<u8, Refusal>
+pub fn admit_zeroing(table: &VolumeTable, name: &[u8], at: u32, count: u32) -> Result<u8, Refusal>
     ensures found { IfOk result (λ number. ∥ HasBlocksAt table.now.records name.now number at count ∥₁) }
     ensures listed { IfErr result (λ refusal. Contains (NoVolume ∷ BadCount ∷ OutOfRange ∷ []) refusal) }
     ensures decides { (extents : ExtentLayout) (sectors : List Block) (volumes : VolumeMap)

@@ -10,8 +10,8 @@ returns-then-count-eq0-clause-decides c = λ extents sectors volumes by.
     (length_by extents c.args.table.now sectors volumes c.args.name.now found.number found.count by
     (rw c.in_ok-found.ensures.ok_part at c.record_named.ensures)) (⊎_elim inl (λ above. inr above.1) c.then-count-eq0.either)
 
-pub returns-then-from-count-clause-decides : goal.returns-then-from-count-clause-decides
-returns-then-from-count-clause-decides c = λ extents sectors volumes by.
+pub returns-then-from-clause-decides : goal.returns-then-from-clause-decides
+returns-then-from-clause-decides c = λ extents sectors volumes by.
     let found = c.in_ok-found.found in
     zeroing_past c.args.name.now found.count c.args.at c.args.count volumes.volumes
     (length_by extents c.args.table.now sectors volumes c.args.name.now found.number found.count by
@@ -38,8 +38,8 @@ returns-in_err-found-clause-found c =
 pub returns-then-count-eq0-clause-listed : goal.returns-then-count-eq0-clause-listed
 returns-then-count-eq0-clause-listed c = (1, omega arith, refl)
 
-pub returns-then-from-count-clause-listed : goal.returns-then-from-count-clause-listed
-returns-then-from-count-clause-listed c = (2, omega arith, refl)
+pub returns-then-from-clause-listed : goal.returns-then-from-clause-listed
+returns-then-from-clause-listed c = (2, omega arith, refl)
 
 pub returns-in_err-found-clause-listed : goal.returns-in_err-found-clause-listed
 returns-in_err-found-clause-listed c =

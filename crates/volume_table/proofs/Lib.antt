@@ -62,3 +62,4 @@ pub mod ZeroedParts
 pub mod ZeroedVolumes
 pub mod GatheredBlocks
 pub mod ZeroedLaw
+pub mod ZeroedSessions

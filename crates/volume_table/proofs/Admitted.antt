@@ -27,7 +27,8 @@ use Rattle.volume_table.specs.VolumeStep.{is_bad_count}
 use Rattle.volume_table.specs.VolumeStep.{is_bad_size, refusal_of, zero_blocks}
 use Rattle.volume_table.specs.Law.{HasLength}
 use Rattle.volume_table.specs.Shows.{used_records}
-use Rattle.volume_table.specs.Admission.{AreKept, HasRecordAt, IsFirstUnused, IsGrownFrom, IsRenamedFrom, IsWithinVolume, MayGrowTo, MayRename, ShowsBy}
+use Rattle.volume_table.specs.Admission.{AreKept, HasBlocksAt, HasRecordAt, IsFirstUnused, IsGrownFrom, IsRenamedFrom, IsWithinVolume, MayGrowTo, MayRename, ShowsBy}
+use Rattle.volume_table.specs.Zeroing.{checks_of_zero}
 use Rattle.extents.specs.declared.volume_table.Found.{Found}
 use Rattle.volume_table.proofs.CountLemmas.{records_are_counted}
 use Rattle.volume_table.proofs.FreeLemmas.{free_is_not_needed}
@@ -35,7 +36,7 @@ use Rattle.volume_table.proofs.ReadLemmas.{absent_is_shown, length_is_shown}
 use Rattle.volume_table.proofs.ShowsLemmas.{distinct_names, good_names}
 use Rattle.volume_table.proofs.TableSizes.{few_volumes}
 use Rattle.volume_table.proofs.VolumeLemmas.{need-with_other}
-use Rattle.volume_table.specs.declared.event.TheConstants.{MOST_BLOCKS_AT_ONCE}
+use Rattle.volume_table.specs.declared.event.TheConstants.{MOST_BLOCKS_AT_ONCE, MOST_ZEROED_AT_ONCE}
 use Rattle.extents.specs.declared.volume_table.TheConstants.{MOST_VOLUMES}
 
 -- a table has 64 records
@@ -147,6 +148,62 @@ within_admitted name long at count volumes has least most fits =
     ∙ cond-false (is_bad_count count) (Some BadCount) _ (count_is_good count least most)
     ∙ cond-false (nat_lt (length (blocks_in name volumes)) (at + count)) (Some OutOfRange) None inside
     )
+
+-- ---- blocks that are to be made zero
+
+pub found_blocks : (table : VolumeTable) (name : List ℕ) (number long at count : ℕ) → IsRecordFor table.records name number long → 1 ≤ count
+    → at + count ≤ long → HasBlocksAt table.records name number at count
+found_blocks table name number long at count found least fits =
+    record {
+      of_table = used_is_of_table table number found.entry found.used;
+      entry = found.entry;
+      used = found.used;
+      named = found.named;
+      fits = omega (arith, fits, found.as_long);
+      least = least;
+    }
+
+zeroing_is_bad : (count : ℕ) → (count ≡ 0) ⊎ (MOST_ZEROED_AT_ONCE < count) → (count == 0 || nat_lt MOST_ZEROED_AT_ONCE count) ≡ true
+zeroing_is_bad count bad = ⊎_elim (λ none. or_left (count == 0) (nat_lt MOST_ZEROED_AT_ONCE count) (eq-eqb count 0 none))
+    (λ above. or_right (count == 0) (nat_lt MOST_ZEROED_AT_ONCE count) (lt-ltb MOST_ZEROED_AT_ONCE count above)) bad
+
+zeroing_is_good : (count : ℕ) → 1 ≤ count → count ≤ MOST_ZEROED_AT_ONCE → (count == 0 || nat_lt MOST_ZEROED_AT_ONCE count) ≡ false
+zeroing_is_good count least most = or_from (count == 0) (nat_lt MOST_ZEROED_AT_ONCE count) (ne_eqb count 0 (λ none. omega (arith, least, none)))
+    (le-ltb MOST_ZEROED_AT_ONCE count most)
+
+pub zeroing_bad_count : (name : List ℕ) (long at count : ℕ) (volumes : VolumeList) → HasLength name long volumes → (count ≡ 0) ⊎ (MOST_ZEROED_AT_ONCE < count)
+    → Some BadCount ≡ first_refusal (checks_of_zero name at count volumes)
+zeroing_bad_count name long at count volumes has bad =
+    sym (cond-false (has_no_volume name volumes) (Some NoVolume) _ (is_there name long volumes has)
+    ∙ cond-true (count == 0 || nat_lt MOST_ZEROED_AT_ONCE count) (Some BadCount) _ (zeroing_is_bad count bad))
+
+pub zeroing_past : (name : List ℕ) (long at count : ℕ) (volumes : VolumeList) → HasLength name long volumes → 1 ≤ count → count ≤ MOST_ZEROED_AT_ONCE
+    → long < at + count
+    → Some OutOfRange ≡ first_refusal (checks_of_zero name at count volumes)
+zeroing_past name long at count volumes has least most past =
+    let past_end : nat_lt (length (blocks_in name volumes)) (at + count) ≡ true =
+    lt-ltb (length (blocks_in name volumes)) (at + count) (omega (arith, past, long_blocks name long volumes has)) in
+    sym (
+    cond-false (has_no_volume name volumes) (Some NoVolume) _ (is_there name long volumes has)
+    ∙ cond-false (count == 0 || nat_lt MOST_ZEROED_AT_ONCE count) (Some BadCount) _ (zeroing_is_good count least most)
+    ∙ cond-true (nat_lt (length (blocks_in name volumes)) (at + count)) (Some OutOfRange) None past_end
+    )
+
+pub zeroing_admitted : (name : List ℕ) (long at count : ℕ) (volumes : VolumeList) → HasLength name long volumes → 1 ≤ count → count ≤ MOST_ZEROED_AT_ONCE
+    → at + count ≤ long
+    → None ≡ first_refusal (checks_of_zero name at count volumes)
+zeroing_admitted name long at count volumes has least most fits =
+    let inside : nat_lt (length (blocks_in name volumes)) (at + count) ≡ false =
+    le-ltb (length (blocks_in name volumes)) (at + count) (omega (arith, fits, long_blocks name long volumes has)) in
+    sym (
+    cond-false (has_no_volume name volumes) (Some NoVolume) _ (is_there name long volumes has)
+    ∙ cond-false (count == 0 || nat_lt MOST_ZEROED_AT_ONCE count) (Some BadCount) _ (zeroing_is_good count least most)
+    ∙ cond-false (nat_lt (length (blocks_in name volumes)) (at + count)) (Some OutOfRange) None inside
+    )
+
+pub no_volume_to_zero : (name : List ℕ) (at count : ℕ) (volumes : VolumeList) → blocks_of name volumes ≡ None
+    → Some NoVolume ≡ first_refusal (checks_of_zero name at count volumes)
+no_volume_to_zero name at count volumes none = sym (cond-true (has_no_volume name volumes) (Some NoVolume) _ (ap is_none none))
 
 -- a name that a table of this version may have
 pub record IsNameOf (version : ℕ) (name : List ℕ) : Type 0 where

@@ -14,7 +14,7 @@ use Rattle.extents.specs.Owners.{owner_of, IsAt}
 use Rattle.extents.specs.VolumeTables.{extents_for, extents_of, record_of}
 use Rattle.extents.proofs.Blocks.{place_is_below}
 use Rattle.extents.proofs.OwnerLemmas.{owner_is}
-use Rattle.volume_table.specs.Admission.{AreKept, HasRecordAt, IsWithinVolume}
+use Rattle.volume_table.specs.Admission.{AreKept, HasRecordAt, HasBlocksAt, IsWithinVolume}
 use Rattle.volume_table.specs.StoreChanges.{AllPlaced}
 use Rattle.extents.specs.declared.record.TheConstants.{MOST_BLOCKS}
 use Rattle.volume_table.specs.declared.event.TheConstants.{MOST_BLOCKS_AT_ONCE}
@@ -64,17 +64,33 @@ found_place owners volume place has = elim (find_place owners volume place) [
   | inr not_there ↦ absurd (∥∥₁_elim has (hlevel props) not_there)
 ]
 
--- each of the blocks that are to be read or written has an extent
-pub within_is_placed : (extents : ExtentLayout) (table : VolumeTable) (owners : List (Option Owned)) (name : List ℕ) (number at count : ℕ)
+-- each of the blocks of a volume has an extent
+pub blocks_are_placed : (extents : ExtentLayout) (table : VolumeTable) (owners : List (Option Owned)) (name : List ℕ) (number at count : ℕ)
     → AreKept extents table owners
-    → ∥ IsWithinVolume table.records name number at count ∥₁ → AllPlaced extents owners number at (at + count)
-within_is_placed extents table owners name number at count kept within block least below =
-    found_place owners number (place_of extents block) (∥∥₁_elim kept.of_set.placed (hlevel props) (λ placed. ∥∥₁_elim within (hlevel props) (λ it.
+    → ∥ HasBlocksAt table.records name number at count ∥₁ → AllPlaced extents owners number at (at + count)
+blocks_are_placed extents table owners name number at count kept has block least below =
+    found_place owners number (place_of extents block) (∥∥₁_elim kept.of_set.placed (hlevel props) (λ placed. ∥∥₁_elim has (hlevel props) (λ it.
     let many : extents_of extents.blocks (record_of table.records number) ≡ extents_for extents.blocks it.entry.blocks =
     ap (extents_of extents.blocks) it.used in
     let its = place_is_below extents.blocks it.entry.blocks block extents.limits.some (omega (arith, below, it.fits)) in
     let there = (placed number).extent_at (place_of extents block) (omega (arith, many, its)) in
     ∣ (there.0, kept_owner extents table owners kept there.0 ∙ there.1) ∣₁)))
+
+-- they end by the most blocks of a volume, and are some
+pub blocks_fit : (records : List (Option Record)) (name : List ℕ) (number at count : ℕ) → ∥ HasBlocksAt records name number at count ∥₁
+    → at + count ≤ MOST_BLOCKS
+blocks_fit records name number at count has = ∥∥₁_elim has (hlevel props) (λ it. omega (arith, it.fits, it.entry.most))
+
+pub blocks_least : (records : List (Option Record)) (name : List ℕ) (number at count : ℕ) → ∥ HasBlocksAt records name number at count ∥₁ → 1 ≤ count
+blocks_least records name number at count has = ∥∥₁_elim has (hlevel props) (λ it. it.least)
+
+-- so has each of those that are to be read or written
+pub within_is_placed : (extents : ExtentLayout) (table : VolumeTable) (owners : List (Option Owned)) (name : List ℕ) (number at count : ℕ)
+    → AreKept extents table owners
+    → ∥ IsWithinVolume table.records name number at count ∥₁ → AllPlaced extents owners number at (at + count)
+within_is_placed extents table owners name number at count kept within =
+    blocks_are_placed extents table owners name number at count kept (∥∥₁_elim within (hlevel props) (λ it.
+    ∣ record { of_table = it.of_table; entry = it.entry; used = it.used; named = it.named; fits = it.fits; least = it.least } ∣₁))
 
 -- they are 1 to 32, and end by the most blocks of a volume
 pub within_least : (records : List (Option Record)) (name : List ℕ) (number at count : ℕ) → ∥ IsWithinVolume records name number at count ∥₁ → 1 ≤ count
@@ -105,3 +121,15 @@ pub within_record : (records : List (Option Record)) (name : List ℕ) (number a
     → HasRecordAt records name number
 within_record records name number at count within = found_record records name number (∥∥₁_elim within (hlevel props) (λ it.
     ∣ record { of_table = it.of_table; entry = it.entry; used = it.used; named = it.named } ∣₁))
+
+-- and that of the blocks that are to be made zero
+pub blocks_record : (records : List (Option Record)) (name : List ℕ) (number at count : ℕ) → ∥ HasBlocksAt records name number at count ∥₁
+    → HasRecordAt records name number
+blocks_record records name number at count has = found_record records name number (∥∥₁_elim has (hlevel props) (λ it.
+    ∣ record { of_table = it.of_table; entry = it.entry; used = it.used; named = it.named } ∣₁))
+
+-- which has them
+pub record_has_blocks : (records : List (Option Record)) (name : List ℕ) (number at count : ℕ) → ∥ HasBlocksAt records name number at count ∥₁
+    → (found : HasRecordAt records name number) → at + count ≤ found.entry.blocks
+record_has_blocks records name number at count has found = ∥∥₁_elim has (hlevel props) (λ it.
+    omega (arith, it.fits, ap (λ (r : Record). r.blocks) (same_Some it.entry found.entry (sym it.used ∙ found.used))))

@@ -56,3 +56,10 @@ pub mod WorkedRows
 pub mod WrittenSectors
 pub mod WrittenVolumes
 pub mod ZeroedBlocks
+pub mod AlignedExtents
+pub mod ZeroedRanges
+pub mod ZeroedParts
+pub mod ZeroedVolumes
+pub mod GatheredBlocks
+pub mod ZeroedLaw
+pub mod ZeroedSessions

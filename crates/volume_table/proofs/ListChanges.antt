@@ -93,7 +93,7 @@ out_at_rest table lost of_set is = elim (state_in_sync (state_at table.states lo
     some_is_none : Some lost ≡ None → ⊥
     some_is_none is = cc
 
-still_lost : (array : ArrayView) (lost : Option Lost) (V : List Bytes) → RestsOn array lost V → IsLostAfter lost array.table lost
+pub still_lost : (array : ArrayView) (lost : Option Lost) (V : List Bytes) → RestsOn array lost V → IsLostAfter lost array.table lost
 still_lost array None V rests = inl (complete_at_rest array.table rests.lost_slot, refl)
 still_lost array (Some lost) V rests =
     inr (
@@ -102,7 +102,7 @@ still_lost array (Some lost) V rests =
     )
 
 -- none was lost before, and one failed, with nothing away
-record HasFailedSince (slots : ℕ) (before : Option Lost) (h : History) (after : Option Lost) : Type 0 where
+pub record HasFailedSince (slots : ℕ) (before : Option Lost) (h : History) (after : Option Lost) : Type 0 where
   pub slot : ℕ
   pub of_set : slot < slots
   pub none : before ≡ None
@@ -110,7 +110,7 @@ record HasFailedSince (slots : ℕ) (before : Option Lost) (h : History) (after 
   pub lost : after ≡ Some (alone slot)
 
 -- what is lost after some calls: what was lost before, or what failed since
-abbrev IsLostSince : (slots : ℕ) (before : Option Lost) → History → (after : Option Lost) → Type 0
+abbrev pub IsLostSince : (slots : ℕ) (before : Option Lost) → History → (after : Option Lost) → Type 0
 IsLostSince slots before h after = (after ≡ before) ⊎ HasFailedSince slots before h after
 
 missing_differs : Missing ≡ InSync → ⊥
@@ -165,7 +165,7 @@ failed_at slots slot h after of_set down (inr failure) = elim (cases_eq slot fai
 ]
 
 -- what is lost at a later moment, by what was lost at the first
-lost_at_later : (slots : ℕ) (lost between after : Option Lost) (mid h : History) → IsLostSince slots lost mid between → StaysDown mid h
+pub lost_at_later : (slots : ℕ) (lost between after : Option Lost) (mid h : History) → IsLostSince slots lost mid between → StaysDown mid h
     → IsLostAt slots lost h after
     → IsLostAt slots between h after
 lost_at_later slots lost between after mid h (inl same) stays lost_at = subst (λ (l : Option Lost). IsLostAt slots l h after) (sym same) lost_at
@@ -200,7 +200,7 @@ down_then (Fault other at value) h device is = or_true _ (is_down h device) is
 down_then (Flushed other) h device is = is
 down_then (DeviceFailed other) h device is = or_true _ (is_down h device) is
 
-stays_down : {P : History → Type 0} {old : History} (new : History) → Throughout P old new → Throughout (StaysDown old) old new
+pub stays_down : {P : History → Type 0} {old : History} (new : History) → Throughout P old new → Throughout (StaysDown old) old new
 stays_down new (here is) = here (λ device down. down)
 stays_down new (then_also event h so_far is) =
     let before = stays_down h so_far in

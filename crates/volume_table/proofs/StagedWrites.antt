@@ -212,17 +212,12 @@ refused_as refusal = Err refusal
 one_refusal : (first second : Refusal) → refused_as first ≡ Err second → first ≡ second
 one_refusal first second is = cc
 
-module _ (honest : Type 0) (writes : List Command) (sectors : Given) (passes leaves : Change) (old new : StoreView)
-    (holds : HoldsWrites (extents_for_store old) old.keeps writes sectors)
-    (fits : (lost : Option Lost) (V : List Block) → RestsOn old.array lost V → LieWithin V sectors)
+module _ (honest : Type 0) (writes : List Command) (passes leaves : Change) (old new : StoreView)
+    (all_done : (lost : Option Lost) (volumes : VolumeMap) → IsSettledOn old lost volumes → AreDone (extents_for_store old) writes volumes)
     (on_the_way : ShowsEither old (after_all (extents_for_store old) writes) passes)
     (left : (V W : List Block) (volumes : VolumeMap) → ShowsBy (extents_for_store old) old.keeps V volumes → leaves V W
     → ShowsBy (extents_for_store old) new.keeps W (after_all (extents_for_store old) writes volumes))
     (keeps : new.keeps ≡ old.keeps) where
-  all_done : (lost : Option Lost) (volumes : VolumeMap) → IsSettledOn old lost volumes → AreDone (extents_for_store old) writes volumes
-  all_done lost volumes settled =
-      holds.done settled.logical volumes (fits lost settled.logical settled.rests) (shown_by old lost volumes settled)
-
   -- All of its calls were answered.
   pub writes_done : new.ended ≡ None → ChangesList honest 1 passes leaves old.array new.array (Ok tt) → CommitsWrites honest writes old new (Ok tt)
   writes_done going changes = record {
@@ -256,6 +251,13 @@ module _ (honest : Type 0) (writes : List Command) (sectors : Given) (passes lea
     moments = moments honest 1 passes leaves old new (Err refusal) (after_all (extents_for_store old) writes) changes on_the_way;
     settled = λ fair answered. absurd (differ refusal (sym answered));
   }
+
+-- what waits is done
+held_done : (writes : List Command) (sectors : Given) (old : StoreView) → HoldsWrites (extents_for_store old) old.keeps writes sectors
+    → ((lost : Option Lost) (V : List Block) → RestsOn old.array lost V → LieWithin V sectors)
+    → (lost : Option Lost) (volumes : VolumeMap) → IsSettledOn old lost volumes → AreDone (extents_for_store old) writes volumes
+held_done writes sectors old holds fits lost volumes settled =
+    holds.done settled.logical volumes (fits lost settled.logical settled.rests) (shown_by old lost volumes settled)
 
 -- the list with the sectors written, where they lie within it
 abbrev Leaves : Given → Change
@@ -298,17 +300,19 @@ staged_committed honest writes sectors old new result holds of_set keeps goes en
         (shows V W volumes shown is)
 
     by_result : (answer : Answer) → result ≡ answer → CommitsWrites honest writes old new answer
-    by_result (Ok unit) is = writes_done honest writes sectors (IsSameOr (Leaves sectors)) (Leaves sectors) old new holds fits on_the_way left keeps (goes is)
+    by_result (Ok unit) is = writes_done honest writes (IsSameOr (Leaves sectors)) (Leaves sectors) old new (held_done writes sectors old holds fits) on_the_way
+        left keeps (goes is)
         (subst (λ (a : Answer). ChangesList honest 1 (IsSameOr (Leaves sectors)) (Leaves sectors) old.array new.array a) is changes)
-    by_result (Err refusal) is = writes_ended honest writes sectors (IsSameOr (Leaves sectors)) (Leaves sectors) old new holds fits on_the_way left keeps
-        refusal (ends refusal is)
+    by_result (Err refusal) is = writes_ended honest writes (IsSameOr (Leaves sectors)) (Leaves sectors) old new (held_done writes sectors old holds fits)
+        on_the_way left keeps refusal (ends refusal is)
         (subst (λ (a : Answer). ChangesList honest 1 (IsSameOr (Leaves sectors)) (Leaves sectors) old.array new.array a) is changes) (commits.cause refusal is)
 
 -- Where nothing waits, nothing is done.
 pub none_committed : (honest : Type 0) (writes : List Command) (store : StoreView) → store.ended ≡ None
     → HoldsWrites (extents_for_store store) store.keeps writes [] → CommitsWrites honest writes store store (Ok tt)
 none_committed honest writes store going holds =
-    writes_done honest writes [] IsSame IsSame store store holds (λ lost V rests k within. absurd (omega (arith, within)))
+    writes_done honest writes IsSame IsSame store store
+    (held_done writes [] store holds (λ lost V rests k within. absurd (omega (arith, within))))
     (λ V W volumes shown same. inl (subst (λ (l : List Block). Shows (extents_for_store store) l volumes) (sym same) shown.shows))
     (λ V W volumes shown same. subst (λ (l : List Block). ShowsBy (extents_for_store store) store.keeps l (after_all (extents_for_store store) writes volumes))
     (sym same) (holds.shows V volumes (λ k within. absurd (omega (arith, within))) shown))

@@ -30,7 +30,7 @@ use Rattle.volume_table.proofs.VolumeLemmas.{found_has, length-without, need-wit
 use Rattle.volume_table.proofs.VolumeLemmas.{same_name_is}
 
 -- where nothing is refused, the first check does not apply, and the others refuse nothing
-none_applies : (applies : Bool) (refusal : Refusal) (rest : Option Refusal) → cond applies (Some refusal) rest ≡ None → (applies ≡ false) × (rest ≡ None)
+pub none_applies : (applies : Bool) (refusal : Refusal) (rest : Option Refusal) → cond applies (Some refusal) rest ≡ None → (applies ≡ false) × (rest ≡ None)
 none_applies true refusal rest none = absurd (none-some refusal (sym none))
 none_applies false refusal rest none = (refl, none)
 
@@ -40,7 +40,7 @@ done_if_not_refused None reply done = refl
 done_if_not_refused (Some refusal) reply done = absurd (grind arith)
 
 -- who is there, and who is not
-there : (blocks : Option (List Block)) → is_none blocks ≡ false → blocks ≡ Some (unwrap_or blocks [])
+pub there : (blocks : Option (List Block)) → is_none blocks ≡ false → blocks ≡ Some (unwrap_or blocks [])
 there None e = absurd (true≢false e)
 there (Some blocks) e = refl
 
@@ -57,7 +57,7 @@ length-zero_block : length zero_block ≡ 512
 unfolding zero_block
 length-zero_block = length-replicate {A = ℕ} 512 0
 
-zero_blocks_whole : (count : ℕ) → All IsBlock (zero_blocks count)
+pub zero_blocks_whole : (count : ℕ) → All IsBlock (zero_blocks count)
 zero_blocks_whole count = All-replicate IsBlock count zero_block length-zero_block
 
 -- the facts under which a command is done

@@ -22,7 +22,7 @@ use Rattle.superblock.specs.declared.table.Table.{Table}
 use Rattle.layout_map.specs.declared.format.Format.TheVariants.{Two}
 use Rattle.entry_runs.specs.WrittenOut.{masks_of_runs, rows_of_runs}
 use Rattle.extents.specs.SetExtents.{extents_in}
-use Rattle.volume_table.specs.ListChanges.{Change, ChangesList, IsSameOr}
+use Rattle.volume_table.specs.ListChanges.{Change, IsSameOr}
 use Rattle.volume_table.proofs.ListChanges.{changes_commit, changes_more, rests_long}
 use Rattle.volume_table.proofs.TableSizes.{room_for}
 use Rattle.array_io.specs.Believed.ZeroRows.{MayZero, row_of_logical, zeros_in}
@@ -37,10 +37,11 @@ use Rattle.volume_table.specs.StoreChanges.{AllPlaced, IsWrittenAt}
 use Rattle.volume_table.specs.Volumes.{Block, zero_block}
 use Rattle.volume_table.specs.VolumeStep.{zero_blocks}
 use Rattle.volume_table.specs.WholeStripes.{AreStripesOf, FillStripe, GathersStripes}
+use Rattle.volume_table.specs.ZeroedRanges.{ZeroesTogether}
 use Rattle.volume_table.proofs.WrittenSectors.{length-written, written_elsewhere}
 
 -- a zero block is a zero sector
-zero_is : zero_sector ≡ zero_block
+pub zero_is : zero_sector ≡ zero_block
 unfolding zero_block
 zero_is = sym (zero_sector-replicate 512 refl)
 
@@ -321,17 +322,17 @@ module _ (table : Table) (owners : List (Option Owned)) (number at end : ℕ) (r
 
   -- and a commit of that makes the blocks zero, and changes nothing else
   pub stripes_zeroed : (honest : Type 0) (old new : ArrayView) (answer : Answer) → old.table ≡ table
-      → Commits honest (zeros_in geometry rows) old new answer
-      → ChangesList honest 1 (IsSameOr (IsWrittenAt (extents_in geometry) owners number at (zero_blocks (end - at))))
-      (IsWrittenAt (extents_in geometry) owners number at (zero_blocks (end - at))) old new answer
-  stripes_zeroed honest old new answer same commits =
-      changes_more honest 1 1 (IsSameOr (λ V W. W ≡ written V (zeros_in geometry rows))) (λ V W. W ≡ written V (zeros_in geometry rows))
-      (IsSameOr Zeroed) Zeroed old new answer (omega arith) (changes_commit honest (zeros_in geometry rows) old new answer commits)
-      (λ lost V W rests passes. elim passes [
-        | inl is ↦ inl is
-        | inr is ↦ inr (is_zeroed lost V W rests is)
-      ])
-      is_zeroed
+      → Commits honest (zeros_in geometry rows) old new answer → ZeroesTogether honest (extents_in geometry) owners number at end old new answer
+  stripes_zeroed honest old new answer same commits = record {
+    changes = changes_more honest 1 1 (IsSameOr (λ V W. W ≡ written V (zeros_in geometry rows))) (λ V W. W ≡ written V (zeros_in geometry rows))
+        (IsSameOr Zeroed) Zeroed old new answer (omega arith) (changes_commit honest (zeros_in geometry rows) old new answer commits)
+        (λ lost V W rests passes. elim passes [
+          | inl is ↦ inl is
+          | inr is ↦ inr (is_zeroed lost V W rests is)
+        ])
+        is_zeroed;
+    cause = commits.cause;
+  }
     where
       Zeroed : Change
       Zeroed = IsWrittenAt (extents_in table.geometry) owners number at (zero_blocks (end - at))

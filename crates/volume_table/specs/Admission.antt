@@ -43,6 +43,15 @@ pub record TakesLowest (version : ℕ) (before after : List (Option Record)) (na
   pub lowest : IsFirstUnused version before number
   pub taken : HasRecordAt after name number
 
+-- `count` blocks from `at` on, 1 at least, are of the volume of this record, which has this name
+pub record HasBlocksAt (records : List (Option Record)) (name : List ℕ) (number at count : ℕ) : Type 0 where
+  pub of_table : number < MOST_VOLUMES
+  pub entry : Record
+  pub used : record_of records number ≡ Some entry
+  pub named : entry.name.bytes.items ≡ name
+  pub fits : at + count ≤ entry.blocks
+  pub least : 1 ≤ count
+
 -- `count` blocks from `at` on, 1 to 32, are of the volume of this record, which has this name
 pub record IsWithinVolume (records : List (Option Record)) (name : List ℕ) (number at count : ℕ) : Type 0 where
   pub of_table : number < MOST_VOLUMES

@@ -28,3 +28,6 @@ pub mod Stretches
 pub mod VolumeStep
 pub mod Volumes
 pub mod WholeStripes
+pub mod ZeroedRanges
+pub mod Zeroing
+pub mod ZeroingLaw

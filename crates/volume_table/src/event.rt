@@ -9,6 +9,9 @@ use sector_model::{Refusal, Sector};
 /// The most blocks of a read or a write.
 pub const MOST_BLOCKS_AT_ONCE: usize = 32;
 
+/// The most blocks that are made zero by one call.
+pub const MOST_ZEROED_AT_ONCE: u32 = 65_536;
+
 /// A command on the volumes of a store, or on its set. Names and blocks are lent; a name may be any bytes, and whether
 /// it is a good one is decided by the command.
 #[derive(Clone, Copy)]

@@ -10,6 +10,7 @@ mod runs;
 mod safe;
 mod set;
 mod shown;
+mod zeroing;
 
 pub use all_runs::headline;
 pub use commands::law_of_commands;
@@ -22,3 +23,4 @@ pub use runs::volumes_after_a_start;
 pub use safe::safe_and_total;
 pub use set::law_of_set_commands;
 pub use shown::law_of_shown_volumes;
+pub use zeroing::law_of_zeroing;

@@ -12,6 +12,7 @@ use sector_model::{Bank, Refusal};
 mod admission;
 mod applying;
 mod creating;
+mod dirty_blocks;
 mod extending;
 mod failing;
 mod growing;
@@ -28,8 +29,10 @@ mod saving;
 mod scrubbing;
 mod staging;
 mod status;
+mod stripes;
 mod upgrading;
 mod writing;
+mod zero_ranges;
 mod zeroing;
 
 /// The volumes of a set that was made or assembled.

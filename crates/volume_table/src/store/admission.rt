@@ -6,15 +6,16 @@ ghost use Rattle.sector_model.specs.declared.refusal.Refusal.TheVariants.{NoVolu
 ghost use Rattle.extents.specs.declared.extent_layout.ExtentLayout.{ExtentLayout};
 ghost use Rattle.extents.specs.Versions.{most_volumes};
 ghost use Rattle.extents.specs.VolumeTables.{IsRecordFor, record_of};
-ghost use Rattle.volume_table.specs.Admission.{AreKept, HasRecordAt, IsFirstUnused, IsWithinVolume, MayGrowTo};
-ghost use Rattle.volume_table.specs.Admission.{MayRename, ShowsBy, refusal_in};
+ghost use Rattle.volume_table.specs.Admission.{AreKept, HasBlocksAt, HasRecordAt, IsFirstUnused, IsWithinVolume};
+ghost use Rattle.volume_table.specs.Admission.{MayGrowTo, MayRename, ShowsBy, refusal_in};
 ghost use Rattle.volume_table.specs.Volumes.{Block, VolumeMap};
 ghost use Rattle.volume_table.specs.VolumeStep.{Create, Extend, Remove, Rename, checks_within, first_refusal};
 ghost use Rattle.volume_table.specs.VolumeStep.{refusal_of};
+ghost use Rattle.volume_table.specs.Zeroing.{checks_of_zero};
 
 use super::growing::Growth;
 use super::renaming::Renaming;
-use crate::event::MOST_BLOCKS_AT_ONCE;
+use crate::event::{MOST_BLOCKS_AT_ONCE, MOST_ZEROED_AT_ONCE};
 use extents::{
     ExtentLayout, ExtentMap, MOST_VOLUMES, Name, Record, VolumeTable, most_name_bytes, most_volumes,
 };
@@ -48,6 +49,27 @@ pub fn admit_within(table: &VolumeTable, name: &[u8], at: u32, count: usize) -> 
         return Err(Refusal::BadCount);
     }
     if u64::from(at) + count as u64 > u64::from(found.count) {
+        return Err(Refusal::OutOfRange);
+    }
+    Ok(found.number as u8)
+}
+
+/// The number of the record of the volume of which `count` blocks from `at` on are to be made zero.
+///
+/// Refused with `NoVolume` where no volume has the name, then with `BadCount` where `count` is 0 or above 65,536, then
+/// with `OutOfRange` where the volume has not so many blocks.
+pub fn admit_zeroing(table: &VolumeTable, name: &[u8], at: u32, count: u32) -> Result<u8, Refusal>
+    ensures found { IfOk result (λ number. ∥ HasBlocksAt table.now.records name.now number at count ∥₁) }
+    ensures listed { IfErr result (λ refusal. Contains (NoVolume ∷ BadCount ∷ OutOfRange ∷ []) refusal) }
+    ensures decides { (extents : ExtentLayout) (sectors : List Block) (volumes : VolumeMap)
+        → ShowsBy extents table.now sectors volumes
+        → refusal_in result ≡ first_refusal (checks_of_zero name.now at count volumes.volumes) }
+{
+    let found = table.record_named(name).ok_or(Refusal::NoVolume)?;
+    if count == 0 || count > MOST_ZEROED_AT_ONCE {
+        return Err(Refusal::BadCount);
+    }
+    if u64::from(at) + u64::from(count) > u64::from(found.count) {
         return Err(Refusal::OutOfRange);
     }
     Ok(found.number as u8)

@@ -8,7 +8,7 @@ ghost use Rattle.volume_table.specs.ListChanges.{ChangesList};
 ghost use Rattle.extents.specs.SetExtents.{extents_in};
 ghost use Rattle.volume_table.specs.StoreChanges.{Grows, MayGrow};
 
-use super::placing::zero_blocks;
+use super::dirty_blocks::zero_blocks;
 use super::saving::{put_table, spelled};
 use array_io::Array;
 use extents::{ExtentLayout, ExtentMap, Record, VolumeTable};

@@ -1,20 +1,17 @@
 //! The blocks of a volume are written where they lie.
-ghost use Rattle.std.specs.Prelude.{◌≡◌, ◌≤◌, ◌<◌, ◌+◌, ◌-◌, ◌↔◌, ℕ, false, length, true};
+ghost use Rattle.std.specs.Prelude.{◌≡◌, ◌≤◌, ◌+◌, ◌↔◌, false, length, true};
 ghost use Rattle.batch.specs.Batches.{waiting};
 ghost use Rattle.array_io.specs.Believed.OpenArray.{IsHonest, array_view};
 ghost use Rattle.extents.specs.declared.record.TheConstants.{MOST_BLOCKS};
 ghost use Rattle.volume_table.specs.ListChanges.{ChangesList, IsSameOr};
-ghost use Rattle.extents.specs.ExtentMaps.{HasPlace, place_of};
 ghost use Rattle.extents.specs.SetExtents.{extents_in};
-ghost use Rattle.volume_table.specs.StoreChanges.{AllPlaced, ArePlaced, IsPartlyZero, IsWrittenAt, IsZeroed};
+ghost use Rattle.volume_table.specs.StoreChanges.{AllPlaced, ArePlaced, IsWrittenAt};
 ghost use Rattle.volume_table.specs.StagedBlocks.{StagesBlocks};
-ghost use Rattle.volume_table.specs.Stretches.{IsDirtyBlock, IsStretch};
 
-use super::zeroing::{gather_stripes, most_at_once, zero_stripes};
 use crate::event::MOST_BLOCKS_AT_ONCE;
 use array_io::Array;
 use arrayvec::ArrayVec;
-use batch::{Batch, ZeroRows};
+use batch::Batch;
 use extents::{ExtentLayout, ExtentMap};
 use sector_model::{Bank, Refusal, Sector};
 
@@ -91,138 +88,4 @@ fn placed(
         sectors.push((sector, *bytes));
     }
     sectors
-}
-
-/// Makes those of the blocks `first` to `last` - 1 of a volume zero that lie in dirty extents. In a set of format 2 one
-/// commit makes as many whole stripes zero as an entry has room for; what is beside these is written by commits of up
-/// to 32 blocks, as all is in a set of format 1. The others are not written. The conditions are those of
-/// `write_blocks`, and it is refused as a commit is; some of the blocks may then be zero.
-pub fn zero_blocks<B: Bank>(
-    array: &mut Array<B>,
-    map: &ExtentMap,
-    dirty: &[bool],
-    volume: u8,
-    first: u32,
-    last: u32,
-) -> Result<(), Refusal>
-    requires sized { length map.now ≤ (extents_in array.old.table.geometry).count }
-    requires order { first ≤ last }
-    requires within { last ≤ MOST_BLOCKS }
-    requires placed { AllPlaced (extents_in array.old.table.geometry) map.now volume first last }
-    ensures honest { IsHonest array.old ↔ IsHonest array.new }
-    ensures changes { ChangesList (IsHonest array.old) (last - first)
-        (IsPartlyZero (extents_in array.old.table.geometry) map.now volume first last)
-        (IsZeroed (extents_in array.old.table.geometry) dirty.now map.now volume first last) (array_view array.old)
-        (array_view array.new) result }
-{
-    let zeros = [[0; 512]; MOST_BLOCKS_AT_ONCE];
-    let geometry = array.table.geometry;
-    let extents = ExtentLayout::of(&geometry);
-    let mut rows = ZeroRows::new();
-    let mut at = first;
-    while at < last {
-        let end = gather_stripes(&geometry, map, dirty, volume, at, last, &mut rows);
-        if end > at {
-            zero_stripes(array, map, volume, at, end, &rows)?;
-            at = end;
-            continue;
-        }
-        let most = most_at_once(&geometry, map, volume, at);
-        let stretch = next_stretch(&extents, map, dirty, volume, at, last, most);
-        if stretch.dirty {
-            let count = (stretch.end - at) as usize;
-            write_blocks(array, map, volume, at, &zeros[..count])?;
-        }
-        at = stretch.end;
-    }
-    Ok(())
-}
-
-// Blocks of a volume, one after another, that lie in dirty extents, or in clean ones.
-#[derive(Clone, Copy)]
-struct Stretch {
-    // The block after the last of them.
-    end: u32,
-    // Whether they lie in dirty extents.
-    dirty: bool,
-}
-
-// The next blocks of a volume from block `at` on, below `last`, that are to be made zero by one commit of so many
-// blocks at most, or that need not be.
-fn next_stretch(
-    extents: &ExtentLayout,
-    map: &ExtentMap,
-    dirty: &[bool],
-    volume: u8,
-    at: u32,
-    last: u32,
-    most: u32,
-) -> Stretch
-    requires order { at < last }
-    requires some { 1 ≤ most }
-    requires few { most ≤ MOST_BLOCKS_AT_ONCE }
-    requires within { last ≤ MOST_BLOCKS }
-    requires placed { AllPlaced extents.now map.now volume at last }
-    ensures { IsStretch extents.now dirty.now map.now volume at last result.end result.dirty }
-{
-    if is_dirty_block(extents, map, dirty, volume, at) {
-        let most = most.min(last - at);
-        let end = at + dirty_run(extents, map, dirty, volume, at, most);
-        Stretch { end, dirty: true }
-    } else {
-        let end = end_of_extent(extents, at, last);
-        Stretch { end, dirty: false }
-    }
-}
-
-/// Whether a block of a volume lies in a dirty extent.
-pub(super) fn is_dirty_block(
-    extents: &ExtentLayout,
-    map: &ExtentMap,
-    dirty: &[bool],
-    volume: u8,
-    block: u32,
-) -> bool
-    requires { HasPlace map.now volume (place_of extents.now block) }
-    ensures { IsDirtyBlock extents.now dirty.now map.now volume block result }
-{
-    let place = (u64::from(block) / extents.blocks) as usize;
-    let extent = map.extents_of(volume)[place];
-    match dirty.get(usize::from(extent)) {
-        Some(flag) => *flag,
-        None => true,
-    }
-}
-
-// How many blocks from this one on, and of them at most so many, lie in dirty extents, as the first of them does.
-fn dirty_run(
-    extents: &ExtentLayout,
-    map: &ExtentMap,
-    dirty: &[bool],
-    volume: u8,
-    at: u32,
-    most: u32,
-) -> u32
-    requires some { 1 ≤ most }
-    requires within { at + most ≤ MOST_BLOCKS }
-    requires placed { AllPlaced extents.now map.now volume at (at + most) }
-    ensures least { 1 ≤ result }
-    ensures most { result ≤ most }
-{
-    let mut count = 1;
-    while count < most && is_dirty_block(extents, map, dirty, volume, at + count) {
-        count += 1;
-    }
-    count
-}
-
-// The block with which the extent after that of block `at` begins, or `last` where that is below it.
-fn end_of_extent(extents: &ExtentLayout, at: u32, last: u32) -> u32
-    requires { at < last }
-    ensures least { at < result }
-    ensures most { result ≤ last }
-    ensures one { (block : ℕ) → at ≤ block → block < result → place_of extents.now block ≡ place_of extents.now at }
-{
-    let next = (u64::from(at) / extents.blocks + 1) * extents.blocks;
-    next.min(u64::from(last)) as u32
 }

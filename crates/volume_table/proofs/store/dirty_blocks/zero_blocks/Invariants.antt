@@ -3,7 +3,7 @@ use Rattle.std.proofs.Common.{◌-◌}
 use Rattle.extents.specs.SetExtents.{extents_in}
 use Rattle.volume_table.proofs.ZeroedBlocks.{IsZeroing}
 use Rattle.array_io.specs.Believed.OpenArray.{array_view}
-use Rattle.volume_table.proofs.store.placing.zero_blocks.Given as goal
+use Rattle.volume_table.proofs.store.dirty_blocks.zero_blocks.Given as goal
 
 abbrev pub invariant-loop-at : goal.invariant-loop-at
 invariant-loop-at g l = IsZeroing (extents_in l.initial.array.table.geometry) (g.B.Bank.honest l.initial.array.bank) (g.B.Bank.honest l.array.bank) l.dirty

@@ -1,6 +1,6 @@
 use Rattle.std.proofs.Common.{◌≡◌, ◌/◌, ℕ, ap, arith}
 use Rattle.extents.specs.ExtentMaps.{place_of}
-use Rattle.volume_table.proofs.store.placing.is_dirty_block.Goals as goal
+use Rattle.volume_table.proofs.store.dirty_blocks.is_dirty_block.Goals as goal
 
 pub bounds-extents_of-place : goal.bounds-extents_of-place
 bounds-extents_of-place c =

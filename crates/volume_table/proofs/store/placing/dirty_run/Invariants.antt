@@ -1,9 +1,0 @@
--- One block at least is counted, and no more than so many.
-use Rattle.std.proofs.Common.{◌-◌, ◌≤◌}
-use Rattle.volume_table.proofs.store.placing.dirty_run.Given as goal
-
-abbrev pub invariant-loop-count : goal.invariant-loop-count
-invariant-loop-count l = record { least : 1 ≤ l.count; most : l.count ≤ l.most }
-
-abbrev pub decreases-loop-count : goal.decreases-loop-count
-decreases-loop-count l = l.most - l.count

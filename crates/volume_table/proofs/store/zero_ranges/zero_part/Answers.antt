@@ -1,0 +1,57 @@
+-- Each commit makes more blocks zero.
+use Rattle.std.proofs.Common.{◌≡◌, ◌≤◌, ℕ, Err, Ok, sym, ◌∙◌, ap, subst, arith}
+use Rattle.std.proofs.lemmas.Result.{err_from_is_err_and}
+use Rattle.layout_map.specs.declared.geometry.Geometry.{Geometry}
+use Rattle.array_io.specs.Believed.OpenArray.{array_view}
+use Rattle.batch.specs.Zeroed.{zeroed}
+use Rattle.extents.specs.ExtentMaps.{HasPlace, place_of}
+use Rattle.extents.specs.SetExtents.{extents_in}
+use Rattle.volume_table.specs.ZeroedRanges.{GathersBlocks, ZeroesInTurn}
+use Rattle.volume_table.proofs.ZeroedRanges.{range_begins, range_ends, range_goes_on}
+use Rattle.volume_table.proofs.store.zero_ranges.zero_part.Goals as goal
+
+pub loop-at-init : goal.loop-at-init
+loop-at-init g c = record {
+  least = omega arith;
+  most = c.requires.order;
+  geometry = c.new-sectors.ensures.geometry;
+  zeroed = range_begins (g.B.Bank.honest c.args.array.now.bank) c.args.map.now c.args.volume c.args.first (array_view c.args.array.now);
+}
+
+pub gather_blocks-end-requires-clause-placed : goal.gather_blocks-end-requires-clause-placed
+gather_blocks-end-requires-clause-placed g c block least most = c.requires.placed block (omega (arith, least, c.loop-at.invariant.least)) most
+
+pub zero_sectors-requires-clause-same : goal.zero_sectors-requires-clause-same
+zero_sectors-requires-clause-same g c = c.gather_blocks-end.ensures.geometry ∙ c.loop-at.invariant.geometry ∙ sym c.loop-at.invariant.zeroed.same
+
+pub zero_sectors-requires-clause-placed : goal.zero_sectors-requires-clause-placed
+zero_sectors-requires-clause-placed g c block least most =
+    subst (λ (geometry : Geometry). HasPlace c.args.map.now c.args.volume (place_of (extents_in geometry) block)) (sym c.loop-at.invariant.zeroed.same)
+    (c.requires.placed block (omega (arith, least, c.loop-at.invariant.least)) (omega (arith, most, c.gather_blocks-end.ensures.most)))
+
+pub zero_sectors-requires-clause-gathers : goal.zero_sectors-requires-clause-gathers
+zero_sectors-requires-clause-gathers g c =
+    subst (λ (geometry : Geometry). GathersBlocks (extents_in geometry) c.args.map.now c.args.volume c.loop-at.at c.gather_blocks-end.result
+    (zeroed c.gather_blocks-end.new.sectors)) (sym c.loop-at.invariant.zeroed.same) c.gather_blocks-end.ensures.gathers
+
+pub returns-in_err-zero_sectors-clause-zeroes : goal.returns-in_err-zero_sectors-clause-zeroes
+returns-in_err-zero_sectors-clause-zeroes g c =
+    let p = err_from_is_err_and c.from_residual.result c.from_residual.ensures.1 in
+    subst (ZeroesInTurn (g.B.Bank.honest c.args.array.now.bank) (extents_in c.args.array.now.table.geometry) c.args.map.now c.args.volume c.args.first
+    c.args.last (array_view c.args.array.now) (array_view c.zero_sectors.new.array))
+    (sym (p.1 ∙ ap (λ s. Err s) p.2))
+    (range_ends (g.B.Bank.honest c.args.array.now.bank) (g.B.Bank.honest c.loop-at.array.bank) c.args.map.now c.args.volume c.args.first c.loop-at.at
+    (array_view c.args.array.now) (array_view c.loop-at.array) c.loop-at.invariant.zeroed c.gather_blocks-end.result c.args.last
+    (array_view c.zero_sectors.new.array) c.in_err-zero_sectors.field-0.0 c.gather_blocks-end.ensures.least c.gather_blocks-end.ensures.most
+    c.in_err-zero_sectors.ensures.zeroes)
+
+pub loop-at-preserved : goal.loop-at-preserved
+loop-at-preserved g c = record {
+  least = omega (arith, c.loop-at.invariant.least, c.gather_blocks-end.ensures.least);
+  most = c.gather_blocks-end.ensures.most;
+  geometry = c.gather_blocks-end.ensures.geometry ∙ c.loop-at.invariant.geometry;
+  zeroed = range_goes_on (g.B.Bank.honest c.args.array.now.bank) (g.B.Bank.honest c.loop-at.array.bank) c.args.map.now c.args.volume c.args.first c.loop-at.at
+      (array_view c.args.array.now) (array_view c.loop-at.array) c.loop-at.invariant.zeroed (g.B.Bank.honest c.zero_sectors.new.array.bank)
+      c.gather_blocks-end.result (array_view c.zero_sectors.new.array) c.gather_blocks-end.ensures.least c.in_ok-zero_sectors.ensures.honest.0
+      c.in_ok-zero_sectors.ensures.honest.1 (g.met.B.Bank.true_to c.zero_sectors.new.array.bank) c.in_ok-zero_sectors.ensures.zeroes;
+}

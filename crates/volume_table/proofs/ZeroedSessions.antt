@@ -252,8 +252,11 @@ module _ (slots : ℕ) (writes : List Command) (old mid : StoreView) (fate : Fat
       → GoesOver slots fate.lost fate new.array.table new.array.history then
       → GoesOver slots between (fate_with fate between) new.array.table new.array.history then
   over_then new then further over = record {
-    single_failure = (over.single_failure.0, lost_at_later slots fate.lost between over.single_failure.0 mid.array.history new.array.history since
-        (throughout_last new.array.history (stays_down new.array.history further.runs)) over.single_failure.1);
+    single_failure = (
+      over.single_failure.0,
+      lost_at_later slots fate.lost between over.single_failure.0 mid.array.history new.array.history since
+          (throughout_last new.array.history (stays_down new.array.history further.runs)) over.single_failure.1,
+    );
     lost = lost_from_between old.array mid.array new.array fate.lost between then.lost
         (subst (λ (n : ℕ). IsLostSince n fate.lost mid.array.history between) same since) further
         (same_set old.array mid.array further_one.goes_on) after_it.is_lost over.lost;

@@ -82,7 +82,7 @@ const FURTHER_NEW: Volumes = &[
 // The store of a set of this shape after the batch was committed, and the number of the first call of that.
 fn committed(rt: &(impl Abort + AllocGlobal), shape: Shape) -> (TestWaiting, u64) {
     let mut waiting = staged(rt, opened_after(rt, shape, BEFORE), WRITES);
-    waiting.check_shown(rt, OLD);
+    waiting.check_old(rt, OLD);
     let from = waiting.store.bank().now();
     same(rt, waiting.commit(), Ok(()));
     let calls = waiting.store.bank().now().saturating_sub(from);

@@ -4,7 +4,7 @@ ghost use Rattle.store_trials.specs.Waiting.{Waits};
 use super::super::Answer::Done;
 use super::super::Call::{self, Create};
 use super::super::Step::{Do, Holds};
-use super::super::{SMALL, Shape, Step, check, next_run, opened_after};
+use super::super::{SMALL, Shape, Step, TestStore, check, next_run, opened_after};
 use super::{LARGE_SMALL, OF_FIVE, TestWaiting, Waiting, Write};
 use crate::testing::same;
 use layout_map::Format;
@@ -101,10 +101,16 @@ fn check_committed(rt: &(impl Abort + AllocGlobal), waiting: &mut TestWaiting, b
     ensures held { Waits waiting.new.store waiting.new.batch }
 {
     assert!(rt; waiting.commit().is_ok());
-    let volumes = [(b"a".as_slice(), bytes)];
-    waiting.check(rt, &[Holds(&volumes)]);
     let mut later = next_run(rt, waiting.store.bank());
-    check(rt, &mut later, &[Holds(&volumes)]);
+    check_bytes(rt, &mut later, bytes);
+    check_bytes(rt, &mut waiting.store, bytes);
+    waiting.check(rt, &[]);
+}
+
+// Asks that a store has the volume `a` alone, with these bytes.
+fn check_bytes(rt: &(impl Abort + AllocGlobal), store: &mut TestStore, bytes: &[u8]) {
+    let volumes = [(b"a".as_slice(), bytes)];
+    check(rt, store, &[Holds(&volumes)]);
 }
 
 // So many zeros.

@@ -57,26 +57,37 @@ fn check_crash(
     same(rt, (call, crash.1, is_new), (call, crash.1, want));
 }
 
-// How many crashes at a call of the commit are tried: one at each so many-th, and at the calls of the seals one without
-// each of five slots and one with all.
-fn tries(size: &Size, call: u64, step: u64) -> u64 {
-    if size.unsealed() <= call && call <= size.sealed() {
-        6
-    } else if step > 0 && call % step == 0 {
-        1
-    } else {
-        0
+// The crashes that are tried: one after the first number of calls of the commit and each so many-th from there on.
+#[derive(Clone, Copy)]
+struct Tried {
+    first: u64,
+    step: u64,
+    // Whether after each call of the seals one is tried without each of five slots and one with all.
+    seals: bool,
+}
+
+impl Tried {
+    // How many after so many calls.
+    fn after(&self, size: &Size, call: u64) -> u64 {
+        let is_at_seals = size.unsealed() <= call && call <= size.sealed();
+        if self.seals && is_at_seals {
+            6
+        } else if self.step > 0 && call % self.step == self.first {
+            1
+        } else {
+            0
+        }
     }
 }
 
-// Checks crashes at the calls of the commit, by each choice and without each slot in turn. How many there were.
-fn check_crashes(rt: &(impl Abort + AllocGlobal), size: Size, step: u64) -> u64 {
+// Checks crashes in the commit, by each choice and without each slot in turn. How many there were.
+fn check_crashes(rt: &(impl Abort + AllocGlobal), size: Size, tried: &Tried) -> u64 {
     let large = Large::of(rt, size);
     let (waiting, from) = committed(rt, &large);
     let place = (waiting.store.bank(), from);
     let mut images = 0u64;
     for call in 0..size.calls().saturating_add(1) {
-        for _ in 0..tries(&size, call, step) {
+        for _ in 0..tried.after(&size, call) {
             check_crash(rt, &large, place, call, in_turn(images));
             images = images.saturating_add(1);
         }
@@ -84,17 +95,37 @@ fn check_crashes(rt: &(impl Abort + AllocGlobal), size: Size, step: u64) -> u64 
     images
 }
 
-// A crash after each number of calls from 0 to 414, of which five are at the seals.
+// Of the commit's 414 calls the seals come after 292 to 296: 205 other even numbers.
 #[test]
-fn crashes_in_a_batch_of_58_runs(rt: HostRuntime) {
-    same(&rt, check_crashes(&rt, RUNS_58, 1), 410 + 5 * 6);
+fn crashes_after_even_calls_of_58_runs(rt: HostRuntime) {
+    let tried = Tried {
+        first: 0,
+        step: 2,
+        seals: true,
+    };
+    same(&rt, check_crashes(&rt, RUNS_58, &tried), 205 + 5 * 6);
 }
 
-// A crash after each 389th number of calls from 0 to 14,345, of which 389 times 36 is the last. The seals are between
-// 389 times 26 and 27, at 10,242 to 10,246.
+#[test]
+fn crashes_after_odd_calls_of_58_runs(rt: HostRuntime) {
+    let tried = Tried {
+        first: 1,
+        step: 2,
+        seals: false,
+    };
+    same(&rt, check_crashes(&rt, RUNS_58, &tried), 207);
+}
+
+// Of the commit's 14,345 calls the seals come after 10,242 to 10,246, between 389 times 26 and times 27; 389 times 36 is
+// the last.
 #[test]
 fn crashes_in_a_batch_of_2048_rows(rt: HostRuntime) {
-    same(&rt, check_crashes(&rt, ROWS_2048, 389), 37 + 5 * 6);
+    let tried = Tried {
+        first: 0,
+        step: 389,
+        seals: true,
+    };
+    same(&rt, check_crashes(&rt, ROWS_2048, &tried), 37 + 5 * 6);
 }
 
 // A crash that is followed by another one in the assembly after it.

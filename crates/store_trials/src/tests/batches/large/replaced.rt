@@ -4,7 +4,8 @@ use super::super::super::Answer::{Done, Scrubbed, Stepped};
 use super::super::super::Call::{Fail, RebuildStep, Replace, Scrub};
 use super::super::super::Step::{Do, Holds, Slot};
 use super::super::super::{
-    TestStore, again, assembled, check, geometry_of, image_now, next_run, opened,
+    TestStore, Volumes, again, assembled, check, check_missing, geometry_of, image_now, next_run,
+    opened,
 };
 use super::super::replaced::{clear, put};
 use super::{Large, ROWS_2048, RUNS_58, Size};
@@ -54,29 +55,34 @@ fn make_whole(rt: &(impl Abort + AllocGlobal), store: &mut TestStore, slot: u8, 
     check(rt, store, &[Do(Scrub, Scrubbed(sound))]);
 }
 
+// Asks that a store lacks a slot, and shows these volumes.
+fn check_without(
+    rt: &(impl Abort + AllocGlobal),
+    store: &mut TestStore,
+    missing: usize,
+    volumes: Volumes,
+) {
+    check_missing(rt, store, missing, missing);
+    check(rt, store, &[Holds(volumes)]);
+}
+
 // Checks that a slot is missing when its old device is back, and once it is replaced stands in for another one.
+fn check_slot(rt: &(impl Abort + AllocGlobal), large: &Large, bank: &MemBank, slot: u8) {
+    let rows = geometry_of(rt, large.size.shape).rows();
+    let mut store = with_old_device(rt, large, bank, slot as usize);
+    check_without(rt, &mut store, slot as usize, &large.new(rt));
+    make_whole(rt, &mut store, slot, rows);
+    let other = if slot == 0 { 1 } else { 0 };
+    let bank = store.bank();
+    let mut later = again(rt, bank, bank.now(), Choice::Oldest, other);
+    check_without(rt, &mut later, other, &large.new(rt));
+}
+
 fn check_slots(rt: &(impl Abort + AllocGlobal), size: Size) {
     let large = Large::of(rt, size);
-    let rows = geometry_of(rt, size.shape).rows();
-    let (before, new) = (large.store(rt), large.new(rt));
+    let store = large.store(rt);
     for slot in 0..5u8 {
-        let place = slot as usize;
-        let mut store = with_old_device(rt, &large, before.bank(), place);
-        check(
-            rt,
-            &mut store,
-            &[Slot(place, State::Missing, 1), Holds(&new)],
-        );
-        make_whole(rt, &mut store, slot, rows);
-        let other = if slot == 0 { 1 } else { 0 };
-        let bank = store.bank();
-        let mut later = again(rt, bank, bank.now(), Choice::Oldest, other);
-        let steps = [
-            Slot(place, State::InSync, 2),
-            Slot(other, State::Missing, 1),
-            Holds(&new),
-        ];
-        check(rt, &mut later, &steps);
+        check_slot(rt, &large, store.bank(), slot);
     }
 }
 
@@ -125,14 +131,12 @@ fn check_copy(rt: &(impl Abort + AllocGlobal), size: Size, slot: u8, other: usiz
     ];
     check(rt, &mut store, &steps);
     let sealed = with_old_rows(rt, store.bank(), before.bank(), other);
+    let mut later = opened(rt, assembled(rt, sealed));
+    check_without(rt, &mut later, other, &large.new(rt));
     let mut unsealed = with_old_rows(rt, store.bank(), before.bank(), other);
     clear(rt, &mut unsealed, slot as usize, 2, 8);
-    let (old, new) = (large.old(rt), large.new(rt));
-    for (image, volumes) in [(sealed, &new), (unsealed, &old)] {
-        let mut later = opened(rt, assembled(rt, image));
-        let steps = [Slot(other, State::Missing, 1), Holds(volumes)];
-        check(rt, &mut later, &steps);
-    }
+    let mut later = opened(rt, assembled(rt, unsealed));
+    check_without(rt, &mut later, other, &large.old(rt));
 }
 
 #[test]

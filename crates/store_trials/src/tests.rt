@@ -347,6 +347,15 @@ pub(crate) fn is_list(listed: &[Listed], volumes: Volumes) -> bool {
     true
 }
 
+// Whether a block of a volume is full of this byte. It has to be read.
+fn is_read(rt: &impl Abort, store: &mut TestStore, name: &[u8], at: u32, byte: u8) -> bool
+    ensures volumes { store.new.table ≡ store.old.table }
+{
+    let mut block = [all(!byte)];
+    same(rt, store.read(name, at, &mut block), Ok(()));
+    block[0] == all(byte)
+}
+
 /// The first block of a volume that is not read as full of its byte. Each has to be read.
 pub(crate) fn unlike_block(
     rt: &impl Abort,
@@ -358,9 +367,7 @@ pub(crate) fn unlike_block(
 {
     let mut at = 0u32;
     for byte in bytes {
-        let mut block = [all(!*byte)];
-        same(rt, store.read(name, at, &mut block), Ok(()));
-        if block[0] != all(*byte) {
+        if !is_read(rt, store, name, at, *byte) {
             return Some(at);
         }
         at = at.wrapping_add(1);

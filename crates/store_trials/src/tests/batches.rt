@@ -84,8 +84,24 @@ impl<B: Bank> Waiting<B> {
     pub(crate) fn commit(&mut self) -> Result<(), Refusal>
         requires held { Waits self.old.store self.old.batch }
         ensures held { Waits self.new.store self.new.batch }
+        ensures volumes { self.new.store.table ≡ self.old.store.table }
+        ensures set { self.new.store.array.table.geometry ≡ self.old.store.array.table.geometry }
     {
         self.store.commit_staged(&mut self.batch)
+    }
+
+    // Another batch, with this write alone.
+    fn another(&self, rt: &(impl Abort + AllocGlobal), write: Write) -> Batch
+        ensures same { result.geometry ≡ self.now.store.array.table.geometry }
+        ensures held { Waits self.now.store result }
+    {
+        let (name, at, bytes) = write;
+        let geometry = self.store.array.table.geometry;
+        let mut batch = Batch::new(&geometry, rt.alloc()).expect(rt, "memory");
+        let blocks = blocks_of(rt, bytes);
+        let staged = self.store.stage(&mut batch, name, at, &blocks);
+        same(rt, staged, Ok(true));
+        batch
     }
 
     /// Commits what waits, and then a second batch, of this write, which waited as well: what both answered. After the
@@ -98,17 +114,13 @@ impl<B: Bank> Waiting<B> {
         requires held { Waits self.old.store self.old.batch }
         ensures held { Waits self.new.store self.new.batch }
     {
-        let (name, at, bytes) = write;
-        let geometry = self.store.array.table.geometry;
-        let mut second = Batch::new(&geometry, rt.alloc()).expect(rt, "memory");
-        let blocks = blocks_of(rt, bytes);
-        let staged = self.store.stage(&mut second, name, at, &blocks);
-        same(rt, staged, Ok(true));
-        let first = self.store.commit_staged(&mut self.batch);
+        let second = self.another(rt, write);
+        let first = self.commit();
+        self.batch = second;
+        same(rt, self.batch.len(), write.2.len());
         let before = self.store.bank().now();
-        same(rt, second.len(), bytes.len());
-        let answers = [first, self.store.commit_staged(&mut second)];
-        same(rt, (second.len(), second.is_empty()), (0, true));
+        let answers = [first, self.commit()];
+        same(rt, (self.batch.len(), self.batch.is_empty()), (0, true));
         same(rt, self.store.bank().now(), before);
         answers
     }

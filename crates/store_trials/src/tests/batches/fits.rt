@@ -37,13 +37,11 @@ fn stage_in_order(
     requires held { Waits waiting.old.store waiting.old.batch }
     ensures held { Waits waiting.new.store waiting.new.batch }
 {
-    let mut left = count;
+    let bytes = vec![in rt.alloc(); 0x55u8; count as usize].expect(rt, "memory");
     let mut at = first.saturating_sub(512);
-    while left > 0 {
-        let now = left.min(32);
-        waiting.stage_all(rt, &[(b"a", at, &[0x55; 32][..now as usize])]);
-        at = at.saturating_add(now);
-        left -= now;
+    for blocks in bytes.chunks(32) {
+        waiting.stage_all(rt, &[(b"a", at, blocks)]);
+        at = at.saturating_add(32);
     }
 }
 

@@ -39,6 +39,7 @@ mod scrubs;
 mod tables;
 mod upgrades;
 mod worn_out;
+mod zeroing;
 
 use calling::{check_call, check_event};
 use failures::check_ended;

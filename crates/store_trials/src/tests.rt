@@ -39,6 +39,7 @@ mod scrubs;
 mod tables;
 mod upgrades;
 mod worn_out;
+mod zeroing;
 
 use calling::{check_call, check_event};
 use failures::check_ended;
@@ -246,7 +247,7 @@ fn blank_devices(rt: &(impl Abort + AllocGlobal), geometry: &Geometry) -> Image 
 // A bank with these devices, of which none goes down.
 fn bank_of(rt: &(impl Abort + AllocGlobal), image: Image) -> MemBank {
     assert!(rt; image.slots.len() >= 5 && image.slots.len() <= 10);
-    MemBank::new(rt.alloc(), image, Plan::NONE, 8_000).expect(rt, "memory")
+    MemBank::new(rt.alloc(), image, Plan::NONE, 40_000).expect(rt, "memory")
 }
 
 // A store over this set.
@@ -347,18 +348,27 @@ pub(crate) fn is_list(listed: &[Listed], volumes: Volumes) -> bool {
     true
 }
 
+// Whether a block of a volume is full of this byte. It has to be read.
+fn is_read(rt: &impl Abort, store: &mut TestStore, name: &[u8], at: u32, byte: u8) -> bool
+    ensures volumes { store.new.table ≡ store.old.table }
+{
+    let mut block = [all(!byte)];
+    same(rt, store.read(name, at, &mut block), Ok(()));
+    block[0] == all(byte)
+}
+
 /// The first block of a volume that is not read as full of its byte. Each has to be read.
 pub(crate) fn unlike_block(
     rt: &impl Abort,
     store: &mut TestStore,
     name: &[u8],
     bytes: &[u8],
-) -> Option<u32> {
+) -> Option<u32>
+    ensures volumes { store.new.table ≡ store.old.table }
+{
     let mut at = 0u32;
     for byte in bytes {
-        let mut block = [all(!*byte)];
-        same(rt, store.read(name, at, &mut block), Ok(()));
-        if block[0] != all(*byte) {
+        if !is_read(rt, store, name, at, *byte) {
             return Some(at);
         }
         at = at.wrapping_add(1);
@@ -377,6 +387,17 @@ pub(crate) fn unlike(
     if !is_list(&listed, volumes) {
         return Some((volumes.len(), 0));
     }
+    unlike_volume(rt, store, volumes)
+}
+
+/// The first block of one of these volumes that is not read as full of its byte, and the place of the volume.
+pub(crate) fn unlike_volume(
+    rt: &impl Abort,
+    store: &mut TestStore,
+    volumes: Volumes,
+) -> Option<(usize, u32)>
+    ensures volumes { store.new.table ≡ store.old.table }
+{
     for at in 0..volumes.len() {
         let (name, bytes) = volumes[at];
         if let Some(block) = unlike_block(rt, store, name, bytes) {

@@ -3,12 +3,12 @@
 //! In each of these sets the extents begin with logical sector 64. In those of format 1 they have 64 blocks, in those
 //! of format 2 one stripe: 16 blocks on 3 members with chunk 8, 32 on 5 members.
 ghost use Rattle.std.specs.Prelude.{◌≡◌};
-ghost use Rattle.batch.specs.Batches.{waiting};
-ghost use Rattle.extents.specs.SetExtents.{extents_in};
-ghost use Rattle.volume_table.specs.Staging.{HoldSome};
+ghost use Rattle.store_trials.specs.Waiting.{Waits};
 
 use super::calling::blocks_of;
-use super::{Shape, Step, TestStore, Volumes, check_from, check_shown, fail_devices, next_run};
+use super::{
+    Shape, Step, TestStore, Volumes, check_from, check_shown, fail_devices, next_run, unlike_volume,
+};
 use crate::testing::same;
 use batch::Batch;
 use layout_map::Format;
@@ -21,6 +21,8 @@ mod contents;
 mod crashes;
 mod ended;
 mod failures;
+mod fits;
+mod large;
 mod refusals;
 mod replaced;
 
@@ -42,12 +44,13 @@ pub(crate) struct Waiting<B: Bank> {
     pub store: Store<B>,
     pub batch: Batch,
     ghost same: { batch.geometry ≡ store.array.table.geometry },
-    ghost held: { HoldSome (extents_in store.array.table.geometry) store.table (waiting batch) },
 }
 
 impl<B: Bank> Waiting<B> {
     /// This store, with nothing that waits.
-    pub(crate) fn new(rt: &(impl Abort + AllocGlobal), store: Store<B>) -> Waiting<B> {
+    pub(crate) fn new(rt: &(impl Abort + AllocGlobal), store: Store<B>) -> Waiting<B>
+        ensures held { Waits result.store result.batch }
+    {
         let batch = Batch::new(&store.array.table.geometry, rt.alloc()).expect(rt, "memory");
         Waiting { store, batch }
     }
@@ -56,14 +59,21 @@ impl<B: Bank> Waiting<B> {
     pub(crate) fn stage(
         &mut self,
         rt: &(impl Abort + AllocGlobal),
-        (name, at, bytes): Write,
-    ) -> Result<bool, Refusal> {
+        write: Write,
+    ) -> Result<bool, Refusal>
+        requires held { Waits self.old.store self.old.batch }
+        ensures held { Waits self.new.store self.new.batch }
+    {
+        let (name, at, bytes) = write;
         let blocks = blocks_of(rt, bytes);
         self.store.stage(&mut self.batch, name, at, &blocks)
     }
 
     /// Has each of these writes wait, which fit.
-    pub(crate) fn stage_all(&mut self, rt: &(impl Abort + AllocGlobal), writes: &[Write]) {
+    pub(crate) fn stage_all(&mut self, rt: &(impl Abort + AllocGlobal), writes: &[Write])
+        requires held { Waits self.old.store self.old.batch }
+        ensures held { Waits self.new.store self.new.batch }
+    {
         for number in 0..writes.len() {
             let staged = self.stage(rt, writes[number]);
             same(rt, (number, staged), (number, Ok(true)));
@@ -71,8 +81,27 @@ impl<B: Bank> Waiting<B> {
     }
 
     /// Commits what waits.
-    pub(crate) fn commit(&mut self) -> Result<(), Refusal> {
+    pub(crate) fn commit(&mut self) -> Result<(), Refusal>
+        requires held { Waits self.old.store self.old.batch }
+        ensures held { Waits self.new.store self.new.batch }
+        ensures volumes { self.new.store.table ≡ self.old.store.table }
+        ensures set { self.new.store.array.table.geometry ≡ self.old.store.array.table.geometry }
+    {
         self.store.commit_staged(&mut self.batch)
+    }
+
+    // Another batch, with this write alone.
+    fn another(&self, rt: &(impl Abort + AllocGlobal), write: Write) -> Batch
+        ensures same { result.geometry ≡ self.now.store.array.table.geometry }
+        ensures held { Waits self.now.store result }
+    {
+        let (name, at, bytes) = write;
+        let geometry = self.store.array.table.geometry;
+        let mut batch = Batch::new(&geometry, rt.alloc()).expect(rt, "memory");
+        let blocks = blocks_of(rt, bytes);
+        let staged = self.store.stage(&mut batch, name, at, &blocks);
+        same(rt, staged, Ok(true));
+        batch
     }
 
     /// Commits what waits, and then a second batch, of this write, which waited as well: what both answered. After the
@@ -80,18 +109,18 @@ impl<B: Bank> Waiting<B> {
     pub(crate) fn commit_both(
         &mut self,
         rt: &(impl Abort + AllocGlobal),
-        (name, at, bytes): Write,
-    ) -> [Result<(), Refusal>; 2] {
-        let geometry = self.store.array.table.geometry;
-        let mut second = Batch::new(&geometry, rt.alloc()).expect(rt, "memory");
-        let blocks = blocks_of(rt, bytes);
-        let staged = self.store.stage(&mut second, name, at, &blocks);
-        same(rt, staged, Ok(true));
-        let first = self.store.commit_staged(&mut self.batch);
+        write: Write,
+    ) -> [Result<(), Refusal>; 2]
+        requires held { Waits self.old.store self.old.batch }
+        ensures held { Waits self.new.store self.new.batch }
+    {
+        let second = self.another(rt, write);
+        let first = self.commit();
+        self.batch = second;
+        same(rt, self.batch.len(), write.2.len());
         let before = self.store.bank().now();
-        same(rt, second.len(), bytes.len());
-        let answers = [first, self.store.commit_staged(&mut second)];
-        same(rt, (second.len(), second.is_empty()), (0, true));
+        let answers = [first, self.commit()];
+        same(rt, (self.batch.len(), self.batch.is_empty()), (0, true));
         same(rt, self.store.bank().now(), before);
         answers
     }
@@ -123,27 +152,40 @@ impl Waiting<MemBank> {
         rt: &(impl Abort + AllocGlobal),
         first: usize,
         steps: &[Step],
-    ) {
+    )
+        ensures held { Waits self.new.store self.new.batch }
+    {
         check_from(rt, &mut self.store, first, steps);
         self.batch.clear();
         assert!(rt; *self.batch.geometry() == self.store.array.table.geometry);
     }
 
     /// Takes these steps on the store, where nothing waits.
-    pub(crate) fn check(&mut self, rt: &(impl Abort + AllocGlobal), steps: &[Step]) {
+    pub(crate) fn check(&mut self, rt: &(impl Abort + AllocGlobal), steps: &[Step])
+        ensures held { Waits self.new.store self.new.batch }
+    {
         assert!(rt; self.batch.is_empty());
         self.check_and_clear(rt, 0, steps);
     }
 
-    /// Asks that the volumes are these while writes wait: by the definitions, and in a run that begins now.
-    pub(crate) fn check_shown(&self, rt: &(impl Abort + AllocGlobal), volumes: Volumes) {
+    /// Asks that the volumes are these while writes wait: by the definitions, as the store reads them, and in a run that
+    /// begins now.
+    pub(crate) fn check_old(&mut self, rt: &(impl Abort + AllocGlobal), volumes: Volumes)
+        requires held { Waits self.old.store self.old.batch }
+        ensures held { Waits self.new.store self.new.batch }
+    {
         check_shown(rt, self.store.bank(), 0, volumes);
+        same(rt, unlike_volume(rt, &mut self.store, volumes), None);
+        assert!(rt; *self.batch.geometry() == self.store.array.table.geometry);
         let mut later = next_run(rt, self.store.bank());
         check_from(rt, &mut later, 0, &[Step::Holds(volumes)]);
     }
 
     /// From now on these slots go down at their first call after so many, and no other.
-    pub(crate) fn fail(&mut self, rt: &impl Abort, slots: &[u8], after: u64) {
+    pub(crate) fn fail(&mut self, rt: &impl Abort, slots: &[u8], after: u64)
+        requires held { Waits self.old.store self.old.batch }
+        ensures held { Waits self.new.store self.new.batch }
+    {
         fail_devices(rt, &mut self.store, slots, after);
     }
 }
@@ -153,7 +195,9 @@ pub(crate) fn staged(
     rt: &(impl Abort + AllocGlobal),
     store: TestStore,
     writes: &[Write],
-) -> TestWaiting {
+) -> TestWaiting
+    ensures held { Waits result.store result.batch }
+{
     let mut waiting = Waiting::new(rt, store);
     waiting.stage_all(rt, writes);
     waiting

@@ -3,6 +3,8 @@
 //! A commit of r rows with g given sectors in each holds r × (g + 1) sectors, each of which is written to both journals
 //! and to its member. It writes two seals, flushes each journal twice and each member that it writes once, and reads of
 //! each row the old values of what it holds, or the other data where these are fewer sectors.
+ghost use Rattle.store_trials.specs.Waiting.{Waits};
+
 use super::super::Answer::Done;
 use super::super::Call::Create;
 use super::super::Step::Do;
@@ -78,7 +80,9 @@ impl<B: Bank> Bank for Tally<B> {
 
 // A store with a volume `a` of so many blocks over a set of this shape, whose calls are counted, with nothing that
 // waits.
-fn counted(rt: &(impl Abort + AllocGlobal), shape: Shape, blocks: u32) -> Waiting<Tally<MemBank>> {
+fn counted(rt: &(impl Abort + AllocGlobal), shape: Shape, blocks: u32) -> Waiting<Tally<MemBank>>
+    ensures held { Waits result.store result.batch }
+{
     let store = opened_after(rt, shape, &[Do(Create(b"a", blocks), Done)]);
     let bank = Tally {
         bank: bank_of(rt, image_now(rt, store.bank())),
@@ -96,7 +100,10 @@ fn check_commit(
     rt: &(impl Abort + AllocGlobal),
     waiting: &mut Waiting<Tally<MemBank>>,
     wanted: &[[u64; 4]],
-) {
+)
+    requires held { Waits waiting.old.store waiting.old.batch }
+    ensures held { Waits waiting.new.store waiting.new.batch }
+{
     let before = waiting.store.array.bank.counts;
     same(rt, waiting.commit(), Ok(()));
     let after = waiting.store.array.bank.counts;

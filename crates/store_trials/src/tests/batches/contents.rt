@@ -17,13 +17,11 @@ struct Case<'a> {
 }
 
 // Checks a case on a set of this shape: the volumes are as before while the writes wait, and as after them once they
-// are committed, also in the next run. The writes wait again after the store was read.
+// are committed, also in the next run.
 fn check_case(rt: &(impl Abort + AllocGlobal), shape: Shape, case: &Case) {
     let store = opened_after(rt, shape, case.before);
     let mut waiting = staged(rt, store, case.writes);
-    waiting.check_shown(rt, case.old);
-    waiting.check_and_clear(rt, 0, &[Holds(case.old)]);
-    waiting.stage_all(rt, case.writes);
+    waiting.check_old(rt, case.old);
     assert!(rt; waiting.commit().is_ok());
     waiting.check(rt, &[Holds(case.new), Shows(case.new)]);
     check(

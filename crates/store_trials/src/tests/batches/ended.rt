@@ -1,4 +1,6 @@
 //! What waits after a commit, and what a commit does where nothing waits, or where the store was ended.
+ghost use Rattle.store_trials.specs.Waiting.{Waits};
+
 use super::super::Answer::Done;
 use super::super::Call::{self, Create};
 use super::super::Step::{Do, Ended, Holds};
@@ -37,7 +39,10 @@ fn check_nothing(
     rt: &(impl Abort + AllocGlobal),
     waiting: &mut TestWaiting,
     answer: Result<(), Refusal>,
-) {
+)
+    requires held { Waits waiting.old.store waiting.old.batch }
+    ensures held { Waits waiting.new.store waiting.new.batch }
+{
     check_empty(rt, waiting);
     let before = waiting.store.bank().now();
     same(rt, waiting.commit(), answer);
@@ -66,11 +71,9 @@ fn nothing_waits_after_a_commit(rt: HostRuntime) {
 
 // Commits what waits, which ends the store, and then another batch, which waited as well. It is answered the same, as
 // every later call is, and nothing waits any more.
-fn check_ended_before(
-    rt: &(impl Abort + AllocGlobal),
-    waiting: &mut TestWaiting,
-    refusal: Refusal,
-) {
+fn check_ended_before(rt: &(impl Abort + AllocGlobal), waiting: &mut TestWaiting, refusal: Refusal)
+    requires held { Waits waiting.old.store waiting.old.batch }
+{
     let answers = waiting.commit_both(rt, (b"b", 0, &[0x99]));
     same(rt, answers, [Err(refusal), Err(refusal)]);
     check_nothing(rt, waiting, Err(refusal));
@@ -106,7 +109,9 @@ fn a_batch_of_a_store_that_is_worn(rt: HostRuntime) {
 }
 
 // Asks that the commit of what waits ends the store.
-fn check_ending(rt: &(impl Abort + AllocGlobal), waiting: &mut TestWaiting, refusal: Refusal) {
+fn check_ending(rt: &(impl Abort + AllocGlobal), waiting: &mut TestWaiting, refusal: Refusal)
+    requires held { Waits waiting.old.store waiting.old.batch }
+{
     same(rt, waiting.commit(), Err(refusal));
     check_nothing(rt, waiting, Err(refusal));
     same(rt, waiting.stage(rt, (b"a", 0, &[0x99])), Err(refusal));

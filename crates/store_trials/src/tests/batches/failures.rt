@@ -1,10 +1,10 @@
 //! Devices that go down in the commit of a batch: it is done without one, and two end the store.
 use super::super::Step::Ended;
 use super::super::{
-    NO_SLOT, SMALL, TestStore, again, check_missing, next_run, opened_after, unlike,
+    NO_SLOT, SMALL, TestStore, Volumes, again, check_missing, next_run, opened_after, unlike,
 };
 use super::crashes::{BEFORE, BEFORE_SEALS, CALLS, NEW, OLD, WRITES};
-use super::{LARGE_SMALL, staged};
+use super::{LARGE_SMALL, Write, staged};
 use crate::testing::same;
 use sector_model::{Bank, Choice, MemBank, Refusal};
 use std::process::Abort;
@@ -22,40 +22,66 @@ fn last_call(slot: u8) -> u64 {
     }
 }
 
-// Asks that a store shows the volumes after the batch, with this slot missing or none.
+/// A slot that goes down in the commit of a batch at its first call from one on, counted from the first of the commit.
+#[derive(Clone, Copy)]
+pub(crate) struct Failing<'a> {
+    pub slot: u8,
+    pub call: u64,
+    /// The last call to the slot, and how many calls there are to all, where none goes down.
+    pub last: u64,
+    pub calls: u64,
+    /// The batch, and the volumes after it.
+    pub writes: &'a [Write<'a>],
+    pub new: Volumes<'a>,
+}
+
+// Asks that a store shows these volumes, with this slot missing or none.
 fn check_held(
     rt: &(impl Abort + AllocGlobal),
     mut store: TestStore,
     number: usize,
     missing: usize,
+    volumes: Volumes,
 ) {
     check_missing(rt, &store, number, missing);
-    let place = unlike(rt, &mut store, NEW);
+    let place = unlike(rt, &mut store, volumes);
     same(rt, (number, place), (number, None));
 }
 
-// Commits the batch on what this bank holds while a slot goes down at its first call from one on, counted from the
-// first. What fails is named by that call.
-fn check_failure(rt: &(impl Abort + AllocGlobal), bank: &MemBank, slot: u8, call: u64) {
-    let number = call as usize;
-    let fails = call <= last_call(slot);
+/// Commits the batch on what this bank holds while the slot goes down. What fails is named by the call.
+pub(crate) fn check_failing(rt: &(impl Abort + AllocGlobal), bank: &MemBank, failing: &Failing) {
+    let (slot, number) = (failing.slot, failing.call as usize);
+    let fails = failing.call <= failing.last;
     let missing = if fails { slot as usize } else { NO_SLOT };
-    let mut waiting = staged(rt, next_run(rt, bank), WRITES);
+    let mut waiting = staged(rt, next_run(rt, bank), failing.writes);
     let from = waiting.store.bank().now();
-    waiting.fail(rt, &[slot], call);
+    waiting.fail(rt, &[slot], failing.call);
     same(rt, (number, waiting.commit()), (number, Ok(())));
     waiting.fail(rt, &[], 0);
     let calls = waiting.store.bank().now().saturating_sub(from);
-    assert!(rt; fails || calls == CALLS);
+    assert!(rt; fails || calls == failing.calls);
     let store = waiting.into_store(rt);
     assert!(rt; slot < store.bank().devices());
     same(rt, (number, store.bank().is_down(slot)), (number, fails));
     let now = store.bank().now();
     let later = again(rt, store.bank(), now, Choice::Oldest, NO_SLOT);
-    check_held(rt, later, number, missing);
+    check_held(rt, later, number, missing, failing.new);
     let without = again(rt, store.bank(), now, Choice::Newest, slot as usize);
-    check_held(rt, without, number, slot as usize);
-    check_held(rt, store, number, missing);
+    check_held(rt, without, number, slot as usize, failing.new);
+    check_held(rt, store, number, missing, failing.new);
+}
+
+// Commits the small batch on what this bank holds while a slot goes down at its first call from one on.
+fn check_failure(rt: &(impl Abort + AllocGlobal), bank: &MemBank, slot: u8, call: u64) {
+    let failing = Failing {
+        slot,
+        call,
+        last: last_call(slot),
+        calls: CALLS,
+        writes: WRITES,
+        new: NEW,
+    };
+    check_failing(rt, bank, &failing);
 }
 
 // Checks the failures of these slots at each device call of the commit, and none in it.

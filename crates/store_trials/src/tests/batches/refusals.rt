@@ -1,8 +1,10 @@
 //! Writes that are refused, or that find no room in a batch: nothing waits then that did not.
+ghost use Rattle.store_trials.specs.Waiting.{Waits};
+
 use super::super::Answer::Done;
 use super::super::Call::{self, Create};
 use super::super::Step::{Do, Holds};
-use super::super::{SMALL, Shape, Step, check, next_run, opened_after};
+use super::super::{SMALL, Shape, Step, TestStore, check, next_run, opened_after};
 use super::{LARGE_SMALL, OF_FIVE, TestWaiting, Waiting, Write};
 use crate::testing::same;
 use layout_map::Format;
@@ -40,7 +42,10 @@ const REFUSED: &[(Write, Refusal)] = &[
 
 // Asks that each of these writes is refused so, that these sectors wait before it and after it, and that no device is
 // called.
-fn check_refused(rt: &(impl Abort + AllocGlobal), waiting: &mut TestWaiting, wait: &[(u64, u8)]) {
+fn check_refused(rt: &(impl Abort + AllocGlobal), waiting: &mut TestWaiting, wait: &[(u64, u8)])
+    requires held { Waits waiting.old.store waiting.old.batch }
+    ensures held { Waits waiting.new.store waiting.new.batch }
+{
     let before = waiting.store.bank().now();
     for number in 0..REFUSED.len() {
         let (write, refusal) = REFUSED[number];
@@ -78,7 +83,10 @@ fn refused_writes_do_not_wait(rt: HostRuntime) {
 }
 
 // Asks that there is no room for any of these writes, and that what waits stays as it is.
-fn check_full(rt: &(impl Abort + AllocGlobal), waiting: &mut TestWaiting, writes: &[Write]) {
+fn check_full(rt: &(impl Abort + AllocGlobal), waiting: &mut TestWaiting, writes: &[Write])
+    requires held { Waits waiting.old.store waiting.old.batch }
+    ensures held { Waits waiting.new.store waiting.new.batch }
+{
     let before = waiting.listed(rt);
     for number in 0..writes.len() {
         let got = waiting.stage(rt, writes[number]);
@@ -88,12 +96,21 @@ fn check_full(rt: &(impl Abort + AllocGlobal), waiting: &mut TestWaiting, writes
 }
 
 // Asks that a batch is committed, after which the volume `a` has these bytes, also in the next run.
-fn check_committed(rt: &(impl Abort + AllocGlobal), waiting: &mut TestWaiting, bytes: &[u8]) {
+fn check_committed(rt: &(impl Abort + AllocGlobal), waiting: &mut TestWaiting, bytes: &[u8])
+    requires held { Waits waiting.old.store waiting.old.batch }
+    ensures held { Waits waiting.new.store waiting.new.batch }
+{
     assert!(rt; waiting.commit().is_ok());
-    let volumes = [(b"a".as_slice(), bytes)];
-    waiting.check(rt, &[Holds(&volumes)]);
     let mut later = next_run(rt, waiting.store.bank());
-    check(rt, &mut later, &[Holds(&volumes)]);
+    check_bytes(rt, &mut later, bytes);
+    check_bytes(rt, &mut waiting.store, bytes);
+    waiting.check(rt, &[]);
+}
+
+// Asks that a store has the volume `a` alone, with these bytes.
+fn check_bytes(rt: &(impl Abort + AllocGlobal), store: &mut TestStore, bytes: &[u8]) {
+    let volumes = [(b"a".as_slice(), bytes)];
+    check(rt, store, &[Holds(&volumes)]);
 }
 
 // So many zeros.
@@ -110,7 +127,9 @@ fn put(rt: &impl Abort, bytes: &mut [u8], first: usize, count: usize, byte: u8) 
 }
 
 // A set of this shape with a volume `a` of so many blocks.
-fn with_volume(rt: &(impl Abort + AllocGlobal), shape: Shape, blocks: u32) -> TestWaiting {
+fn with_volume(rt: &(impl Abort + AllocGlobal), shape: Shape, blocks: u32) -> TestWaiting
+    ensures held { Waits result.store result.batch }
+{
     Waiting::new(
         rt,
         opened_after(rt, shape, &[Do(Create(b"a", blocks), Done)]),

@@ -51,14 +51,14 @@ fn with_batch(rt: &(impl Abort + AllocGlobal)) -> TestWaiting {
     waiting
 }
 
-// Puts another device, or none, into a slot.
-fn put(rt: &impl Abort, image: &mut Image, slot: usize, device: Option<Vec<Sector>>) {
+/// Puts another device, or none, into a slot.
+pub(crate) fn put(rt: &impl Abort, image: &mut Image, slot: usize, device: Option<Vec<Sector>>) {
     assert!(rt; slot < image.slots.len());
     let _ = mem::replace(&mut image.slots[slot], device);
 }
 
-// Makes sectors of a device zero, from one to another.
-fn clear(rt: &impl Abort, image: &mut Image, slot: usize, first: usize, end: usize) {
+/// Makes sectors of a device zero, from one to another.
+pub(crate) fn clear(rt: &impl Abort, image: &mut Image, slot: usize, first: usize, end: usize) {
     assert!(rt; slot < image.slots.len());
     let mut count = 0usize;
     if let Some(disk) = image.slots[slot].as_deref_mut() {

@@ -1,0 +1,261 @@
+//! Crashes while blocks are made zero: assembling and opening the set again finds those of the first commits zero, all
+//! others as they were, and after `Ok` all.
+//!
+//! The set has 3 members with chunk 8, so that a stripe has 16 blocks, as an extent does. The volume `v` has extents 0
+//! and 2 to 6, and `w` has extent 1.
+use super::super::Answer::Done;
+use super::super::Call::{Create, Extend, Write};
+use super::super::Step::Do;
+use super::super::batches::LARGE_SMALL;
+use super::super::{NO_SLOT, TestStore, again, check, fresh_store, next_run};
+use super::bytes_of;
+use crate::testing::same;
+use sector_model::{Bank, Choice, MemBank};
+use std::process::Abort;
+
+/// How many blocks `v` has.
+pub(crate) const BLOCKS: u32 = 96;
+
+/// The byte of which each block of `v` is full, none of them zero.
+pub(crate) fn block_byte(block: u32) -> u8 {
+    1 + (block % 96) as u8
+}
+
+/// The byte of which each block of `w` is full.
+const BESIDE: u8 = 0xbb;
+
+/// The set with both volumes written, in a run that began after that.
+pub(crate) fn written(rt: &(impl Abort + AllocGlobal)) -> TestStore {
+    let mut store = fresh_store(rt, LARGE_SMALL);
+    let steps = [
+        Do(Create(b"v", 16), Done),
+        Do(Create(b"w", 16), Done),
+        Do(Extend(b"v", 80), Done),
+        Do(Write(b"w", 0, &[BESIDE; 16]), Done),
+    ];
+    check(rt, &mut store, &steps);
+    for part in 0..3u32 {
+        let mut bytes = [0; 32];
+        for at in 0..32u32 {
+            bytes[at as usize] = block_byte(32 * part + at);
+        }
+        check(rt, &mut store, &[Do(Write(b"v", 32 * part, &bytes), Done)]);
+    }
+    next_run(rt, store.bank())
+}
+
+/// A range of blocks of `v`: the first, and how many.
+pub(crate) type Range = (u32, u32);
+
+/// Where the commits of a range end, each as the block after its last, in rising order: up to 32 blocks are one. Else
+/// the whole stripes of the range are one, the blocks before the first of them another, and so are those after the last;
+/// without a whole stripe all are one. Where there are fewer than three, the last stands again.
+pub(crate) fn ends_of((at, count): Range) -> [u32; 3] {
+    let end = at.saturating_add(count);
+    let first = at.saturating_add(15) / 16 * 16;
+    let last = end / 16 * 16;
+    if count <= 32 || last <= first {
+        return [end; 3];
+    }
+    if first == at {
+        return [last, end, end];
+    }
+    [first, last, end]
+}
+
+// The block up to which those from block `at` on are zero.
+fn zero_up_to(bytes: &[u8], at: u32) -> u32 {
+    let mut end = at;
+    for block in 0..bytes.len() {
+        if block as u32 == end && bytes[block] == 0 {
+            end = end.saturating_add(1);
+        }
+    }
+    end
+}
+
+/// The block up to which those of a range are zero. All others have to be as they were, and so those of `w`.
+pub(crate) fn zeroed_in(
+    rt: &(impl Abort + AllocGlobal),
+    store: &mut TestStore,
+    number: u64,
+    (at, count): Range,
+) -> u32 {
+    let bytes = bytes_of(rt, store, b"v", BLOCKS);
+    let end = zero_up_to(&bytes, at);
+    same(rt, (number, end <= at.saturating_add(count)), (number, true));
+    let mut block = 0u32;
+    for byte in &bytes {
+        let is_zero = at <= block && block < end;
+        let wanted = if is_zero { 0 } else { block_byte(block) };
+        same(rt, (number, block, *byte), (number, block, wanted));
+        block = block.wrapping_add(1);
+    }
+    for byte in &bytes_of(rt, store, b"w", 16) {
+        same(rt, (number, *byte), (number, BESIDE));
+    }
+    end
+}
+
+/// A range that was made zero: the bank, and the number of the first call of that.
+pub(crate) type Zeroed<'a> = (Range, &'a MemBank, u64);
+
+/// Checks a crash after so many calls of making a range zero, without a slot if it is one of the set's: the blocks up to
+/// the end of a commit are zero, none before the first call and all after the last one.
+pub(crate) fn check_crash(
+    rt: &(impl Abort + AllocGlobal),
+    (range, bank, from): Zeroed,
+    call: u64,
+    (choice, absent): (Choice, usize),
+) -> u32 {
+    let place = from.saturating_add(call);
+    let mut store = again(rt, bank, place, choice, absent);
+    let end = zeroed_in(rt, &mut store, call, range);
+    let (at, count) = range;
+    let last = at.saturating_add(count);
+    let is_end = end == at || ends_of(range).contains(&end);
+    same(rt, (range, call, end, is_end), (range, call, end, true));
+    if call == 0 {
+        same(rt, (range, end), (range, at));
+    }
+    if place == bank.now() {
+        same(rt, (range, end), (range, last));
+    }
+    end
+}
+
+/// Makes a range zero on what this bank holds. The store after it, and the number of its first call.
+pub(crate) fn zeroed(
+    rt: &(impl Abort + AllocGlobal),
+    before: &MemBank,
+    range: Range,
+) -> (TestStore, u64) {
+    let mut store = next_run(rt, before);
+    let from = store.bank().now();
+    let answer = store.zero(b"v", range.0, range.1);
+    same(rt, (range, answer), (range, Ok(())));
+    (store, from)
+}
+
+/// How many of the crashes in a range's commits are tried: this many, which are evenly apart. They begin with another
+/// call for each next number, and with the same one again after 16.
+#[derive(Clone, Copy)]
+pub(crate) struct Thinned {
+    pub tried: u64,
+    pub number: u64,
+}
+
+impl Thinned {
+    // The number of calls after which a crash is tried, where there are so many calls.
+    fn call(&self, crash: u64, calls: u64) -> u64 {
+        let place = crash.saturating_mul(16).saturating_add(self.number % 16);
+        place.saturating_mul(calls) / self.tried.saturating_mul(16).max(1)
+    }
+}
+
+// Makes a range zero, and checks crashes in it, each without what was not flushed and with all that was written, and one
+// after the end.
+fn check_range(
+    rt: &(impl Abort + AllocGlobal),
+    before: &MemBank,
+    range: Range,
+    thinned: &Thinned,
+) {
+    let (store, from) = zeroed(rt, before, range);
+    let place = (range, store.bank(), from);
+    let calls = store.bank().now().saturating_sub(from);
+    for crash in 0..thinned.tried {
+        let call = thinned.call(crash, calls);
+        for choice in [Choice::Oldest, Choice::Newest] {
+            check_crash(rt, place, call, (choice, NO_SLOT));
+        }
+    }
+    check_crash(rt, place, calls, (Choice::Oldest, NO_SLOT));
+}
+
+// Checks the ranges that begin with one of these blocks and have one of these counts, with so many crashes each. How
+// many ranges there were.
+fn check_ranges(
+    rt: &(impl Abort + AllocGlobal),
+    (first, last): (u32, u32),
+    (least, most): (u32, u32),
+    tried: u64,
+) -> u64 {
+    let before = written(rt);
+    let mut number = 0u64;
+    for at in first..last {
+        for count in least..most {
+            check_range(rt, before.bank(), (at, count), &Thinned { tried, number });
+            number = number.saturating_add(1);
+        }
+    }
+    number
+}
+
+// Ranges of up to 32 blocks are one write.
+#[test]
+fn crashes_of_1_to_32_blocks_in_the_first_stripe(rt: HostRuntime) {
+    same(&rt, check_ranges(&rt, (0, 16), (1, 33), 2), 16 * 32);
+}
+
+#[test]
+fn crashes_of_1_to_32_blocks_in_the_second_stripe(rt: HostRuntime) {
+    same(&rt, check_ranges(&rt, (16, 32), (1, 33), 2), 16 * 32);
+}
+
+// Ranges of 33 to 64 blocks have one to three whole stripes.
+#[test]
+fn crashes_of_33_to_64_blocks_in_the_first_stripe(rt: HostRuntime) {
+    same(&rt, check_ranges(&rt, (0, 16), (33, 65), 2), 16 * 32);
+}
+
+#[test]
+fn crashes_of_33_to_64_blocks_in_the_second_stripe(rt: HostRuntime) {
+    same(&rt, check_ranges(&rt, (16, 32), (33, 65), 2), 16 * 32);
+}
+
+// Checks the crashes after each number of calls, without what was not flushed, with all that was written, and with some
+// of it and each one slot absent in turn, or none. The blocks up to which those of the range are zero, in rising order.
+fn check_each(rt: &(impl Abort + AllocGlobal), before: &MemBank, range: Range) -> Vec<u32> {
+    let (store, from) = zeroed(rt, before, range);
+    let place = (range, store.bank(), from);
+    let mut ends = Vec::new(rt.alloc());
+    let mut last = 0u32;
+    for call in 0..store.bank().now().saturating_sub(from).saturating_add(1) {
+        let oldest = check_crash(rt, place, call, (Choice::Oldest, NO_SLOT));
+        let newest = check_crash(rt, place, call, (Choice::Newest, NO_SLOT));
+        let mixed = (Choice::Mixed(3), (call % 6) as usize);
+        let other = check_crash(rt, place, call, mixed);
+        assert!(rt; last <= oldest && oldest <= newest && oldest <= other && other <= newest);
+        if ends.is_empty() || last < oldest {
+            ends.push(oldest).expect(rt, "memory");
+        }
+        last = oldest;
+    }
+    ends
+}
+
+// A crash leaves the blocks of each of the first commits zero, and nothing else.
+fn check_ends(rt: &(impl Abort + AllocGlobal), range: Range, wanted: &[u32]) {
+    let before = written(rt);
+    let ends = check_each(rt, before.bank(), range);
+    same(rt, ends.len(), wanted.len());
+    for at in 0..ends.len().min(wanted.len()) {
+        same(rt, (at, ends[at]), (at, wanted[at]));
+    }
+}
+
+#[test]
+fn crashes_at_each_call_of_three_parts(rt: HostRuntime) {
+    check_ends(&rt, (5, 60), &[5, 16, 64, 65]);
+}
+
+#[test]
+fn crashes_at_each_call_of_whole_stripes(rt: HostRuntime) {
+    check_ends(&rt, (0, 48), &[0, 48]);
+}
+
+#[test]
+fn crashes_at_each_call_of_one_write(rt: HostRuntime) {
+    check_ends(&rt, (9, 32), &[9, 41]);
+}

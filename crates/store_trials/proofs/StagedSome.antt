@@ -10,9 +10,9 @@ use Rattle.extents.specs.declared.volume_table.VolumeTable.{VolumeTable}
 use Rattle.extents.specs.SetExtents.{extents_in}
 use Rattle.volume_table.specs.Stands.{StoreView}
 use Rattle.volume_table.specs.Staging.{CommitsStaged, HoldSome, Staged, Stages}
-use Rattle.volume_table.specs.StoreCalls.{extents_for_store}
+use Rattle.volume_table.specs.StoreCalls.{Applies, extents_for_store}
 use Rattle.volume_table.specs.Volumes.{Block}
-use Rattle.volume_table.specs.VolumeStep.{Command, Write}
+use Rattle.volume_table.specs.VolumeStep.{Command, Event, Reply, Write}
 use Rattle.volume_table.proofs.StagedWrites.{none_wait}
 
 -- Where nothing waits, it holds no write.
@@ -53,3 +53,12 @@ same_geometry {honest} {writes} {old} {new} {answer} commits = by_end old.ended 
     by_end : (ended : Option Refusal) → old.ended ≡ ended → new.array.table.geometry ≡ old.array.table.geometry
     by_end None is = (commits.going is).goes_on.not_older.same_geometry
     by_end (Some refusal) is = ap (λ (store : StoreView). store.array.table.geometry) (commits.ended refusal is).1
+
+-- So does an event.
+pub applied_geometry : {honest : Type 0} {event : Event} {old new : StoreView} {reply : Reply} → Applies honest event old new reply
+    → new.array.table.geometry ≡ old.array.table.geometry
+applied_geometry {honest} {event} {old} {new} {reply} applies = by_end old.ended refl
+  where
+    by_end : (ended : Option Refusal) → old.ended ≡ ended → new.array.table.geometry ≡ old.array.table.geometry
+    by_end None is = (applies.going is).goes_on.not_older.same_geometry
+    by_end (Some refusal) is = ap (λ (store : StoreView). store.array.table.geometry) (applies.ended refusal is).same

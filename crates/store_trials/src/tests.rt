@@ -351,6 +351,7 @@ pub(crate) fn is_list(listed: &[Listed], volumes: Volumes) -> bool {
 // Whether a block of a volume is full of this byte. It has to be read.
 fn is_read(rt: &impl Abort, store: &mut TestStore, name: &[u8], at: u32, byte: u8) -> bool
     ensures volumes { store.new.table ≡ store.old.table }
+    ensures set { store.new.array.table.geometry ≡ store.old.array.table.geometry }
 {
     let mut block = [all(!byte)];
     same(rt, store.read(name, at, &mut block), Ok(()));
@@ -365,6 +366,7 @@ pub(crate) fn unlike_block(
     bytes: &[u8],
 ) -> Option<u32>
     ensures volumes { store.new.table ≡ store.old.table }
+    ensures set { store.new.array.table.geometry ≡ store.old.array.table.geometry }
 {
     let mut at = 0u32;
     for byte in bytes {
@@ -397,6 +399,7 @@ pub(crate) fn unlike_volume(
     volumes: Volumes,
 ) -> Option<(usize, u32)>
     ensures volumes { store.new.table ≡ store.old.table }
+    ensures set { store.new.array.table.geometry ≡ store.old.array.table.geometry }
 {
     for at in 0..volumes.len() {
         let (name, bytes) = volumes[at];

@@ -145,8 +145,8 @@ impl<B: Bank> Waiting<B> {
 pub(crate) type TestWaiting = Waiting<MemBank>;
 
 impl Waiting<MemBank> {
-    /// Takes these steps on the store, after which nothing waits. What fails names its step by its number, of which the
-    /// first is given.
+    /// Takes these steps on the store, after which a batch begins in which nothing waits. What fails names its step by
+    /// its number, of which the first is given.
     pub(crate) fn check_and_clear(
         &mut self,
         rt: &(impl Abort + AllocGlobal),
@@ -156,8 +156,9 @@ impl Waiting<MemBank> {
         ensures held { Waits self.new.store self.new.batch }
     {
         check_from(rt, &mut self.store, first, steps);
-        self.batch.clear();
-        assert!(rt; *self.batch.geometry() == self.store.array.table.geometry);
+        let geometry = self.store.array.table.geometry;
+        let batch = Batch::new(&geometry, rt.alloc()).expect(rt, "memory");
+        self.batch = batch;
     }
 
     /// Takes these steps on the store, where nothing waits.
@@ -168,15 +169,14 @@ impl Waiting<MemBank> {
         self.check_and_clear(rt, 0, steps);
     }
 
-    /// Asks that the volumes are these while writes wait: by the definitions, as the store reads them, and in a run that
-    /// begins now.
-    pub(crate) fn check_old(&mut self, rt: &(impl Abort + AllocGlobal), volumes: Volumes)
+    /// Asks that the volumes are these: by the definitions, as the store reads them, and in a run that begins now. What
+    /// waits stays so.
+    pub(crate) fn check_volumes(&mut self, rt: &(impl Abort + AllocGlobal), volumes: Volumes)
         requires held { Waits self.old.store self.old.batch }
         ensures held { Waits self.new.store self.new.batch }
     {
         check_shown(rt, self.store.bank(), 0, volumes);
         same(rt, unlike_volume(rt, &mut self.store, volumes), None);
-        assert!(rt; *self.batch.geometry() == self.store.array.table.geometry);
         let mut later = next_run(rt, self.store.bank());
         check_from(rt, &mut later, 0, &[Step::Holds(volumes)]);
     }

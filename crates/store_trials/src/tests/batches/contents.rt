@@ -1,8 +1,8 @@
 //! What volumes have before a batch is committed, and after it.
 use super::super::Answer::Done;
 use super::super::Call::{self, Create, Extend, Fail};
-use super::super::Step::{Do, Holds, Shows};
-use super::super::{SMALL, Shape, Step, Volumes, check, next_run, opened_after};
+use super::super::Step::Do;
+use super::super::{SMALL, Shape, Step, Volumes, opened_after};
 use super::{LARGE_SMALL, Write, staged};
 use layout_map::Format;
 use std::process::Abort;
@@ -21,14 +21,9 @@ struct Case<'a> {
 fn check_case(rt: &(impl Abort + AllocGlobal), shape: Shape, case: &Case) {
     let store = opened_after(rt, shape, case.before);
     let mut waiting = staged(rt, store, case.writes);
-    waiting.check_old(rt, case.old);
+    waiting.check_volumes(rt, case.old);
     assert!(rt; waiting.commit().is_ok());
-    waiting.check(rt, &[Holds(case.new), Shows(case.new)]);
-    check(
-        rt,
-        &mut next_run(rt, waiting.store.bank()),
-        &[Holds(case.new)],
-    );
+    waiting.check_volumes(rt, case.new);
 }
 
 // Checks a case on a set of each format.

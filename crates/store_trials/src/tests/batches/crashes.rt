@@ -2,7 +2,7 @@
 //! all of it, also without any one slot, and a further batch is then committed.
 use super::super::Answer::Done;
 use super::super::Call::{self, Create};
-use super::super::Step::{Do, Holds, Shows};
+use super::super::Step::{Do, Holds};
 use super::super::calls::SEAL_CALLS;
 use super::super::crashes::{ABSENT, each_in_turn};
 use super::super::{SMALL, Shape, Step, Volumes, again, next_run, opened_after, unlike};
@@ -82,12 +82,12 @@ const FURTHER_NEW: Volumes = &[
 // The store of a set of this shape after the batch was committed, and the number of the first call of that.
 fn committed(rt: &(impl Abort + AllocGlobal), shape: Shape) -> (TestWaiting, u64) {
     let mut waiting = staged(rt, opened_after(rt, shape, BEFORE), WRITES);
-    waiting.check_old(rt, OLD);
+    waiting.check_volumes(rt, OLD);
     let from = waiting.store.bank().now();
     same(rt, waiting.commit(), Ok(()));
     let calls = waiting.store.bank().now().saturating_sub(from);
     same(rt, calls, CALLS);
-    waiting.check(rt, &[Shows(NEW), Holds(NEW)]);
+    waiting.check_volumes(rt, NEW);
     (waiting, from)
 }
 

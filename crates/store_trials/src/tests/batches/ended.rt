@@ -60,12 +60,12 @@ fn nothing_waits_after_a_commit(rt: HostRuntime) {
         assert!(rt; listed.as_slice() == [(65, 0x22), (66, 0x33)].as_slice());
         same(&rt, waiting.commit(), Ok(()));
         check_nothing(&rt, &mut waiting, Ok(()));
-        waiting.check(&rt, &[Holds(NEW)]);
+        waiting.check_volumes(&rt, NEW);
         // The next batch is of its own writes alone.
         waiting.stage_all(&rt, &[(b"b", 0, &[0xbb])]);
         same(&rt, waiting.batch.len(), 1);
         same(&rt, waiting.commit(), Ok(()));
-        waiting.check(&rt, &[Holds(&[NEW[0], (b"b", &[0xbb])])]);
+        waiting.check_volumes(&rt, &[NEW[0], (b"b", &[0xbb])]);
     }
 }
 

@@ -3,8 +3,8 @@ ghost use Rattle.store_trials.specs.Waiting.{Waits};
 
 use super::super::Answer::Done;
 use super::super::Call::{self, Create};
-use super::super::Step::{Do, Holds};
-use super::super::{SMALL, Shape, Step, TestStore, check, next_run, opened_after};
+use super::super::Step::Do;
+use super::super::{SMALL, Shape, Step, Volumes, opened_after};
 use super::{LARGE_SMALL, OF_FIVE, TestWaiting, Waiting, Write};
 use crate::testing::same;
 use layout_map::Format;
@@ -56,6 +56,18 @@ fn check_refused(rt: &(impl Abort + AllocGlobal), waiting: &mut TestWaiting, wai
     same(rt, waiting.store.bank().now(), before);
 }
 
+// The volumes after blocks 3 and 4 of `a` were written.
+const AFTER: Volumes = &[
+    (
+        b"a",
+        &[
+            0, 0, 0, 0x33, 0x44, 0, 0, 0, 0, 0, 0, 0, 0, 0, 0, 0, 0, 0, 0, 0, 0, 0, 0, 0, 0, 0, 0,
+            0, 0, 0, 0, 0, 0, 0, 0, 0, 0, 0, 0, 0,
+        ],
+    ),
+    (b"b", &[0xb0, 0xb1]),
+];
+
 // Blocks 3 and 4 of `a` are logical sectors 67 and 68. After the refusals they alone are written.
 #[test]
 fn refused_writes_do_not_wait(rt: HostRuntime) {
@@ -66,19 +78,7 @@ fn refused_writes_do_not_wait(rt: HostRuntime) {
         check_refused(&rt, &mut waiting, &[(67, 0x33), (68, 0x44)]);
         assert!(rt; waiting.commit().is_ok());
         check_refused(&rt, &mut waiting, &[]);
-        waiting.check(
-            &rt,
-            &[Holds(&[
-                (
-                    b"a",
-                    &[
-                        0, 0, 0, 0x33, 0x44, 0, 0, 0, 0, 0, 0, 0, 0, 0, 0, 0, 0, 0, 0, 0, 0, 0, 0,
-                        0, 0, 0, 0, 0, 0, 0, 0, 0, 0, 0, 0, 0, 0, 0, 0, 0,
-                    ],
-                ),
-                (b"b", &[0xb0, 0xb1]),
-            ])],
-        );
+        waiting.check_volumes(&rt, AFTER);
     }
 }
 
@@ -101,16 +101,7 @@ fn check_committed(rt: &(impl Abort + AllocGlobal), waiting: &mut TestWaiting, b
     ensures held { Waits waiting.new.store waiting.new.batch }
 {
     assert!(rt; waiting.commit().is_ok());
-    let mut later = next_run(rt, waiting.store.bank());
-    check_bytes(rt, &mut later, bytes);
-    check_bytes(rt, &mut waiting.store, bytes);
-    waiting.check(rt, &[]);
-}
-
-// Asks that a store has the volume `a` alone, with these bytes.
-fn check_bytes(rt: &(impl Abort + AllocGlobal), store: &mut TestStore, bytes: &[u8]) {
-    let volumes = [(b"a".as_slice(), bytes)];
-    check(rt, store, &[Holds(&volumes)]);
+    waiting.check_volumes(rt, &[(b"a".as_slice(), bytes)]);
 }
 
 // So many zeros.

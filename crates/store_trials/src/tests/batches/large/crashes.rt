@@ -1,6 +1,6 @@
 //! Crashes in the commit of a large batch: assembling and opening the set again finds the volumes before it or those
 //! after all of it, also without any one slot, and the same batch is then committed.
-use super::super::super::Step::{Holds, Shows};
+use super::super::super::Step::Holds;
 use super::super::super::{NO_SLOT, again, unlike};
 use super::super::TestWaiting;
 use super::{Large, ROWS_2048, RUNS_58, Size, in_turn};
@@ -11,13 +11,12 @@ use std::process::Abort;
 // The store after the batch was committed, and the number of the first call of that.
 fn committed(rt: &(impl Abort + AllocGlobal), large: &Large) -> (TestWaiting, u64) {
     let mut waiting = large.staged(rt, large.store(rt));
-    waiting.check_old(rt, &large.old(rt));
+    waiting.check_volumes(rt, &large.old(rt));
     let from = waiting.store.bank().now();
     same(rt, waiting.commit(), Ok(()));
     let calls = waiting.store.bank().now().saturating_sub(from);
     same(rt, calls, large.size.calls());
-    let new = large.new(rt);
-    waiting.check(rt, &[Shows(&new), Holds(&new)]);
+    waiting.check_volumes(rt, &large.new(rt));
     (waiting, from)
 }
 
@@ -116,16 +115,16 @@ fn crashes_after_odd_calls_of_58_runs(rt: HostRuntime) {
     same(&rt, check_crashes(&rt, RUNS_58, &tried), 207);
 }
 
-// Of the commit's 14,345 calls the seals come after 10,242 to 10,246, between 389 times 26 and times 27; 389 times 36 is
-// the last.
+// Of the commit's 14,345 calls the seals come after 10,242 to 10,246, between 1,087 times 9 and times 10; 1,087 times 13
+// is the last.
 #[test]
 fn crashes_in_a_batch_of_2048_rows(rt: HostRuntime) {
     let tried = Tried {
         first: 0,
-        step: 389,
+        step: 1_087,
         seals: true,
     };
-    same(&rt, check_crashes(&rt, ROWS_2048, &tried), 37 + 5 * 6);
+    same(&rt, check_crashes(&rt, ROWS_2048, &tried), 14 + 5 * 6);
 }
 
 // A crash that is followed by another one in the assembly after it.

@@ -1,4 +1,5 @@
--- After all was taken out nothing waits.
+-- In the batch that begins nothing waits.
+use Rattle.std.proofs.Common.{rules, ◌≡◌, []}
 use Rattle.batch.specs.Batches.{waiting}
 use Rattle.extents.specs.SetExtents.{extents_in}
 use Rattle.store_trials.proofs.StagedSome.{none_held}
@@ -7,4 +8,5 @@ use Rattle.store_trials.proofs.tests.batches.Waiting+MemBank.check_and_clear.Goa
 pub returns : goal.returns
 returns g c =
     let store = c.check_from.new.store in
-    record { held = none_held (extents_in store.array.table.geometry) store.table (waiting c.clear.new.self) c.clear.ensures.empty }
+    let none : waiting c.expect-batch.result ≡ [] = search rules in
+    record { held = none_held (extents_in store.array.table.geometry) store.table (waiting c.expect-batch.result) none }

@@ -112,7 +112,8 @@ pub(crate) fn member_byte(members: u8, member: u8) -> u8 {
     if member.saturating_add(1) < members {
         1u8.wrapping_shl(u32::from(member))
     } else {
-        1u8.wrapping_shl(u32::from(members.saturating_sub(1))).wrapping_sub(1)
+        1u8.wrapping_shl(u32::from(members.saturating_sub(1)))
+            .wrapping_sub(1)
     }
 }
 

@@ -2,8 +2,8 @@
 //!
 //! A commit of whole stripes writes a seal to each of two journals, and zeros to each member. It reads nothing and has
 //! no body, so that the flush of a journal before its seal has nothing to sync.
-use super::rows::{Commit, check_seals};
 use super::super::Shape;
+use super::rows::{Commit, check_seals};
 use super::{OF_FIVE, ThinStore, fill, later, new_set};
 use crate::testing::same;
 use layout_map::Format;

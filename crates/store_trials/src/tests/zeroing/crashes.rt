@@ -83,7 +83,11 @@ pub(crate) fn zeroed_in(
 ) -> u32 {
     let bytes = bytes_of(rt, store, b"v", BLOCKS);
     let end = zero_up_to(&bytes, at);
-    same(rt, (number, end <= at.saturating_add(count)), (number, true));
+    same(
+        rt,
+        (number, end <= at.saturating_add(count)),
+        (number, true),
+    );
     let mut block = 0u32;
     for byte in &bytes {
         let is_zero = at <= block && block < end;
@@ -155,12 +159,7 @@ impl Thinned {
 
 // Makes a range zero, and checks crashes in it, each without what was not flushed and with all that was written, and one
 // after the end.
-fn check_range(
-    rt: &(impl Abort + AllocGlobal),
-    before: &MemBank,
-    range: Range,
-    thinned: &Thinned,
-) {
+fn check_range(rt: &(impl Abort + AllocGlobal), before: &MemBank, range: Range, thinned: &Thinned) {
     let (store, from) = zeroed(rt, before, range);
     let place = (range, store.bank(), from);
     let calls = store.bank().now().saturating_sub(from);

@@ -1,8 +1,6 @@
 //! Devices that go down while blocks are made zero, or did before: it is done without one, and two end the store.
 use super::super::Step::Ended;
-use super::super::{
-    NO_SLOT, TestStore, again, check, check_missing, fail_devices, next_run,
-};
+use super::super::{NO_SLOT, TestStore, again, check, check_missing, fail_devices, next_run};
 use super::crashes::{Range, check_crash, ends_of, written, zeroed, zeroed_in};
 use crate::testing::same;
 use sector_model::{Bank, Choice, MemBank, Refusal};

@@ -77,7 +77,11 @@ fn check_range(rt: &(impl Abort + AllocGlobal), bank: &MemBank, range: Range) {
     write_zeros(rt, &mut other, range);
     assert!(rt; check_same(rt, &store, &other) > 0);
     let seals = store.array.bank.notes.seals.len();
-    same(rt, (range, seals), (range, count.saturating_add(31) as usize / 32));
+    same(
+        rt,
+        (range, seals),
+        (range, count.saturating_add(31) as usize / 32),
+    );
     let mut block = 0u32;
     for byte in &bytes_of(rt, &mut store, b"v", 128) {
         let is_within = at <= block && block - at < count;

@@ -1,7 +1,7 @@
 //! Worked rows of sets of many sectors: what each commit of a zeroing holds, and where a crash leaves the blocks.
+use super::super::Shape;
 use super::rows::{Commit, Made, Row, check_row, check_seals};
 use super::{OF_FIVE, ThinStore, fill, later, member_byte, new_set};
-use super::super::Shape;
 use crate::testing::same;
 use layout_map::Format;
 use sector_model::{Bank, Plan};
@@ -102,10 +102,7 @@ fn create_of_131200_blocks_in_dirty_extents(rt: HostRuntime) {
     same(&rt, store.create(b"v", 131_200), Ok(()));
     let table = store.array.bank.notes.seals.pop();
     assert!(&rt; table.is_some());
-    let commits: &[Commit] = &[
-        (131_056, &[(32, 65_528, 0)]),
-        (131_200, &[(65_560, 72, 0)]),
-    ];
+    let commits: &[Commit] = &[(131_056, &[(32, 65_528, 0)]), (131_200, &[(65_560, 72, 0)])];
     check_seals(&rt, &store, last, commits);
     for member in 0..3u8 {
         let end = end_of_zeros(&rt, &store, member, 160_032);

@@ -2,10 +2,8 @@
 //!
 //! A row of a stripe has the mask of the members that the entry holds; of stripe s of N members the parity is on member
 //! N-1 - s mod N, and the data come after it, in turn.
-use super::{
-    EXAMPLE, OF_FOUR, Run, ThinStore, bytes_of, fill, later, new_set,
-};
 use super::super::{ID, Shape};
+use super::{EXAMPLE, OF_FOUR, Run, ThinStore, bytes_of, fill, later, new_set};
 use crate::testing::same;
 use sector_model::{Bank, Plan, Refusal, Sector};
 use std::process::Abort;
@@ -292,10 +290,7 @@ fn one_whole_stripe(rt: HostRuntime) {
         made: ALL_OF_FOUR,
         at: 1,
         count: 47,
-        commits: &[
-            (24, &[(24, 1, 0x0d), (25, 7, 0x0f)]),
-            (48, &[(32, 8, 0)]),
-        ],
+        commits: &[(24, &[(24, 1, 0x0d), (25, 7, 0x0f)]), (48, &[(32, 8, 0)])],
     };
     check_row(&rt, &row);
 }

@@ -111,11 +111,7 @@ fn place_of(size: u32, dev: u8, at: u32) -> usize {
 
 // The byte at a place, 0 after the last.
 fn byte_at(bytes: &[u8], place: usize) -> u8 {
-    if place < bytes.len() {
-        bytes[place]
-    } else {
-        0
-    }
+    if place < bytes.len() { bytes[place] } else { 0 }
 }
 
 // Keeps the first byte of a sector at a place. Whether the sector is full of it.

@@ -50,12 +50,12 @@ impl Notes {
         }
     }
 
-    fn note_read(&mut self, dev: u8, at: u32) {
+    fn count_read(&mut self, dev: u8, at: u32) {
         self.reads = self.reads.saturating_add(1);
         let _ = self.calls.push((0, dev, at));
     }
 
-    fn note_write(&mut self, call: u64, dev: u8, at: u32, from: &Sector) {
+    fn count_write(&mut self, call: u64, dev: u8, at: u32, from: &Sector) {
         let _ = self.calls.push((1, dev, at));
         if dev < 10 {
             self.written[dev as usize] = true;
@@ -70,7 +70,7 @@ impl Notes {
         }
     }
 
-    fn note_flush(&mut self, dev: u8) {
+    fn count_flush(&mut self, dev: u8) {
         let _ = self.calls.push((2, dev, 0));
         if dev < 10 && self.written[dev as usize] {
             self.written[dev as usize] = false;
@@ -161,7 +161,7 @@ impl<B: Bank> Bank for Thin<B> {
     }
 
     fn read(&mut self, dev: u8, at: u32, to: &mut Sector) -> Result<(), Down> {
-        self.notes.note_read(dev, at);
+        self.notes.count_read(dev, at);
         if at < self.bank.sectors(dev) {
             return self.bank.read(dev, at, to);
         }
@@ -171,7 +171,7 @@ impl<B: Bank> Bank for Thin<B> {
     }
 
     fn write(&mut self, dev: u8, at: u32, from: &Sector) -> Result<(), Down> {
-        self.notes.note_write(self.bank.now(), dev, at, from);
+        self.notes.count_write(self.bank.now(), dev, at, from);
         if at < self.bank.sectors(dev) {
             return self.bank.write(dev, at, from);
         }
@@ -183,7 +183,7 @@ impl<B: Bank> Bank for Thin<B> {
     }
 
     fn flush(&mut self, dev: u8) -> Result<(), Down> {
-        self.notes.note_flush(dev);
+        self.notes.count_flush(dev);
         self.bank.flush(dev)
     }
 }

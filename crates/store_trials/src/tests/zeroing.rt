@@ -30,8 +30,9 @@ pub(crate) const EXAMPLE: Shape = (Format::Two, 3, 8, 32);
 /// 1,600 rows and 197 extents of 24 blocks.
 pub(crate) const OF_FOUR: Shape = (Format::Two, 4, 8, 200);
 
-/// 262,272 rows and 1,024 extents of 1,024 blocks.
-pub(crate) const OF_FIVE: Shape = (Format::Two, 5, 128, 2_049);
+/// 16,768 rows and 130 extents of 512 blocks, which are stripes 1 to 130: so they are in larger sets, too, where an
+/// extent is more stripes.
+pub(crate) const OF_FIVE: Shape = (Format::Two, 5, 128, 131);
 
 /// A store over a set whose devices keep little.
 pub(crate) type ThinStore = Store<Thin<MemBank>>;
@@ -131,18 +132,20 @@ pub(crate) fn fill(rt: &impl Abort, store: &mut ThinStore, blocks: u32) {
     }
 }
 
-/// The bytes of the first blocks of a volume, so many, each of which is full of one.
-pub(crate) fn bytes_of<B: Bank>(
+/// The bytes of blocks of a volume from one on, so many, each of which is full of one.
+pub(crate) fn bytes_from<B: Bank>(
     rt: &(impl Abort + AllocGlobal),
     store: &mut Store<B>,
     name: &[u8],
+    first: u32,
     count: u32,
 ) -> Vec<u8> {
     let mut bytes = Vec::new(rt.alloc());
     for number in 0..count.saturating_add(31) / 32 {
         let mut blocks = [[0xee; 512]; 32];
-        let at = number.saturating_mul(32);
-        let some = count.saturating_sub(at).min(32) as usize;
+        let before = number.saturating_mul(32);
+        let some = count.saturating_sub(before).min(32) as usize;
+        let at = first.saturating_add(before);
         same(rt, store.read(name, at, &mut blocks[..some]), Ok(()));
         for block in &blocks[..some] {
             let byte = byte_of(block).expect(rt, "a block is full of one byte");
@@ -150,4 +153,14 @@ pub(crate) fn bytes_of<B: Bank>(
         }
     }
     bytes
+}
+
+/// The bytes of the first blocks of a volume, so many, each of which is full of one.
+pub(crate) fn bytes_of<B: Bank>(
+    rt: &(impl Abort + AllocGlobal),
+    store: &mut Store<B>,
+    name: &[u8],
+    count: u32,
+) -> Vec<u8> {
+    bytes_from(rt, store, name, 0, count)
 }

@@ -3,7 +3,7 @@
 //! A row of a stripe has the mask of the members that the entry holds; of stripe s of N members the parity is on member
 //! N-1 - s mod N, and the data come after it, in turn.
 use super::{
-    EXAMPLE, OF_FOUR, Run, ThinStore, bytes_of, fill, later, new_set,
+    EXAMPLE, OF_FOUR, Run, ThinStore, bytes_from, bytes_of, fill, later, new_set,
 };
 use super::super::{ID, Shape};
 use crate::testing::same;
@@ -145,24 +145,56 @@ pub(crate) fn check_seals(
     }
 }
 
-// The first block of `v` that is not as it has to be: zero from block `at` to `end` - 1, and else as it was.
+// The first of up to 32 blocks of `v` that is not as it has to be: zero from block `at` to `end` - 1, and else as it was.
+fn unlike_among(
+    rt: &(impl Abort + AllocGlobal),
+    store: &mut ThinStore,
+    first: u32,
+    before: &[u8],
+    (at, end): (u32, u32),
+) -> Option<u32> {
+    let bytes = bytes_from(rt, store, b"v", first, before.len() as u32);
+    same(rt, bytes.len(), before.len());
+    let mut block = first;
+    for place in 0..before.len().min(bytes.len()) {
+        let is_within = at <= block && block < end;
+        let wanted = if is_within { 0 } else { before[place] };
+        if bytes[place] != wanted {
+            return Some(block);
+        }
+        block = block.saturating_add(1);
+    }
+    None
+}
+
+// The first block of `v` that is not as it has to be. Of large volumes those around the first and last that are zero are
+// looked at, and 32 of each so many.
 fn unlike_zeroed(
     rt: &(impl Abort + AllocGlobal),
     store: &mut ThinStore,
     before: &[u8],
     at: u32,
     end: u32,
-) -> Option<usize> {
-    let now = bytes_of(rt, store, b"v", before.len() as u32);
-    same(rt, now.len(), before.len());
-    for block in 0..before.len().min(now.len()) {
-        let is_within = at as usize <= block && block < end as usize;
-        let wanted = if is_within { 0 } else { before[block] };
-        if now[block] != wanted {
-            return Some(block);
+) -> Option<u32> {
+    let apart = before.len() as u32 / 8_192 + 1;
+    let mut number = 0u32;
+    for some in before.chunks(32) {
+        let first = number.saturating_mul(32);
+        let is_near = is_beside(first, at) || is_beside(first, end);
+        if is_near || number % apart == 0 {
+            let unlike = unlike_among(rt, store, first, some, (at, end));
+            if unlike.is_some() {
+                return unlike;
+            }
         }
+        number = number.saturating_add(1);
     }
     None
+}
+
+// Whether a block is one of 32, or the one before or after them.
+fn is_beside(first: u32, block: u32) -> bool {
+    first <= block.saturating_add(1) && block <= first.saturating_add(32)
 }
 
 // A run that stops at a call, and a further one: the blocks up to `end` are zero.

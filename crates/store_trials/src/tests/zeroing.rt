@@ -127,9 +127,14 @@ pub(crate) fn fill(rt: &impl Abort, store: &mut ThinStore, blocks: u32) {
     for member in 0..geometry.members {
         let from = size.saturating_mul(member as usize).saturating_add(head);
         let to = from.saturating_add(rows as usize);
-        assert!(rt; to <= store.array.bank.bytes.len());
-        store.array.bank.bytes[from..to].fill(member_byte(geometry.members, member));
+        let byte = member_byte(geometry.members, member);
+        fill_places(rt, &mut store.array.bank.bytes, (from, to), byte);
     }
+}
+
+fn fill_places(rt: &impl Abort, bytes: &mut [u8], (from, to): (usize, usize), byte: u8) {
+    assert!(rt; from <= to && to <= bytes.len());
+    bytes[from..to].fill(byte);
 }
 
 /// The bytes of blocks of a volume from one on, so many, each of which is full of one.

@@ -115,7 +115,7 @@ pub(crate) fn seal_of(number: u64, runs: &[Run]) -> Sector {
     put(&mut sector, 0, b"RAID5JE3");
     put(&mut sector, 8, &ID);
     put(&mut sector, 24, &number.to_le_bytes());
-    put(&mut sector, 32, &(runs.len() as u32).to_le_bytes());
+    put(&mut sector, 32, &(runs.len().min(58) as u32).to_le_bytes());
     let mut at = 40usize;
     for (first, length, mask) in runs {
         put(&mut sector, at, &first.to_le_bytes()[..5]);
@@ -153,6 +153,7 @@ fn unlike_among(
     before: &[u8],
     (at, end): (u32, u32),
 ) -> Option<u32> {
+    assert!(rt; before.len() <= 32);
     let bytes = bytes_from(rt, store, b"v", first, before.len() as u32);
     same(rt, bytes.len(), before.len());
     let mut block = first;
@@ -168,7 +169,7 @@ fn unlike_among(
 }
 
 // The first block of `v` that is not as it has to be. Of large volumes those around the first and last that are zero are
-// looked at, and 32 of each so many.
+// looked at, and of the others a ninth.
 fn unlike_zeroed(
     rt: &(impl Abort + AllocGlobal),
     store: &mut ThinStore,
@@ -176,7 +177,7 @@ fn unlike_zeroed(
     at: u32,
     end: u32,
 ) -> Option<u32> {
-    let apart = before.len() as u32 / 8_192 + 1;
+    let apart = if before.len() <= 8_192 { 1 } else { 9 };
     let mut number = 0u32;
     for some in before.chunks(32) {
         let first = number.saturating_mul(32);

@@ -28,7 +28,9 @@ pub(crate) struct Notes {
     pub syncs: u64,
     /// Which devices were written since their last flush.
     written: [bool; 10],
-    /// Each call: what was done (0 to 2, a read, a write, a flush), the slot and the sector.
+    /// Whether each call is noted.
+    pub each: bool,
+    /// Each of them: what was done (0 to 2, a read, a write, a flush), the slot and the sector.
     pub calls: Vec<(u8, u8, u32)>,
     /// Whether a sector that is kept as one byte was written with more than one.
     pub mixed: bool,
@@ -45,18 +47,25 @@ impl Notes {
             to_bodies: 0,
             syncs: 0,
             written: [false; 10],
+            each: false,
             calls: Vec::new(rt.alloc()),
             mixed: false,
         }
     }
 
+    fn note_call(&mut self, kind: u8, dev: u8, at: u32) {
+        if self.each {
+            let _ = self.calls.push((kind, dev, at));
+        }
+    }
+
     fn note_read(&mut self, dev: u8, at: u32) {
         self.reads = self.reads.saturating_add(1);
-        let _ = self.calls.push((0, dev, at));
+        self.note_call(0, dev, at);
     }
 
     fn note_write(&mut self, call: u64, dev: u8, at: u32, from: &Sector) {
-        let _ = self.calls.push((1, dev, at));
+        self.note_call(1, dev, at);
         if dev < 10 {
             self.written[dev as usize] = true;
         }
@@ -71,7 +80,7 @@ impl Notes {
     }
 
     fn note_flush(&mut self, dev: u8) {
-        let _ = self.calls.push((2, dev, 0));
+        self.note_call(2, dev, 0);
         if dev < 10 && self.written[dev as usize] {
             self.written[dev as usize] = false;
             self.syncs = self.syncs.saturating_add(1);

@@ -22,7 +22,7 @@ mod refusals;
 mod rows;
 mod thin;
 
-use thin::{Notes, Thin};
+use thin::{Notes, Thin, place_of};
 
 /// 256 rows and 28 extents of 16 blocks.
 pub(crate) const EXAMPLE: Shape = (Format::Two, 3, 8, 32);
@@ -117,19 +117,20 @@ pub(crate) fn member_byte(members: u8, member: u8) -> u8 {
     }
 }
 
-/// Has the members' sectors of the extents full of their bytes, as far as those of so many blocks, which are whole
-/// stripes.
-pub(crate) fn fill(rt: &impl Abort, store: &mut ThinStore, blocks: u32) {
+/// The devices of a store, with the members' sectors of the extents full of their bytes, as far as those of so many
+/// blocks, which are whole stripes.
+pub(crate) fn filled(rt: &impl Abort, store: ThinStore, blocks: u32) -> Thin<MemBank> {
     let geometry = store.array.table.geometry;
     let head = head_of(&geometry);
     let rows = blocks / u32::from(geometry.members.max(2) - 1);
-    let size = store.array.bank.size as usize;
+    let mut bank = store.into_bank();
     for member in 0..geometry.members {
-        let from = size.saturating_mul(member as usize).saturating_add(head);
+        let from = place_of(bank.size, member, 0).saturating_add(head);
         let to = from.saturating_add(rows as usize);
         let byte = member_byte(geometry.members, member);
-        fill_places(rt, &mut store.array.bank.bytes, (from, to), byte);
+        fill_places(rt, &mut bank.bytes, (from, to), byte);
     }
+    bank
 }
 
 fn fill_places(rt: &impl Abort, bytes: &mut [u8], (from, to): (usize, usize), byte: u8) {

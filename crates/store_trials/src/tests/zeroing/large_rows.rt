@@ -1,10 +1,10 @@
 //! Worked rows of sets of many sectors: what each commit of a zeroing holds, and where a crash leaves the blocks.
 use super::rows::{Commit, Made, Row, check_row, check_seals};
-use super::{OF_FIVE, ThinStore, fill, later, member_byte, new_set};
+use super::{OF_FIVE, ThinStore, filled, later, member_byte, new_set};
 use super::super::Shape;
 use crate::testing::same;
 use layout_map::Format;
-use sector_model::{Bank, Plan};
+use sector_model::Plan;
 use std::process::Abort;
 
 // The set of five, 5 members with chunk 128, as far as its first 131 stripes. The stripes from 2 on are one run of zeros.
@@ -94,20 +94,18 @@ fn end_of_zeros(rt: &impl Abort, store: &ThinStore, member: u8, rows: u32) -> Op
 // most with chunk 8; the table's commit comes after them.
 #[test]
 fn create_of_131200_blocks_in_dirty_extents(rt: HostRuntime) {
-    let mut before = new_set(&rt, OF_THREE);
-    same(&rt, before.create(b"p", 131_328), Ok(()));
-    same(&rt, before.remove(b"p"), Ok(()));
-    fill(&rt, &mut before, 131_328);
-    let mut store = later(&rt, &before.array.bank, Plan::NONE);
+    let mut store = new_set(&rt, OF_THREE);
+    same(&rt, store.create(b"p", 131_328), Ok(()));
+    same(&rt, store.remove(b"p"), Ok(()));
+    let before = filled(&rt, store, 131_328);
+    let mut store = later(&rt, &before, Plan::NONE);
     let last = store.array.entry;
     same(&rt, store.create(b"v", 131_200), Ok(()));
-    let table = store.array.bank.notes.seals.pop();
-    assert!(&rt; table.is_some());
     let commits: &[Commit] = &[
         (131_056, &[(32, 65_528, 0)]),
         (131_200, &[(65_560, 72, 0)]),
     ];
-    check_seals(&rt, &store, last, commits);
+    check_seals(&rt, &store, last, (commits, 1));
     for member in 0..3u8 {
         let end = end_of_zeros(&rt, &store, member, 65_696);
         same(&rt, (member, end), (member, Some(65_632)));

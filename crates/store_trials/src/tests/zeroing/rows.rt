@@ -3,11 +3,12 @@
 //! A row of a stripe has the mask of the members that the entry holds; of stripe s of N members the parity is on member
 //! N-1 - s mod N, and the data come after it, in turn.
 use super::{
-    EXAMPLE, OF_FOUR, Run, ThinStore, bytes_from, bytes_of, fill, later, new_set,
+    EXAMPLE, OF_FOUR, Run, ThinStore, bytes_from, bytes_of, filled, later, new_set,
 };
 use super::super::{ID, Shape};
+use super::thin::Thin;
 use crate::testing::same;
-use sector_model::{Bank, Plan, Refusal, Sector};
+use sector_model::{MemBank, Plan, Refusal, Sector};
 use std::process::Abort;
 
 /// A commit: the block after the last of its writes, and the runs of its seal.
@@ -79,16 +80,15 @@ impl Made {
         }
     }
 
-    // A set with the volume, of whose blocks none is zero.
-    fn store(self, rt: &(impl Abort + AllocGlobal), shape: Shape) -> ThinStore {
+    // The devices of a set with the volume, of whose blocks none is zero.
+    fn devices(self, rt: &(impl Abort + AllocGlobal), shape: Shape) -> Thin<MemBank> {
         let mut store = new_set(rt, shape);
         match self {
             Made::InOrder(blocks) => create(rt, &mut store, b"v", blocks),
             Made::Falling => make_falling(rt, &mut store),
             Made::EveryOther(extents) => make_every_other(rt, &mut store, extents),
         }
-        fill(rt, &mut store, self.filled());
-        store
+        filled(rt, store, self.filled())
     }
 
     // How many blocks lie in the extents from the first up to the last that has a volume.
@@ -127,16 +127,16 @@ pub(crate) fn seal_of(number: u64, runs: &[Run]) -> Sector {
     sector
 }
 
-/// Asks that the seals which a bank was told are those of entries with these runs, from the one after `last` on, and
-/// that there are no others.
+/// Asks that the seals which a bank was told are those of entries with these runs, from the one after `last` on, and so
+/// many others after them.
 pub(crate) fn check_seals(
     rt: &(impl Abort + AllocGlobal),
     store: &ThinStore,
     last: u64,
-    commits: &[Commit],
+    (commits, others): (&[Commit], usize),
 ) {
     let seals = &store.array.bank.notes.seals;
-    same(rt, seals.len(), commits.len());
+    same(rt, seals.len(), commits.len().saturating_add(others));
     let mut number = last;
     for at in 0..commits.len().min(seals.len()) {
         number = number.saturating_add(1);
@@ -201,14 +201,14 @@ fn is_beside(first: u32, block: u32) -> bool {
 // A run that stops at a call, and a further one: the blocks up to `end` are zero.
 fn check_stopped(
     rt: &(impl Abort + AllocGlobal),
-    before: &ThinStore,
+    before: &Thin<MemBank>,
     (row, bytes): (&Row, &[u8]),
     stop: u64,
     end: u32,
 ) {
     let mut plan = Plan::NONE;
     plan.stop = Some(stop);
-    let mut store = later(rt, &before.array.bank, plan);
+    let mut store = later(rt, before, plan);
     let stopped = store.zero(b"v", row.at, row.count);
     same(rt, (stop, stopped), (stop, Err(Refusal::TwoLost)));
     let mut store = later(rt, &store.array.bank, Plan::NONE);
@@ -220,16 +220,16 @@ fn check_stopped(
 /// before it zero, and one after its seals, before members are written, those of this commit as well; and that at the
 /// end they are all, and no other block.
 pub(crate) fn check_row(rt: &(impl Abort + AllocGlobal), row: &Row) {
-    let before = row.made.store(rt, row.shape);
-    let mut store = later(rt, &before.array.bank, Plan::NONE);
+    let before = row.made.devices(rt, row.shape);
+    let mut store = later(rt, &before, Plan::NONE);
     let bytes = bytes_of(rt, &mut store, b"v", row.made.blocks());
     for byte in &bytes {
         assert!(rt; *byte != 0);
     }
-    let mut store = later(rt, &before.array.bank, Plan::NONE);
+    let mut store = later(rt, &before, Plan::NONE);
     let last = store.array.entry;
     same(rt, store.zero(b"v", row.at, row.count), Ok(()));
-    check_seals(rt, &store, last, row.commits);
+    check_seals(rt, &store, last, (row.commits, 0));
     let seals = &store.array.bank.notes.seals;
     let mut end = row.at;
     for number in 0..row.commits.len().min(seals.len()) {

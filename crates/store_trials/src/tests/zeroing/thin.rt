@@ -112,8 +112,8 @@ fn pass<B: Bank>(bank: &mut B, dev: u8) -> Result<(), Down>
     bank.read(dev, 0, &mut held)
 }
 
-// The place of a device's sector in a list of all.
-fn place_of(size: u32, dev: u8, at: u32) -> usize {
+/// The place of a device's sector in a list of those of all, which have so many each.
+pub(crate) fn place_of(size: u32, dev: u8, at: u32) -> usize {
     let before = (size as usize).saturating_mul(dev as usize);
     before.saturating_add(at as usize)
 }

@@ -22,7 +22,7 @@ mod refusals;
 mod rows;
 mod thin;
 
-use thin::{Notes, Thin};
+use thin::{Notes, Thin, place_of};
 
 /// 256 rows and 28 extents of 16 blocks.
 pub(crate) const EXAMPLE: Shape = (Format::Two, 3, 8, 32);
@@ -30,8 +30,9 @@ pub(crate) const EXAMPLE: Shape = (Format::Two, 3, 8, 32);
 /// 1,600 rows and 197 extents of 24 blocks.
 pub(crate) const OF_FOUR: Shape = (Format::Two, 4, 8, 200);
 
-/// 262,272 rows and 1,024 extents of 1,024 blocks.
-pub(crate) const OF_FIVE: Shape = (Format::Two, 5, 128, 2_049);
+/// 16,768 rows and 130 extents of 512 blocks, which are stripes 1 to 130: so they are in larger sets, too, where an
+/// extent is more stripes.
+pub(crate) const OF_FIVE: Shape = (Format::Two, 5, 128, 131);
 
 /// A store over a set whose devices keep little.
 pub(crate) type ThinStore = Store<Thin<MemBank>>;
@@ -117,19 +118,48 @@ pub(crate) fn member_byte(members: u8, member: u8) -> u8 {
     }
 }
 
-/// Has the members' sectors of the extents full of their bytes, as far as those of so many blocks, which are whole
-/// stripes.
-pub(crate) fn fill(rt: &impl Abort, store: &mut ThinStore, blocks: u32) {
+/// The devices of a store, with the members' sectors of the extents full of their bytes, as far as those of so many
+/// blocks, which are whole stripes.
+pub(crate) fn filled(rt: &impl Abort, store: ThinStore, blocks: u32) -> Thin<MemBank> {
     let geometry = store.array.table.geometry;
     let head = head_of(&geometry);
     let rows = blocks / u32::from(geometry.members.max(2) - 1);
-    let size = store.array.bank.size as usize;
+    let mut bank = store.into_bank();
     for member in 0..geometry.members {
-        let from = size.saturating_mul(member as usize).saturating_add(head);
+        let from = place_of(bank.size, member, 0).saturating_add(head);
         let to = from.saturating_add(rows as usize);
-        assert!(rt; to <= store.array.bank.bytes.len());
-        store.array.bank.bytes[from..to].fill(member_byte(geometry.members, member));
+        let byte = member_byte(geometry.members, member);
+        fill_places(rt, &mut bank.bytes, (from, to), byte);
     }
+    bank
+}
+
+fn fill_places(rt: &impl Abort, bytes: &mut [u8], (from, to): (usize, usize), byte: u8) {
+    assert!(rt; from <= to && to <= bytes.len());
+    bytes[from..to].fill(byte);
+}
+
+/// The bytes of blocks of a volume from one on, so many, each of which is full of one.
+pub(crate) fn bytes_from<B: Bank>(
+    rt: &(impl Abort + AllocGlobal),
+    store: &mut Store<B>,
+    name: &[u8],
+    first: u32,
+    count: u32,
+) -> Vec<u8> {
+    let mut bytes = Vec::new(rt.alloc());
+    for number in 0..count.saturating_add(31) / 32 {
+        let mut blocks = [[0xee; 512]; 32];
+        let before = number.saturating_mul(32);
+        let some = count.saturating_sub(before).min(32) as usize;
+        let at = first.saturating_add(before);
+        same(rt, store.read(name, at, &mut blocks[..some]), Ok(()));
+        for block in &blocks[..some] {
+            let byte = byte_of(block).expect(rt, "a block is full of one byte");
+            bytes.push(byte).expect(rt, "memory");
+        }
+    }
+    bytes
 }
 
 /// The bytes of the first blocks of a volume, so many, each of which is full of one.
@@ -139,16 +169,5 @@ pub(crate) fn bytes_of<B: Bank>(
     name: &[u8],
     count: u32,
 ) -> Vec<u8> {
-    let mut bytes = Vec::new(rt.alloc());
-    for number in 0..count.saturating_add(31) / 32 {
-        let mut blocks = [[0xee; 512]; 32];
-        let at = number.saturating_mul(32);
-        let some = count.saturating_sub(at).min(32) as usize;
-        same(rt, store.read(name, at, &mut blocks[..some]), Ok(()));
-        for block in &blocks[..some] {
-            let byte = byte_of(block).expect(rt, "a block is full of one byte");
-            bytes.push(byte).expect(rt, "memory");
-        }
-    }
-    bytes
+    bytes_from(rt, store, name, 0, count)
 }

@@ -57,20 +57,23 @@ fn check_failures(rt: &(impl Abort + AllocGlobal), range: Range) -> u64 {
     failed
 }
 
-// The last part of each of these ranges writes each device, with the lower members and journals first.
+// The last of the 167 calls to each slot, which are those of block 64, are 164, 152, 166, 160 and 162: 161 of the calls
+// have one to their slot from there on.
 #[test]
 fn each_slot_down_in_three_parts(rt: HostRuntime) {
-    assert!(&rt; check_failures(&rt, (5, 60)) >= 100);
+    same(&rt, check_failures(&rt, (5, 60)), 161);
 }
 
+// The last of 81 calls to each slot are 30, 55 and 80, the flushes of the members, and 3 and 5, those of the seals.
 #[test]
 fn each_slot_down_in_whole_stripes(rt: HostRuntime) {
-    assert!(&rt; check_failures(&rt, (0, 48)) >= 50);
+    same(&rt, check_failures(&rt, (0, 48)), 7 + 11 + 16 + 1 + 1);
 }
 
+// The last of 188 calls to each slot are 146, 170 and 187, and 127 and 129.
 #[test]
 fn each_slot_down_in_one_write(rt: HostRuntime) {
-    assert!(&rt; check_failures(&rt, (9, 32)) >= 50);
+    same(&rt, check_failures(&rt, (9, 32)), 30 + 34 + 38 + 25 + 26);
 }
 
 // Makes a range zero while two slots go down, each at its first call from one on, which ends the store unless one is not
@@ -109,7 +112,7 @@ fn check_pairs(rt: &(impl Abort + AllocGlobal), range: Range) -> u64 {
     let mut ended = 0u64;
     for call in 0..calls.saturating_add(1) {
         let first = (call % 5) as u8;
-        let second = ((call + 1 + call / 5 % 4) % 5) as u8;
+        let second = (call.wrapping_add(1).wrapping_add(call / 5 % 4) % 5) as u8;
         if check_two(rt, before.bank(), range, ([first, second], call)) {
             ended = ended.saturating_add(1);
         }
@@ -117,9 +120,11 @@ fn check_pairs(rt: &(impl Abort + AllocGlobal), range: Range) -> u64 {
     ended
 }
 
+// The store ends where a call comes to one of the two, since giving that up writes to the other: in 153 cases up to call
+// 152, and from there on in those from 153 to 162, 164 and 165.
 #[test]
 fn two_slots_down_in_three_parts(rt: HostRuntime) {
-    assert!(&rt; check_pairs(&rt, (5, 60)) >= 100);
+    same(&rt, check_pairs(&rt, (5, 60)), 153 + 12);
 }
 
 // Makes a range zero in a set that lacks a slot, and checks each so many-th crash in it, with the slot still absent.

@@ -34,7 +34,7 @@ fn noted(rt: &(impl Abort + AllocGlobal), bank: &MemBank) -> ThinStore {
     let array = assemble(bank, entry, ID);
     let array = array.ok().expect(rt, "the set is assembled");
     let mut store = Store::open(array).ok().expect(rt, "the store is opened");
-    store.array.bank.notes.calls.clear();
+    store.array.bank.notes.each = true;
     store
 }
 

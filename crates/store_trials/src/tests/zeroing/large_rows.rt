@@ -1,13 +1,13 @@
 //! Worked rows of sets of many sectors: what each commit of a zeroing holds, and where a crash leaves the blocks.
 use super::super::Shape;
 use super::rows::{Commit, Made, Row, check_row, check_seals};
-use super::{OF_FIVE, ThinStore, fill, later, member_byte, new_set};
+use super::{OF_FIVE, ThinStore, filled, later, member_byte, new_set};
 use crate::testing::same;
 use layout_map::Format;
-use sector_model::{Bank, Plan};
+use sector_model::Plan;
 use std::process::Abort;
 
-// The stripes from 2 on are one run of zeros.
+// The set of five, 5 members with chunk 128, as far as its first 131 stripes. The stripes from 2 on are one run of zeros.
 #[test]
 fn blocks_65536_aligned(rt: HostRuntime) {
     let row = Row {
@@ -71,8 +71,9 @@ fn no_whole_stripe_long(rt: HostRuntime) {
     check_row(&rt, &row);
 }
 
-// 160,032 rows and 625 extents of 512 blocks.
-const OF_THREE: Shape = (Format::Two, 3, 8, 20_004);
+// 65,696 rows and 513 extents of 256 blocks, stripes 4 to 8,211. In the set of 20,004 stripes an extent has 512 blocks,
+// of which each is where it is here.
+const OF_THREE: Shape = (Format::Two, 3, 8, 8_212);
 
 // The row of each member from which on sectors are as they were filled, where those from row 32 on are zero up to it.
 fn end_of_zeros(rt: &impl Abort, store: &ThinStore, member: u8, rows: u32) -> Option<u32> {
@@ -89,23 +90,21 @@ fn end_of_zeros(rt: &impl Abort, store: &ThinStore, member: u8, rows: u32) -> Op
     end
 }
 
-// All 625 extents are dirty. Of 131,200 blocks, which are 8,200 stripes, 8,191 are one run of 65,528 rows, which is the
-// most with chunk 8; the table's commit comes after them. Block 131,199 is in extent 256.
+// All 513 extents are dirty. Of 131,200 blocks, which are 8,200 stripes, 8,191 are one run of 65,528 rows, which is the
+// most with chunk 8; the table's commit comes after them.
 #[test]
 fn create_of_131200_blocks_in_dirty_extents(rt: HostRuntime) {
-    let mut before = new_set(&rt, OF_THREE);
-    same(&rt, before.create(b"p", 320_000), Ok(()));
-    same(&rt, before.remove(b"p"), Ok(()));
-    fill(&rt, &mut before, 320_000);
-    let mut store = later(&rt, &before.array.bank, Plan::NONE);
+    let mut store = new_set(&rt, OF_THREE);
+    same(&rt, store.create(b"p", 131_328), Ok(()));
+    same(&rt, store.remove(b"p"), Ok(()));
+    let before = filled(&rt, store, 131_328);
+    let mut store = later(&rt, &before, Plan::NONE);
     let last = store.array.entry;
     same(&rt, store.create(b"v", 131_200), Ok(()));
-    let table = store.array.bank.notes.seals.pop();
-    assert!(&rt; table.is_some());
     let commits: &[Commit] = &[(131_056, &[(32, 65_528, 0)]), (131_200, &[(65_560, 72, 0)])];
-    check_seals(&rt, &store, last, commits);
+    check_seals(&rt, &store, last, (commits, 1));
     for member in 0..3u8 {
-        let end = end_of_zeros(&rt, &store, member, 160_032);
+        let end = end_of_zeros(&rt, &store, member, 65_696);
         same(&rt, (member, end), (member, Some(65_632)));
     }
     same(&rt, store.array.bank.notes.mixed, false);

@@ -3,9 +3,10 @@
 //! A row of a stripe has the mask of the members that the entry holds; of stripe s of N members the parity is on member
 //! N-1 - s mod N, and the data come after it, in turn.
 use super::super::{ID, Shape};
-use super::{EXAMPLE, OF_FOUR, Run, ThinStore, bytes_of, fill, later, new_set};
+use super::thin::Thin;
+use super::{EXAMPLE, OF_FOUR, Run, ThinStore, bytes_from, bytes_of, filled, later, new_set};
 use crate::testing::same;
-use sector_model::{Bank, Plan, Refusal, Sector};
+use sector_model::{MemBank, Plan, Refusal, Sector};
 use std::process::Abort;
 
 /// A commit: the block after the last of its writes, and the runs of its seal.
@@ -77,16 +78,15 @@ impl Made {
         }
     }
 
-    // A set with the volume, of whose blocks none is zero.
-    fn store(self, rt: &(impl Abort + AllocGlobal), shape: Shape) -> ThinStore {
+    // The devices of a set with the volume, of whose blocks none is zero.
+    fn devices(self, rt: &(impl Abort + AllocGlobal), shape: Shape) -> Thin<MemBank> {
         let mut store = new_set(rt, shape);
         match self {
             Made::InOrder(blocks) => create(rt, &mut store, b"v", blocks),
             Made::Falling => make_falling(rt, &mut store),
             Made::EveryOther(extents) => make_every_other(rt, &mut store, extents),
         }
-        fill(rt, &mut store, self.filled());
-        store
+        filled(rt, store, self.filled())
     }
 
     // How many blocks lie in the extents from the first up to the last that has a volume.
@@ -113,7 +113,7 @@ pub(crate) fn seal_of(number: u64, runs: &[Run]) -> Sector {
     put(&mut sector, 0, b"RAID5JE3");
     put(&mut sector, 8, &ID);
     put(&mut sector, 24, &number.to_le_bytes());
-    put(&mut sector, 32, &(runs.len() as u32).to_le_bytes());
+    put(&mut sector, 32, &(runs.len().min(58) as u32).to_le_bytes());
     let mut at = 40usize;
     for (first, length, mask) in runs {
         put(&mut sector, at, &first.to_le_bytes()[..5]);
@@ -125,16 +125,16 @@ pub(crate) fn seal_of(number: u64, runs: &[Run]) -> Sector {
     sector
 }
 
-/// Asks that the seals which a bank was told are those of entries with these runs, from the one after `last` on, and
-/// that there are no others.
+/// Asks that the seals which a bank was told are those of entries with these runs, from the one after `last` on, and so
+/// many others after them.
 pub(crate) fn check_seals(
     rt: &(impl Abort + AllocGlobal),
     store: &ThinStore,
     last: u64,
-    commits: &[Commit],
+    (commits, others): (&[Commit], usize),
 ) {
     let seals = &store.array.bank.notes.seals;
-    same(rt, seals.len(), commits.len());
+    same(rt, seals.len(), commits.len().saturating_add(others));
     let mut number = last;
     for at in 0..commits.len().min(seals.len()) {
         number = number.saturating_add(1);
@@ -143,37 +143,70 @@ pub(crate) fn check_seals(
     }
 }
 
-// The first block of `v` that is not as it has to be: zero from block `at` to `end` - 1, and else as it was.
+// The first of up to 32 blocks of `v` that is not as it has to be: zero from block `at` to `end` - 1, and else as it was.
+fn unlike_among(
+    rt: &(impl Abort + AllocGlobal),
+    store: &mut ThinStore,
+    first: u32,
+    before: &[u8],
+    (at, end): (u32, u32),
+) -> Option<u32> {
+    assert!(rt; before.len() <= 32);
+    let bytes = bytes_from(rt, store, b"v", first, before.len() as u32);
+    same(rt, bytes.len(), before.len());
+    let mut block = first;
+    for place in 0..before.len().min(bytes.len()) {
+        let is_within = at <= block && block < end;
+        let wanted = if is_within { 0 } else { before[place] };
+        if bytes[place] != wanted {
+            return Some(block);
+        }
+        block = block.saturating_add(1);
+    }
+    None
+}
+
+// The first block of `v` that is not as it has to be. Of large volumes those around the first and last that are zero are
+// looked at, and of the others a ninth.
 fn unlike_zeroed(
     rt: &(impl Abort + AllocGlobal),
     store: &mut ThinStore,
     before: &[u8],
     at: u32,
     end: u32,
-) -> Option<usize> {
-    let now = bytes_of(rt, store, b"v", before.len() as u32);
-    same(rt, now.len(), before.len());
-    for block in 0..before.len().min(now.len()) {
-        let is_within = at as usize <= block && block < end as usize;
-        let wanted = if is_within { 0 } else { before[block] };
-        if now[block] != wanted {
-            return Some(block);
+) -> Option<u32> {
+    let apart = if before.len() <= 8_192 { 1 } else { 9 };
+    let mut number = 0u32;
+    for some in before.chunks(32) {
+        let first = number.saturating_mul(32);
+        let is_near = is_beside(first, at) || is_beside(first, end);
+        if is_near || number % apart == 0 {
+            let unlike = unlike_among(rt, store, first, some, (at, end));
+            if unlike.is_some() {
+                return unlike;
+            }
         }
+        number = number.saturating_add(1);
     }
     None
+}
+
+// Whether a block is one of 32, or the one before or after them.
+fn is_beside(first: u32, block: u32) -> bool {
+    first <= block.saturating_add(1) && block <= first.saturating_add(32)
 }
 
 // A run that stops at a call, and a further one: the blocks up to `end` are zero.
 fn check_stopped(
     rt: &(impl Abort + AllocGlobal),
-    before: &ThinStore,
+    before: &Thin<MemBank>,
     (row, bytes): (&Row, &[u8]),
     stop: u64,
     end: u32,
 ) {
     let mut plan = Plan::NONE;
     plan.stop = Some(stop);
-    let mut store = later(rt, &before.array.bank, plan);
+    let mut store = later(rt, before, plan);
     let stopped = store.zero(b"v", row.at, row.count);
     same(rt, (stop, stopped), (stop, Err(Refusal::TwoLost)));
     let mut store = later(rt, &store.array.bank, Plan::NONE);
@@ -185,16 +218,16 @@ fn check_stopped(
 /// before it zero, and one after its seals, before members are written, those of this commit as well; and that at the
 /// end they are all, and no other block.
 pub(crate) fn check_row(rt: &(impl Abort + AllocGlobal), row: &Row) {
-    let before = row.made.store(rt, row.shape);
-    let mut store = later(rt, &before.array.bank, Plan::NONE);
+    let before = row.made.devices(rt, row.shape);
+    let mut store = later(rt, &before, Plan::NONE);
     let bytes = bytes_of(rt, &mut store, b"v", row.made.blocks());
     for byte in &bytes {
         assert!(rt; *byte != 0);
     }
-    let mut store = later(rt, &before.array.bank, Plan::NONE);
+    let mut store = later(rt, &before, Plan::NONE);
     let last = store.array.entry;
     same(rt, store.zero(b"v", row.at, row.count), Ok(()));
-    check_seals(rt, &store, last, row.commits);
+    check_seals(rt, &store, last, (row.commits, 0));
     let seals = &store.array.bank.notes.seals;
     let mut end = row.at;
     for number in 0..row.commits.len().min(seals.len()) {

@@ -28,7 +28,9 @@ pub(crate) struct Notes {
     pub syncs: u64,
     /// Which devices were written since their last flush.
     written: [bool; 10],
-    /// Each call: what was done (0 to 2, a read, a write, a flush), the slot and the sector.
+    /// Whether each call is noted.
+    pub each: bool,
+    /// Each of them: what was done (0 to 2, a read, a write, a flush), the slot and the sector.
     pub calls: Vec<(u8, u8, u32)>,
     /// Whether a sector that is kept as one byte was written with more than one.
     pub mixed: bool,
@@ -45,18 +47,25 @@ impl Notes {
             to_bodies: 0,
             syncs: 0,
             written: [false; 10],
+            each: false,
             calls: Vec::new(rt.alloc()),
             mixed: false,
         }
     }
 
+    fn note_call(&mut self, kind: u8, dev: u8, at: u32) {
+        if self.each {
+            let _ = self.calls.push((kind, dev, at));
+        }
+    }
+
     fn count_read(&mut self, dev: u8, at: u32) {
         self.reads = self.reads.saturating_add(1);
-        let _ = self.calls.push((0, dev, at));
+        self.note_call(0, dev, at);
     }
 
     fn count_write(&mut self, call: u64, dev: u8, at: u32, from: &Sector) {
-        let _ = self.calls.push((1, dev, at));
+        self.note_call(1, dev, at);
         if dev < 10 {
             self.written[dev as usize] = true;
         }
@@ -71,7 +80,7 @@ impl Notes {
     }
 
     fn count_flush(&mut self, dev: u8) {
-        let _ = self.calls.push((2, dev, 0));
+        self.note_call(2, dev, 0);
         if dev < 10 && self.written[dev as usize] {
             self.written[dev as usize] = false;
             self.syncs = self.syncs.saturating_add(1);
@@ -103,8 +112,8 @@ fn pass<B: Bank>(bank: &mut B, dev: u8) -> Result<(), Down>
     bank.read(dev, 0, &mut held)
 }
 
-// The place of a device's sector in a list of all.
-fn place_of(size: u32, dev: u8, at: u32) -> usize {
+/// The place of a device's sector in a list of those of all, which have so many each.
+pub(crate) fn place_of(size: u32, dev: u8, at: u32) -> usize {
     let before = (size as usize).saturating_mul(dev as usize);
     before.saturating_add(at as usize)
 }

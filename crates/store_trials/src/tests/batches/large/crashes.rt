@@ -3,7 +3,7 @@
 use super::super::super::Step::Holds;
 use super::super::super::{NO_SLOT, again, unlike};
 use super::super::TestWaiting;
-use super::{Large, ROWS_2048, RUNS_58, Size, in_turn};
+use super::{Large, RUNS_58, Size, in_turn};
 use crate::testing::same;
 use sector_model::{Bank, Choice, MemBank};
 use std::process::Abort;
@@ -94,37 +94,40 @@ fn check_crashes(rt: &(impl Abort + AllocGlobal), size: Size, tried: &Tried) -> 
     images
 }
 
-// Of the commit's 414 calls the seals come after 292 to 296: 205 other even numbers.
+// Of the commit's 414 calls the seals come after 292 to 296: of 104 numbers that 4 divides 102 others.
 #[test]
-fn crashes_after_even_calls_of_58_runs(rt: HostRuntime) {
+fn crashes_after_each_fourth_call_of_58_runs(rt: HostRuntime) {
     let tried = Tried {
         first: 0,
-        step: 2,
+        step: 4,
         seals: true,
     };
-    same(&rt, check_crashes(&rt, RUNS_58, &tried), 205 + 5 * 6);
+    same(&rt, check_crashes(&rt, RUNS_58, &tried), 102 + 5 * 6);
 }
 
-#[test]
-fn crashes_after_odd_calls_of_58_runs(rt: HostRuntime) {
+// Checks the crashes after each fourth call from this one on. How many there were.
+fn check_each_fourth(rt: &(impl Abort + AllocGlobal), first: u64) -> u64 {
     let tried = Tried {
-        first: 1,
-        step: 2,
+        first,
+        step: 4,
         seals: false,
     };
-    same(&rt, check_crashes(&rt, RUNS_58, &tried), 207);
+    check_crashes(rt, RUNS_58, &tried)
 }
 
-// Of the commit's 14,345 calls the seals come after 10,242 to 10,246, between 1,087 times 9 and times 10; 1,087 times 13
-// is the last.
 #[test]
-fn crashes_in_a_batch_of_2048_rows(rt: HostRuntime) {
-    let tried = Tried {
-        first: 0,
-        step: 1_087,
-        seals: true,
-    };
-    same(&rt, check_crashes(&rt, ROWS_2048, &tried), 14 + 5 * 6);
+fn crashes_one_call_later_in_58_runs(rt: HostRuntime) {
+    same(&rt, check_each_fourth(&rt, 1), 104);
+}
+
+#[test]
+fn crashes_two_calls_later_in_58_runs(rt: HostRuntime) {
+    same(&rt, check_each_fourth(&rt, 2), 104);
+}
+
+#[test]
+fn crashes_three_calls_later_in_58_runs(rt: HostRuntime) {
+    same(&rt, check_each_fourth(&rt, 3), 103);
 }
 
 // A crash that is followed by another one in the assembly after it.
@@ -194,47 +197,26 @@ fn second_crashes_over_58_runs(rt: HostRuntime) {
             call: between,
             absent: NO_SLOT,
             calls: 19 + 116 + (116 + 3) + 118 + 25,
-            step: 3,
+            step: 9,
         },
         Twice {
             call: half,
             absent: NO_SLOT,
             calls: 19 + 116 + 118 + 25,
-            step: 3,
+            step: 9,
         },
         Twice {
             call: half,
             absent: 2,
             calls: 20 + 116 + 59 + 25,
-            step: 3,
+            step: 9,
         },
         Twice {
             call: half,
             absent: 3,
             calls: 18 + 116 + 118 + 25,
-            step: 3,
+            step: 9,
         },
     ];
-    same(&rt, check_twice(&rt, RUNS_58, &crashes), 133 + 93 + 74 + 93);
-}
-
-// The same with 4,096 sectors, of which member 0 has 1,280, and each other one 1,408.
-#[test]
-fn second_crashes_over_2048_rows(rt: HostRuntime) {
-    let (between, half) = (ROWS_2048.unsealed() + 2, ROWS_2048.sealed() + 1_281);
-    let crashes = [
-        Twice {
-            call: between,
-            absent: NO_SLOT,
-            calls: 19 + 4_096 + (4_096 + 3) + 4_099 + 25,
-            step: 1_217,
-        },
-        Twice {
-            call: half,
-            absent: 1,
-            calls: 20 + 4_096 + 1_281 + 1_409 + 25,
-            step: 1_217,
-        },
-    ];
-    same(&rt, check_twice(&rt, ROWS_2048, &crashes), 11 + 6);
+    same(&rt, check_twice(&rt, RUNS_58, &crashes), 45 + 31 + 25 + 31);
 }

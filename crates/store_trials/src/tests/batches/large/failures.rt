@@ -1,6 +1,6 @@
 //! Devices that go down in the commit of a large batch: it is done without one.
 use super::super::failures::{Failing, check_failing};
-use super::{Large, ROWS_2048, RUNS_58, Size, writes_of};
+use super::{Large, RUNS_58, Size, writes_of};
 use crate::testing::same;
 use std::process::Abort;
 
@@ -46,14 +46,8 @@ fn check_failures(rt: &(impl Abort + AllocGlobal), size: Size, step: u64) -> u64
     number
 }
 
-// From each third call of 414 on.
+// From each ninth call of 414 on.
 #[test]
 fn each_slot_down_in_a_batch_of_58_runs(rt: HostRuntime) {
-    same(&rt, check_failures(&rt, RUNS_58, 3), 139);
-}
-
-// From each 683rd call of 14,345 on, of which 683 times 21 is the last.
-#[test]
-fn each_slot_down_in_a_batch_of_2048_rows(rt: HostRuntime) {
-    same(&rt, check_failures(&rt, ROWS_2048, 683), 22);
+    same(&rt, check_failures(&rt, RUNS_58, 9), 47);
 }

@@ -106,8 +106,8 @@ struct Row<'a> {
 }
 
 // The lowest clean extents are taken before dirty ones, and new blocks in dirty ones alone are made zero: blocks 352 to
-// 399 are logical 64 to 111, three rows of a stripe of two sectors each; blocks 400 to 407 are one sector each of eight
-// rows, and blocks 408 to 427 the others of these, four rows of two and four of one.
+// 399 are logical 64 to 111, the 24 rows of three stripes, of which no body has a sector; blocks 400 to 407 are one
+// sector each of eight rows, and blocks 408 to 427 the others of these, four rows of two and four of one.
 const ROWS: &[Row] = &[
     Row {
         step: Makes(Create(b"a", 40), Done, ONE_COMMIT),
@@ -134,11 +134,7 @@ const ROWS: &[Row] = &[
         free: 25,
     },
     Row {
-        step: Makes(
-            Create(b"c", 400),
-            Done,
-            [2, (3 * 48 + 6 + 3) + (3 * 24 + 6 + 3) + TABLE, 3],
-        ),
+        step: Makes(Create(b"c", 400), Done, [2, (3 * 24 + 6 + 3) + TABLE, 2]),
         records: [(b'c', 400), (b'b', 36)],
         entries: &[(1, 22, true, 3), (2, 0, false, 3), (1, 0, false, 22)],
         free: 0,

@@ -191,7 +191,8 @@ fn check_twice(rt: &(impl Abort + AllocGlobal), size: Size, crashes: &[Twice]) -
 // member 1 is written, and member 2 is not.
 #[test]
 fn second_crashes_over_58_runs(rt: HostRuntime) {
-    let (between, half) = (RUNS_58.unsealed() + 2, RUNS_58.sealed() + 59);
+    let between = RUNS_58.unsealed().saturating_add(2);
+    let half = RUNS_58.sealed().saturating_add(59);
     let crashes = [
         Twice {
             call: between,

@@ -19,7 +19,7 @@ abbrev NotSpace : ℕ → Type 0
 NotSpace byte = byte ≢ 32
 
 -- digits are no spaces
-no_space-number : (field : List ℕ) (n : ℕ) → IsNumber field n → HasNoSpace field
+pub no_space-number : (field : List ℕ) (n : ℕ) → IsNumber field n → HasNoSpace field
 no_space-number field n h = All-weaker IsAsciiDigit NotSpace (λ digit is space. absurd (omega arith)) field h.digits
 
 space_is_no_digit : (byte : ℕ) → is_hex_digit byte ≡ true → byte ≢ 32
@@ -78,7 +78,7 @@ pub record HasFields (line : List ℕ) (c : Command) : Type 0 where
   pub are : AreFieldsOf c after
 
 -- a line that begins with this word
-with_fields : (keyword line : List ℕ) (fields : List (List ℕ)) → fields_of keyword ≡ keyword ∷ [] → All HasNoSpace fields
+pub with_fields : (keyword line : List ℕ) (fields : List (List ℕ)) → fields_of keyword ≡ keyword ∷ [] → All HasNoSpace fields
     → line ≡ keyword ++ spaced fields → fields_of line ≡ keyword ∷ fields
 with_fields keyword line fields alone hs h =
     ap fields_of h ∙ fields_of-spaced keyword fields (All-head HasNoSpace keyword [] (rw alone at (no_space-fields_of keyword))) hs
@@ -147,13 +147,13 @@ HasFields-from_Says line (Write name at blocks) h = record {
 }
 
 -- the second field of a line that is not empty
-second_is_field : (line keyword name : List ℕ) (after : List (List ℕ)) → fields_of line ≡ keyword ∷ name ∷ after → name ≢ [] → IsField name
+pub second_is_field : (line keyword name : List ℕ) (after : List (List ℕ)) → fields_of line ≡ keyword ∷ name ∷ after → name ≢ [] → IsField name
 second_is_field line keyword name after split some =
     let all : All HasNoSpace (keyword ∷ name ∷ after) = rw split at (no_space-fields_of line) in
     record { some = some; no_space = All-head HasNoSpace name after (All-tail HasNoSpace keyword (name ∷ after) all) }
 
 -- and the third one
-third_is_field : (line keyword first name : List ℕ) (after : List (List ℕ)) → fields_of line ≡ keyword ∷ first ∷ name ∷ after → name ≢ [] → IsField name
+pub third_is_field : (line keyword first name : List ℕ) (after : List (List ℕ)) → fields_of line ≡ keyword ∷ first ∷ name ∷ after → name ≢ [] → IsField name
 third_is_field line keyword first name after split some =
     let all : All HasNoSpace (keyword ∷ first ∷ name ∷ after) = rw split at (no_space-fields_of line) in
     record {
@@ -305,7 +305,7 @@ as_write (Read name at count) fields is are = absurd (omega arith)
 as_write (Write name at blocks) fields is are = (name, at, blocks, refl, are)
 
 -- the same number field is one number
-same_number : (fields : List (List ℕ)) (a b : List ℕ) (m n : ℕ) (after before : List (List ℕ)) → BeginsWithNumber fields a m after
+pub same_number : (fields : List (List ℕ)) (a b : List ℕ) (m n : ℕ) (after before : List (List ℕ)) → BeginsWithNumber fields a m after
     → BeginsWithNumber fields b n before
     → (a ≡ b) × (m ≡ n) × (after ≡ before)
 same_number fields a b m n after before ha hb =

@@ -5,7 +5,7 @@ use Rattle.std.proofs.lemmas.List.Elements.{All-head, All-tail, All-append, All-
 use Rattle.std.specs.Io.KnownBytes.{Consumes, Keeps, IsAtEnd}
 use Rattle.std.proofs.KnownBytes.{Consumes-nil, Consumes-trans, Consumes-kept}
 use Rattle.report.specs.Script.{lines_of, onto_first}
-use Rattle.report.specs.Lines.{GivesLine, HasNoLine, StopsInLine, ReadsPart, end_of}
+use Rattle.report.specs.Lines.{GivesLine, HasNoLine, ReadsUnended, ReadsWhole, StopsInLine, ReadsPart, end_of}
 use Rattle.report.specs.declared.lines.Met.{Met}
 use Rattle.report.specs.declared.lines.Met.TheVariants.{Nothing, LineEnd, ScriptEnd}
 use Rattle.report.specs.declared.lines.TheConstants.{LONGEST_LINE}
@@ -66,16 +66,20 @@ ReadsPart-trans old mid new met line half kept p q = record {
       ∙ ap (take (LONGEST_LINE + 1)) (append_assoc line p.part q.part);
 }
 
--- a whole line was read
-pub line_from_parts : (old new : Option (List ℕ)) (kept : List ℕ) → ReadsPart old new LineEnd [] kept → IfSome old (λ script. GivesLine script new kept)
-line_from_parts None new kept h = tt
-line_from_parts (Some script) None kept h = absurd h.consumed
-line_from_parts (Some script) (Some rest) kept h =
-    let split : script ≡ h.part ++ 10 ∷ rest = h.consumed ∙ append_assoc h.part (10 ∷ []) rest in
+-- a line and its end were read
+pub whole_from_parts : (old new : Option (List ℕ)) (kept : List ℕ) → ReadsPart old new LineEnd [] kept → ReadsWhole old new kept
+whole_from_parts old new kept h = record { line = h.part; unbroken = h.unbroken; consumed = h.consumed; first = h.first }
+
+-- a whole line is the next line
+pub line_from_whole : (old new : Option (List ℕ)) (kept : List ℕ) → ReadsWhole old new kept → IfSome old (λ script. GivesLine script new kept)
+line_from_whole None new kept h = tt
+line_from_whole (Some script) None kept h = absurd h.consumed
+line_from_whole (Some script) (Some rest) kept h =
+    let split : script ≡ h.line ++ 10 ∷ rest = h.consumed ∙ append_assoc h.line (10 ∷ []) rest in
     record {
-      line = h.part;
+      line = h.line;
       rest = rest;
-      next = record { unbroken = h.unbroken; ended = inl split; lines = ap lines_of split ∙ lines_of-line h.part rest h.unbroken };
+      next = record { unbroken = h.unbroken; ended = inl split; lines = ap lines_of split ∙ lines_of-line h.line rest h.unbroken };
       left = refl;
       first = h.first;
     }
@@ -91,22 +95,38 @@ end_from_parts None mid new line kept h end = tt
 end_from_parts (Some script) None new line kept h end = absurd h.consumed
 end_from_parts (Some script) (Some rest) new line kept h end = end
 
+-- the last part of a script was read
+pub read_to_end : (old mid new : Option (List ℕ)) (half kept : List ℕ) → ReadsPart old mid Nothing [] half → ReadsPart mid new ScriptEnd half kept
+    → OnSome mid (IsAtEnd new)
+    → ReadsPart old new ScriptEnd [] kept × OnSome old (IsAtEnd new)
+read_to_end old mid new half kept p q end = (ReadsPart-trans old mid new ScriptEnd [] half kept p q, end_from_parts old mid new [] half p end)
+
 -- what was read at the end of a script is all of it
 whole : (script : List ℕ) (new : Option (List ℕ)) (kept : List ℕ) (h : ReadsPart (Some script) new ScriptEnd [] kept) → IsAtEnd new → (new ≡ Some [])
     × (script ≡ h.part)
 whole script None kept h end = absurd h.consumed
 whole script (Some rest) kept h end = (ap Some end, h.consumed ∙ ap (λ l. (h.part ++ []) ++ l) end ∙ append-nil (h.part ++ []) ∙ append-nil h.part)
 
-last_line : (new : Option (List ℕ)) (line kept : List ℕ) → new ≡ Some [] → All (λ byte. byte ≢ 10) line → kept ≡ take (LONGEST_LINE + 1) line → 0 < length kept
-    → GivesLine line new kept
-last_line new [] kept left none first some = absurd (omega (arith, ap length first))
-last_line new (x ∷ xs) kept left none first some = record {
+some_byte : (line kept : List ℕ) → kept ≡ take (LONGEST_LINE + 1) line → 0 < length kept → line ≢ []
+some_byte [] kept first some = absurd (omega (arith, ap length first))
+some_byte (x ∷ xs) kept first some = λ e. cc
+
+-- what a script without an end of a line is, is its next line
+last_line : (script : List ℕ) (new : Option (List ℕ)) (kept : List ℕ) → ReadsUnended script new kept → GivesLine script new kept
+last_line [] new kept h = absurd (h.some refl)
+last_line (x ∷ xs) new kept h = record {
   line = x ∷ xs;
   rest = [];
-  next = record { unbroken = none; ended = inr (refl, λ e. cc, refl); lines = lines_of-last x xs none };
-  left = left;
-  first = first;
+  next = record { unbroken = h.unbroken; ended = inr (refl, h.some, refl); lines = lines_of-last x xs h.unbroken };
+  left = h.left;
+  first = h.first;
 }
+
+-- the last line has no end
+pub line_from_unended : (old new : Option (List ℕ)) (kept : List ℕ) → IfSome old (λ script. ReadsUnended script new kept)
+    → IfSome old (λ script. GivesLine script new kept)
+line_from_unended None new kept h = tt
+line_from_unended (Some script) new kept h = last_line script new kept h
 
 -- of a line with a byte some is kept, where there is room for one
 some_kept : (n x : ℕ) (xs kept : List ℕ) → kept ≡ take (suc n) (x ∷ xs) → length kept ≡ 0 → ⊥
@@ -116,13 +136,13 @@ no_line : (new : Option (List ℕ)) (line kept : List ℕ) → new ≡ Some [] �
 no_line new [] kept left first none = record { none = refl; left = left }
 no_line new (x ∷ xs) kept left first none = absurd (some_kept LONGEST_LINE x xs kept first none)
 
--- the last line has no end
-pub last_line_from_parts : (old new : Option (List ℕ)) (kept : List ℕ) → ReadsPart old new ScriptEnd [] kept → OnSome old (IsAtEnd new) → 0 < length kept
-    → IfSome old (λ script. GivesLine script new kept)
-last_line_from_parts None new kept h end some = tt
-last_line_from_parts (Some script) new kept h end some =
+-- what was read at the end of a script has no end of a line
+pub unended_from_parts : (old new : Option (List ℕ)) (kept : List ℕ) → ReadsPart old new ScriptEnd [] kept → OnSome old (IsAtEnd new) → 0 < length kept
+    → IfSome old (λ script. ReadsUnended script new kept)
+unended_from_parts None new kept h end some = tt
+unended_from_parts (Some script) new kept h end some =
     let all = whole script new kept h end in
-    subst (λ l. GivesLine l new kept) (sym all.1) (last_line new h.part kept all.0 h.unbroken h.first some)
+    rw all.1 (record { some = some_byte h.part kept h.first some; unbroken = h.unbroken; left = all.0; first = h.first })
 
 -- no line was left
 pub no_line_from_parts : (old new : Option (List ℕ)) (kept : List ℕ) → ReadsPart old new ScriptEnd [] kept → OnSome old (IsAtEnd new) → length kept ≡ 0

@@ -31,6 +31,12 @@ pub record BeginsWithNumber (fields : List (List ℕ)) (name : List ℕ) (n : �
   pub is_name : name ≢ []
   pub is_number : IsNumber number_field n
 
+-- these fields are a number alone
+pub record IsOneNumber (fields : List (List ℕ)) (n : ℕ) : Type 0 where
+  pub number_field : List ℕ
+  pub spelled : fields ≡ number_field ∷ []
+  pub is_number : IsNumber number_field n
+
 -- these fields begin with the names of two volumes
 pub record BeginsWithNames (fields : List (List ℕ)) (first second : List ℕ) (after : List (List ℕ)) : Type 0 where
   pub place : BeginsWithName fields first (second ∷ after)

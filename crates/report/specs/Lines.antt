@@ -13,6 +13,20 @@ pub record IsNextLine (script line rest : List ℕ) : Type 0 where
   pub ended : (script ≡ line ++ 10 ∷ rest) ⊎ ((script ≡ line) × (line ≢ []) × (rest ≡ []))
   pub lines : lines_of script ≡ line ∷ lines_of rest
 
+-- a line was read whole, with the byte 10 that ends it, and these are its first 65,536 bytes
+pub record ReadsWhole (old new : Option (List ℕ)) (kept : List ℕ) : Type 0 where
+  pub line : List ℕ
+  pub unbroken : All (λ byte. byte ≢ 10) line
+  pub consumed : Consumes old new (line ++ 10 ∷ [])
+  pub first : kept ≡ take (LONGEST_LINE + 1) line
+
+-- all of a script was read, in which no line ends, and these are its first 65,536 bytes
+pub record ReadsUnended (script : List ℕ) (remaining : Option (List ℕ)) (kept : List ℕ) : Type 0 where
+  pub some : script ≢ []
+  pub unbroken : All (λ byte. byte ≢ 10) script
+  pub left : remaining ≡ Some []
+  pub first : kept ≡ take (LONGEST_LINE + 1) script
+
 -- the next line of a script was read, of which these bytes are the first 65,536
 pub record GivesLine (script : List ℕ) (remaining : Option (List ℕ)) (kept : List ℕ) : Type 0 where
   pub line : List ℕ

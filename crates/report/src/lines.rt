@@ -2,7 +2,7 @@
 ghost use Rattle.std.specs.Prelude.{◌≡◌, ◌≢◌, ◌+◌, ◌<◌, ◌≤◌, [], ◌++◌, length, take, All, Ok, IfOk, IfErr, OnOk, OnErr};
 ghost use Rattle.std.specs.Prelude.{IfSome, OnSome, true, false, vec_len, vec_capacity};
 ghost use Rattle.std.specs.Io.KnownBytes.{Keeps, IsAtEnd};
-ghost use Rattle.report.specs.Lines.{GivesLine, HasNoLine, StopsInLine, ReadsPart, end_of};
+ghost use Rattle.report.specs.Lines.{GivesLine, HasNoLine, ReadsUnended, ReadsWhole, StopsInLine, ReadsPart, end_of};
 
 #[cfg(test)]
 mod tests;
@@ -25,12 +25,66 @@ enum Met {
     ScriptEnd,
 }
 
-/// Reads the next line into `line`, without its end. Of a line of more than `LONGEST_LINE` bytes it
-/// keeps the first `LONGEST_LINE + 1`, and drops the others as it reads them.
+/// What was read of a line.
+#[derive(Clone, Copy, Debug, PartialEq, Eq)]
+pub enum LineRead {
+    /// The line, and its end.
+    Whole,
+    /// Bytes that no end of a line follows: the input ended.
+    Unended,
+    /// Nothing: no byte was left.
+    Nothing,
+}
+
+/// Reads the next line into `line`, without its end, and says whether it had one. Of a line of more than
+/// `LONGEST_LINE` bytes it keeps the first `LONGEST_LINE + 1`, and drops the others as it reads them.
 ///
 /// `line` needs a capacity of `LONGEST_LINE + 1` bytes, so that nothing is allocated. It is cleared first.
-/// `Ok(false)` says that no byte was left, and so no line. The refusal is `Refusal::ReadFault`, where the
-/// reader fails: a part of the line may then be read, and no end of a line.
+/// The refusal is `Refusal::ReadFault`, where the reader fails: a part of the line may then be read, and no
+/// end of a line.
+pub fn read_line<R: BufRead, A: Allocator>(
+    reader: &mut R,
+    line: &mut Vec<u8, A>,
+) -> Result<LineRead, Refusal>
+    requires { LONGEST_LINE + 1 ≤ vec_capacity line.old }
+
+    // Where the reader's bytes are known.
+    ensures whole { result ≡ Ok LineRead.Whole
+        → ReadsWhole (R.remaining reader.old) (R.remaining reader.new) line.new.items }
+    ensures unended { result ≡ Ok LineRead.Unended
+        → IfSome (R.remaining reader.old) (λ script. ReadsUnended script (R.remaining reader.new) line.new.items) }
+    ensures none { result ≡ Ok LineRead.Nothing
+        → IfSome (R.remaining reader.old) (λ script. HasNoLine script (R.remaining reader.new)) }
+    ensures fault { OnErr result
+        (IfSome (R.remaining reader.old) (λ script. StopsInLine script (R.remaining reader.new))) }
+
+    // At any reader.
+    ensures kind { IfErr result (λ refusal. refusal ≡ Refusal.ReadFault) }
+    ensures held { vec_len line.new ≤ LONGEST_LINE + 1 }
+    ensures unbroken { OnOk result (All (λ byte. byte ≢ 10) line.new.items) }
+    ensures empty { result ≡ Ok LineRead.Nothing → line.new.items ≡ [] }
+    ensures capacity { LONGEST_LINE + 1 ≤ vec_capacity line.new }
+{
+    line.clear();
+    for _ in 0..u64::MAX {
+        match read_part(reader, line)? {
+            Met::Nothing => {}
+            Met::LineEnd => return Ok(LineRead::Whole),
+            Met::ScriptEnd => {
+                return if line.is_empty() {
+                    Ok(LineRead::Nothing)
+                } else {
+                    Ok(LineRead::Unended)
+                };
+            }
+        }
+    }
+    Err(Refusal::ReadFault)
+}
+
+/// Reads the next line as `read_line` does, and takes what the input ends with as a line too.
+///
+/// `Ok(false)` says that no byte was left, and so no line.
 pub fn next_line<R: BufRead, A: Allocator>(
     reader: &mut R,
     line: &mut Vec<u8, A>,
@@ -52,15 +106,10 @@ pub fn next_line<R: BufRead, A: Allocator>(
     ensures empty { result ≡ Ok false → line.new.items ≡ [] }
     ensures capacity { LONGEST_LINE + 1 ≤ vec_capacity line.new }
 {
-    line.clear();
-    for _ in 0..u64::MAX {
-        match read_part(reader, line)? {
-            Met::Nothing => {}
-            Met::LineEnd => return Ok(true),
-            Met::ScriptEnd => return Ok(!line.is_empty()),
-        }
+    match read_line(reader, line)? {
+        LineRead::Whole | LineRead::Unended => Ok(true),
+        LineRead::Nothing => Ok(false),
     }
-    Err(Refusal::ReadFault)
 }
 
 // Reads what the reader shows of a line, with the line's end if it is there.

@@ -3,7 +3,7 @@ ghost use Rattle.std.specs.Prelude.{◌≡◌, ℕ, List, [], IfSome, None};
 ghost use Rattle.volume_table.specs.Volumes.{Block};
 ghost use Rattle.volume_table.specs.VolumeStep.{Command, Create, Extend, Names, Read, Remove, Rename, Write};
 ghost use Rattle.report.specs.Fields.{AreReadFields, AreUnsized, AreWriteFields, BeginsWithName, BeginsWithNames};
-ghost use Rattle.report.specs.Fields.{BeginsWithNumber, fields_left};
+ghost use Rattle.report.specs.Fields.{fields_left};
 ghost use Rattle.report.specs.Grammar.{Says};
 ghost use Rattle.report.specs.Kept.{IsKept, IsSizedEvent, SaysOneCommand};
 
@@ -11,14 +11,15 @@ use sector_model::Sector;
 use volume_table::{Event, MOST_BLOCKS_AT_ONCE};
 
 mod block;
-mod fields;
+pub mod fields;
 mod keyword;
-mod number;
+pub mod number;
 
 use block::keep_blocks;
-use fields::Fields;
+use fields::{
+    Fields, name_and_number, name_and_two_numbers, next_number, no_field, one_name, two_names,
+};
 use keyword::Keyword;
-use number::number;
 
 /// The most blocks of a write that are kept: one more than a write may have, so that a longer one
 /// is still seen as too long.
@@ -49,14 +50,12 @@ pub fn a_line_says_one_command()
 {}
 
 // Reads what follows the word `list`: nothing.
-fn parse_list<'a>(mut fields: Fields<'a>) -> Option<Event<'a>>
+fn parse_list<'a>(fields: Fields<'a>) -> Option<Event<'a>>
     ensures said { IfSome result (λ event. (fields_left fields.entry ≡ []) × IsKept Names event) }
     ensures unsaid { result ≡ None → fields_left fields.entry ≡ [] → ⊥ }
 {
-    match fields.next() {
-        None => Some(Event::List),
-        Some(_) => None,
-    }
+    no_field(fields)?;
+    Some(Event::List)
 }
 
 // Reads what follows the word `create`.
@@ -64,7 +63,7 @@ fn parse_create<'a>(fields: Fields<'a>) -> Option<Event<'a>>
     ensures said { IfSome result (IsSizedEvent Create (fields_left fields.entry)) }
     ensures unsaid { result ≡ None → AreUnsized (fields_left fields.entry) }
 {
-    let (name, blocks) = parse_sized(fields)?;
+    let (name, blocks) = name_and_number(fields)?;
     Some(Event::Create { name, blocks })
 }
 
@@ -73,69 +72,43 @@ fn parse_extend<'a>(fields: Fields<'a>) -> Option<Event<'a>>
     ensures said { IfSome result (IsSizedEvent Extend (fields_left fields.entry)) }
     ensures unsaid { result ≡ None → AreUnsized (fields_left fields.entry) }
 {
-    let (name, by) = parse_sized(fields)?;
+    let (name, by) = name_and_number(fields)?;
     Some(Event::Extend { name, by })
 }
 
-// Reads what follows the words `create` and `extend`: a name and how many blocks.
-fn parse_sized<'a>(mut fields: Fields<'a>) -> Option<(&'a [u8], u32)>
-    ensures said { IfSome result (λ sized. BeginsWithNumber (fields_left fields.entry) sized.0.now sized.1 []) }
-    ensures unsaid { result ≡ None → AreUnsized (fields_left fields.entry) }
-{
-    let sized = next_number(&mut fields)?;
-    match fields.next() {
-        None => Some(sized),
-        Some(_) => None,
-    }
-}
-
 // Reads what follows the word `remove`: a name.
-fn parse_remove<'a>(mut fields: Fields<'a>) -> Option<Event<'a>>
+fn parse_remove<'a>(fields: Fields<'a>) -> Option<Event<'a>>
     ensures said { IfSome result (λ event. (name : List ℕ)
         × BeginsWithName (fields_left fields.entry) name []
         × IsKept (Remove name) event) }
     ensures unsaid { result ≡ None → (name : List ℕ) → BeginsWithName (fields_left fields.entry) name [] → ⊥ }
 {
-    let name = next_name(&mut fields)?;
-    match fields.next() {
-        None => Some(Event::Remove { name }),
-        Some(_) => None,
-    }
+    let name = one_name(fields)?;
+    Some(Event::Remove { name })
 }
 
 // Reads what follows the word `rename`: two names.
-fn parse_rename<'a>(mut fields: Fields<'a>) -> Option<Event<'a>>
+fn parse_rename<'a>(fields: Fields<'a>) -> Option<Event<'a>>
     ensures said { IfSome result (λ event. (first : List ℕ) × (second : List ℕ)
         × BeginsWithNames (fields_left fields.entry) first second []
         × IsKept (Rename first second) event) }
     ensures unsaid { result ≡ None → (first second : List ℕ)
         → BeginsWithNames (fields_left fields.entry) first second [] → ⊥ }
 {
-    let first = next_name(&mut fields)?;
-    let second = next_name(&mut fields)?;
-    match fields.next() {
-        None => Some(Event::Rename {
-            old: first,
-            new: second,
-        }),
-        Some(_) => None,
-    }
+    let (old, new) = two_names(fields)?;
+    Some(Event::Rename { old, new })
 }
 
 // Reads what follows the word `read`.
-fn parse_read<'a>(mut fields: Fields<'a>) -> Option<Event<'a>>
+fn parse_read<'a>(fields: Fields<'a>) -> Option<Event<'a>>
     ensures said { IfSome result (λ event. (name : List ℕ) × (at : ℕ) × (count : ℕ)
         × AreReadFields (fields_left fields.entry) name at count
         × IsKept (Read name at count) event) }
     ensures unsaid { result ≡ None → (name : List ℕ) → (at count : ℕ)
         → AreReadFields (fields_left fields.entry) name at count → ⊥ }
 {
-    let (name, at) = next_number(&mut fields)?;
-    let count = number(fields.next()?)?;
-    match fields.next() {
-        None => Some(Event::Read { name, at, count }),
-        Some(_) => None,
-    }
+    let (name, at, count) = name_and_two_numbers(fields)?;
+    Some(Event::Read { name, at, count })
 }
 
 // Reads what follows the word `write`.
@@ -156,31 +129,6 @@ fn parse_write<'a>(
         at,
         blocks: &blocks[..kept],
     })
-}
-
-// Takes the name of a volume and a number from the fields.
-fn next_number<'a>(fields: &mut Fields<'a>) -> Option<(&'a [u8], u32)>
-    ensures said { IfSome result (λ read. BeginsWithNumber (fields_left fields.old) read.0.now read.1
-        (fields_left fields.new)) }
-    ensures unsaid { result ≡ None → (name : List ℕ) → (n : ℕ) → (after : List (List ℕ))
-        → BeginsWithNumber (fields_left fields.old) name n after → ⊥ }
-{
-    let name = next_name(fields)?;
-    let n = number(fields.next()?)?;
-    Some((name, n))
-}
-
-// Takes the name of a volume from the fields.
-fn next_name<'a>(fields: &mut Fields<'a>) -> Option<&'a [u8]>
-    ensures said { IfSome result (λ name. BeginsWithName (fields_left fields.old) name.now (fields_left fields.new)) }
-    ensures unsaid { result ≡ None → (name : List ℕ) → (after : List (List ℕ))
-        → BeginsWithName (fields_left fields.old) name after → ⊥ }
-{
-    let name = fields.next()?;
-    if name.is_empty() {
-        return None;
-    }
-    Some(name)
 }
 
 #[cfg(test)]

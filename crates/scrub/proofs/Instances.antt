@@ -95,5 +95,5 @@ scrub_of_fresh honest n panel table image fresh =
 -- a set that lacks a slot is not scrubbed
 pub incomplete_is_refused : (honest : Type 0) (array : ArrayView) (slot : ℕ) → IsOut array.table slot → Scrubs honest
     array array (Err Incomplete)
-incomplete_is_refused honest array slot lacks = not_complete_is_refused honest array
+incomplete_is_refused honest array slot lacks = not_complete_is_refused honest (IsReport honest) array
     (λ complete. lacks.out (complete.in_sync slot lacks.of_set))

@@ -1,5 +1,5 @@
 -- What was read of the rows, or the failure among them, is a scrub.
-use Rattle.std.proofs.Common.{◌≡◌, ◌∙◌, ◌⊎◌, inl, inr, ℕ, ◌+◌, ◌<◌, Bool, true, false, refl, sym, subst}
+use Rattle.std.proofs.Common.{◌≡◌, ◌∙◌, ◌⊎◌, inl, inr, ℕ, ◌+◌, ◌*◌, ◌<◌, Bool, true, false, refl, sym, ap, subst}
 use Rattle.std.specs.Prelude.{IfOk, IfSome, Option, Some, None, Ok, Err, Result}
 use Rattle.std.proofs.lemmas.Result.{IfErr-at_err, IfOk-at_ok}
 use Rattle.sector_model.specs.declared.refusal.Refusal.{Refusal}
@@ -13,6 +13,7 @@ use Rattle.superblock.specs.declared.state.State.TheVariants.{InSync, Missing}
 use Rattle.superblock.specs.declared.table.Table.{Table}
 use Rattle.layout_map.specs.declared.geometry.Geometry.{Geometry}
 use Rattle.superblock.specs.NextTables.{IsComplete, slots_of}
+use Rattle.array_io.specs.Believed.Holds.{row_count}
 use Rattle.array_io.specs.Steps.CallSteps.{StepsOf}
 use Rattle.array_io.specs.Steps.ReadingOn.{Between, KeepsList}
 use Rattle.array_io.specs.Steps.Scanning.{HasScanned, ScansOrFailsSlot}
@@ -26,12 +27,13 @@ use Rattle.array_io.proofs.Reading.Scanning.{all_scanned, answer_of_read, failur
 use Rattle.array_io.proofs.Writes.Writable.{same_readable}
 use Rattle.scrub.specs.declared.report.ScrubReport.{ScrubReport}
 use Rattle.scrub.specs.Reports.{report_of, reported, told_by, were_read}
-use Rattle.scrub.specs.Scrubbing.{AreUnsound, IsNoScrub, IsReport, Report, Scrubs}
+use Rattle.scrub.specs.Scrubbing.{AreUnsoundIn, IsNoScrub, IsPartReport, IsReport, LooksAtRows, Report, Scrubs, ScrubsPart}
+use Rattle.scrub.proofs.Telling.{report_of_all}
 
 -- a set that is not complete is not scrubbed
-pub not_complete_is_refused : (honest : Type 0) (array : ArrayView) → ¬ IsComplete array.table → Scrubs honest array
-    array (Err Incomplete)
-not_complete_is_refused honest array lacks = record {
+pub not_complete_is_refused : (honest : Type 0) (IsTold : Table → Slots → Report → Type 0) (array : ArrayView)
+    → ¬ IsComplete array.table → LooksAtRows honest IsTold array array (Err Incomplete)
+not_complete_is_refused honest IsTold array lacks = record {
   goes_on = goes_on_at_rest array;
   number = refl;
   stays = stays_at_rest _ array _;
@@ -43,7 +45,7 @@ not_complete_is_refused honest array lacks = record {
   cause = λ refusal refused. IfErr-at_err (λ (r : Refusal). IsNoScrub array array r) refused lacks;
 }
 
-module _ (honest : Type 0) (number : ℕ) (table new_table : Table) (old_panel new_panel : Panel) (old new : History)
+module _ (honest : Type 0) (first count number : ℕ) (table new_table : Table) (old_panel new_panel : Panel) (old new : History)
     (true_old : honest → IsTrueTo old_panel old) (true_new : honest → IsTrueTo new_panel new)
     (its : HasItsSlots table old_panel) (complete : IsComplete table) where
   abbrev Was : ArrayView
@@ -62,20 +64,23 @@ module _ (honest : Type 0) (number : ℕ) (table new_table : Table) (old_panel n
       result true_old true_new its scans
 
   -- all rows were read
-  told_of_all : (report : Report) → (new_table ≡ table) × HasScanned honest old_panel new_panel old new → IsReport
-      honest table (readable old) report → IsReport honest new_table (readable new) report
-  told_of_all report (same, scanned) is = subst (λ (t : Table). IsReport honest t (readable new) report) (sym same)
+  told_of_all : (report : Report) → (new_table ≡ table) × HasScanned honest old_panel new_panel old new → IsPartReport
+      honest first count table (readable old) report → IsPartReport honest first count new_table (readable new) report
+  told_of_all report (same, scanned) is = subst (λ (t : Table). IsPartReport honest first count t (readable new) report) (sym same)
       record {
         rows = is.rows;
         rising = is.rising;
-        of_set = is.of_set;
-        tells = is.tells;
-        are = λ fair. subst (λ (i : Slots). AreUnsound table i is.rows)
+        of_part = is.of_part;
+        looked_at = is.looked_at;
+        bad = is.bad;
+        first_bad = is.first_bad;
+        are = λ fair. subst (λ (i : Slots). AreUnsoundIn table i first count is.rows)
             (sym (same_readable old new (scanned.reads fair) (scanned.stays fair))) (is.are fair);
       }
 
-  answered : (report : ScrubReport) → Scans (Ok true) → IsReport honest table (readable old) (report_of report)
-      → Scrubs honest Was Now (Ok (report_of report))
+  answered : (report : ScrubReport) → Scans (Ok true)
+      → IsPartReport honest first count table (readable old) (report_of report)
+      → ScrubsPart honest first count Was Now (Ok (report_of report))
   answered report scans is =
       let all = all_scanned honest table new_table old_panel new_panel old new scans refl in
       record {
@@ -84,7 +89,7 @@ module _ (honest : Type 0) (number : ℕ) (table new_table : Table) (old_panel n
         stays = (steps (Ok true) scans).stays;
         incomplete = λ lacking. absurd (lacking complete);
         complete = λ told answered. subst IsComplete (sym all.0) complete;
-        told = λ told answered. IfOk-at_ok (λ (r : Report). IsReport honest new_table (readable new) r) answered
+        told = λ told answered. IfOk-at_ok (λ (r : Report). IsPartReport honest first count new_table (readable new) r) answered
             (told_of_all (report_of report) all is);
         reads = λ fair same. reads_alone honest table new_table old_panel new_panel old new scans same fair;
         keeps = keeps_by_steps spellings honest number table new_table old_panel new_panel old new (Ok tt) true_old
@@ -93,7 +98,7 @@ module _ (honest : Type 0) (number : ℕ) (table new_table : Table) (old_panel n
       }
 
   -- a slot was marked missing
-  marked : Scans (Ok false) → Scrubs honest Was Now (Err Incomplete)
+  marked : Scans (Ok false) → ScrubsPart honest first count Was Now (Err Incomplete)
   marked scans = record {
     goes_on = (steps (Ok false) scans).goes_on;
     number = refl;
@@ -115,7 +120,7 @@ module _ (honest : Type 0) (number : ℕ) (table new_table : Table) (old_panel n
   by_cause refusal (inr worn) end = subst (IsNoScrub Was Now) (sym worn) (subst (IsEndOf Was Now ⊥) worn end)
 
   -- it ended
-  ended : (refusal : Refusal) → Scans (Err refusal) → Scrubs honest Was Now (Err refusal)
+  ended : (refusal : Refusal) → Scans (Err refusal) → ScrubsPart honest first count Was Now (Err refusal)
   ended refusal scans =
       let is = steps (Err refusal) scans in
       record {
@@ -135,17 +140,44 @@ module _ (honest : Type 0) (number : ℕ) (table new_table : Table) (old_panel n
 
   -- each of these is a scrub
   pub scrubs_by_rows : (result : Result (Option ScrubReport) Refusal) → Scans (were_read result)
-      → IfOk result (λ found. IfSome found (λ report. IsReport honest table (readable old) (report_of report)))
-      → Scrubs honest Was Now (told_by (reported result))
+      → IfOk result (λ found. IfSome found (λ report.
+      IsPartReport honest first count table (readable old) (report_of report)))
+      → ScrubsPart honest first count Was Now (told_by (reported result))
   scrubs_by_rows (Ok (Some report)) scans told = answered report scans told
   scrubs_by_rows (Ok None) scans told = marked scans
   scrubs_by_rows (Err refusal) scans told = ended refusal scans
 
+-- What is told may be said in other words.
+looks_as : (honest : Type 0) (IsTold IsSaid : Table → Slots → Report → Type 0) (old new : ArrayView)
+    (answer : Result Report Refusal)
+    → ((report : Report) → IsTold new.table (readable new.history) report → IsSaid new.table (readable new.history) report)
+    → LooksAtRows honest IsTold old new answer → LooksAtRows honest IsSaid old new answer
+looks_as honest IsTold IsSaid old new answer said is = record {
+  goes_on = is.goes_on;
+  number = is.number;
+  stays = is.stays;
+  incomplete = is.incomplete;
+  complete = is.complete;
+  told = λ report answered. said report (is.told report answered);
+  reads = is.reads;
+  keeps = is.keeps;
+  cause = is.cause;
+}
+
+-- the scrub of a part that has all rows is one of the set
+pub scrubs_all : (honest : Type 0) (old new : ArrayView) (answer : Result Report Refusal)
+    → ScrubsPart honest 0 (row_count old.table) old new answer → Scrubs honest old new answer
+scrubs_all honest old new answer is =
+    looks_as honest (IsPartReport honest 0 (row_count old.table)) (IsReport honest) old new answer
+    (λ report told. report_of_all honest new.table (readable new.history) report
+    (subst (λ (n : ℕ). IsPartReport honest 0 n new.table (readable new.history) report)
+    (ap (λ (g : Geometry). g.stripes * g.chunk) (sym is.goes_on.not_older.same_geometry)) told)) is
+
 -- A scrub that is answered only reads: of a complete set no slot was marked missing.
-pub only_read : (honest : Type 0) (old new : ArrayView) (answer : Result Report Refusal) (report : Report) → Scrubs
-    honest old new answer → answer ≡ Ok report → honest
-    → HasRead old.history new.history
-only_read honest old new answer report scrubs answered fair = elim scrubs.stays.table [
+pub only_read : (honest : Type 0) (IsTold : Table → Slots → Report → Type 0) (old new : ArrayView)
+    (answer : Result Report Refusal) (report : Report) → LooksAtRows honest IsTold old new answer
+    → answer ≡ Ok report → honest → HasRead old.history new.history
+only_read honest IsTold old new answer report scrubs answered fair = elim scrubs.stays.table [
   | inl same ↦ scrubs.reads fair same
   | inr lost ↦
       let gone = missing_then old.table new.table lost.slot lost.marked lost.of_set in

@@ -34,14 +34,13 @@ abbrev pub first_or : Option ℕ → ℕ → Option ℕ
 first_or None row = Some row
 first_or (Some first) row = Some first
 
--- the report with one row more
-abbrev pub counted : Report → (is_sound : Bool) → Report
-counted report true = record { rows = report.rows + 1; bad = report.bad; first_bad = report.first_bad }
-counted report false = record {
+-- the report with this row more
+abbrev pub counted : Report → (row : ℕ) → (is_sound : Bool) → Report
+counted report row true = record { rows = report.rows + 1; bad = report.bad; first_bad = report.first_bad }
+counted report row false = record {
   rows = report.rows + 1;
   bad = report.bad + 1;
-  first_bad = first_or report.first_bad
-      report.rows;
+  first_bad = first_or report.first_bad row;
 }
 
 -- whether all rows were read, or a slot was marked missing (`false`), or the scrub was refused
@@ -55,14 +54,16 @@ abbrev pub reported : Result (Option ScrubReport) Refusal → Result ScrubReport
 reported (Ok found) = ok_or found Incomplete
 reported (Err refusal) = Err refusal
 
--- It tells of some of the rows below one, each of them once, and on an honest bank of exactly those that are not sound.
-pub record TellsBelow (honest : Type 0) (table : Table) (image : Slots) (row : ℕ) (report : Report) : Type 0 where
+-- It tells of some of the rows from the first of a part up to one, each of them once, and on an honest bank of exactly
+-- those that are not sound.
+pub record TellsBelow (honest : Type 0) (table : Table) (image : Slots) (first row : ℕ) (report : Report) : Type 0 where
   pub rows : List ℕ
   pub rising : IsStrictlyIncreasing rows
-  pub below : (bad : ℕ) → Contains rows bad → bad < row
-  pub few : length rows ≤ row
-  pub inspected : report.rows ≡ row
+  pub between : (bad : ℕ) → Contains rows bad → (first ≤ bad) × (bad < row)
+  pub few : length rows ≤ report.rows
+  pub looked_at : first + report.rows ≡ row
   pub bad : report.bad ≡ length rows
   pub first_bad : report.first_bad ≡ slice_get rows 0
   pub unsound : honest → (bad : ℕ) → Contains rows bad → ¬ IsSoundRow (row_in table image bad)
-  pub all : honest → (other : ℕ) → other < row → Contains rows other ⊎ IsSoundRow (row_in table image other)
+  pub all : honest → (other : ℕ) → first ≤ other → other < row
+      → Contains rows other ⊎ IsSoundRow (row_in table image other)

@@ -7,7 +7,7 @@ ghost use Rattle.superblock.specs.NextTables.{IsComplete};
 ghost use Rattle.array_io.specs.Steps.Scanning.{ScansOrFailsSlot};
 ghost use Rattle.array_io.specs.Believed.Views.{HasItsSlots};
 ghost use Rattle.scrub.specs.Reports.{report_of, were_read};
-ghost use Rattle.scrub.specs.Scrubbing.{IsReport, row_in};
+ghost use Rattle.scrub.specs.Scrubbing.{IsPartReport, row_in};
 
 use crate::ScrubReport;
 use array_io::value_or_fail_slot;
@@ -15,11 +15,13 @@ use parity::{is_zero, xor_into};
 use sector_model::{Bank, Refusal, Sector};
 use superblock::Table;
 
-// Reads all rows of a complete set (its condition), and tells which are not sound; `None` where a device went down, and
-// its slot was marked missing.
+// Reads so many rows of a complete set (its condition), from `first` on and as far as it has them, and tells which are
+// not sound; `None` where a device went down, and its slot was marked missing.
 pub(crate) fn scrub_rows<B: Bank>(
     bank: &mut B,
     table: &mut Table,
+    first: u64,
+    rows: u64,
 ) -> Result<Option<ScrubReport>, Refusal>
     requires its_slots { HasItsSlots table.old (B.panel bank.old) }
     requires complete { IsComplete table.old }
@@ -28,15 +30,16 @@ pub(crate) fn scrub_rows<B: Bank>(
     ensures scans { ScansOrFailsSlot (B.honest bank.old) table.old table.new (B.panel bank.old) (B.panel bank.new)
         (B.history bank.old) (B.history bank.new) (were_read result) }
     ensures told { IfOk result (λ found. IfSome found (λ report.
-        IsReport (B.honest bank.old) table.old (readable (B.history bank.old)) (report_of report))) }
+        IsPartReport (B.honest bank.old) first rows table.old (readable (B.history bank.old)) (report_of report))) }
 {
     let mut report = ScrubReport::new();
     let mut sum = [0; 512];
-    for row in 0..table.geometry.rows() {
+    let count = rows.min(table.geometry.rows().saturating_sub(first));
+    for row in first..first + count {
         if !sum_row(bank, table, row, &mut sum)? {
             return Ok(None);
         }
-        report.count(is_zero(&sum));
+        report.count(row, is_zero(&sum));
     }
     Ok(Some(report))
 }

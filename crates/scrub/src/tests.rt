@@ -104,23 +104,28 @@ fn check_slots<B: Bank>(rt: &impl Abort, table: &Table, bank: &B)
     }
 }
 
-// Scrubs the rows, asks for the answer, for how many device calls and writes with flushes were made, and for the
-// table's generation then. Gives the table.
-fn check(rt: &impl Abort, bank: &mut MemBank, want: Answer, made: [u64; 3]) -> Table {
+// The first row of a part, and how many rows it is to have.
+type Part = (u64, u64);
+
+const ALL: Part = (0, 256);
+
+// Scrubs a part, asks for the answer, for how many device calls and writes with flushes were made, and for the table's
+// generation then. Gives the table.
+fn check(rt: &impl Abort, bank: &mut MemBank, part: Part, want: Answer, made: [u64; 3]) -> Table {
     let mut table = decode(&superblock()).expect(rt, "it is a superblock").table;
     let room = bank.room;
     check_slots(rt, &table, bank);
     assert!(rt; is_complete(&table));
-    let answer = scrub_rows(bank, &mut table);
+    let answer = scrub_rows(bank, &mut table, part.0, part.1);
     same(rt, answer, want);
     let writes = room.saturating_sub(bank.room) as u64;
     same(rt, [bank.now(), writes, table.generation], made);
     table
 }
 
-fn report(bad: u64, first_bad: Option<u64>) -> Answer {
+fn report(rows: u64, bad: u64, first_bad: Option<u64>) -> Answer {
     Ok(Some(ScrubReport {
-        rows: 256,
+        rows,
         bad,
         first_bad,
     }))
@@ -131,39 +136,102 @@ const READS: [u64; 3] = [3 * 256, 0, 1];
 
 #[test]
 fn fresh_rows_are_sound(rt: HostRuntime) {
-    check(&rt, &mut bank_of(&rt, &[], &[]), report(0, None), READS);
+    let mut bank = bank_of(&rt, &[], &[]);
+    check(&rt, &mut bank, ALL, report(256, 0, None), READS);
 }
 
 #[test]
 fn changed_parity_byte(rt: HostRuntime) {
     let mut bank = bank_of(&rt, &[(2, 5, 1)], &[]);
-    check(&rt, &mut bank, report(1, Some(5)), READS);
+    check(&rt, &mut bank, ALL, report(256, 1, Some(5)), READS);
 }
 
-// Two members that differ alike in a row leave it sound.
+// Rows 7, 200 and 255 are bad; two members that differ alike in a row, as in row 9, leave it sound.
+const BYTES: &[Byte] = &[
+    (0, 9, 0x33),
+    (1, 9, 0x33),
+    (1, 7, 0x80),
+    (0, 200, 0x0f),
+    (1, 200, 0xf0),
+    (2, 255, 0x01),
+];
+
 #[test]
 fn bad_rows_are_counted(rt: HostRuntime) {
-    const BYTES: &[Byte] = &[
-        (0, 9, 0x33),
-        (1, 9, 0x33),
-        (1, 7, 0x80),
-        (0, 200, 0x0f),
-        (1, 200, 0xf0),
-        (2, 255, 0x01),
-    ];
+    let mut bank = bank_of(&rt, BYTES, &[]);
+    check(&rt, &mut bank, ALL, report(256, 3, Some(7)), READS);
+}
+
+// 100, 100 and 56 rows are all 256, and their 1, 0 and 2 bad ones all 3.
+#[test]
+fn parts_add_up(rt: HostRuntime) {
+    let mut bank = bank_of(&rt, BYTES, &[]);
     check(
         &rt,
-        &mut bank_of(&rt, BYTES, &[]),
-        report(3, Some(7)),
-        READS,
+        &mut bank,
+        (0, 100),
+        report(100, 1, Some(7)),
+        [300, 0, 1],
     );
+    check(
+        &rt,
+        &mut bank,
+        (100, 100),
+        report(100, 0, None),
+        [600, 0, 1],
+    );
+    check(
+        &rt,
+        &mut bank,
+        (200, 56),
+        report(56, 2, Some(200)),
+        [768, 0, 1],
+    );
+}
+
+// The set has no row 256, and a part of no rows has none.
+#[test]
+fn part_past_the_end(rt: HostRuntime) {
+    let mut bank = bank_of(&rt, BYTES, &[]);
+    check(
+        &rt,
+        &mut bank,
+        (250, 10),
+        report(6, 1, Some(255)),
+        [18, 0, 1],
+    );
+    check(
+        &rt,
+        &mut bank,
+        (255, u64::MAX),
+        report(1, 1, Some(255)),
+        [21, 0, 1],
+    );
+    check(&rt, &mut bank, (256, 5), report(0, 0, None), [21, 0, 1]);
+    check(
+        &rt,
+        &mut bank,
+        (u64::MAX, u64::MAX),
+        report(0, 0, None),
+        [21, 0, 1],
+    );
+    check(&rt, &mut bank, (7, 0), report(0, 0, None), [21, 0, 1]);
+}
+
+// Member 1 goes down at the second row that is read: after a part of one row, and within the next one.
+#[test]
+fn member_fails_in_a_part(rt: HostRuntime) {
+    let mut bank = bank_of(&rt, BYTES, &[(1, 4)]);
+    check(&rt, &mut bank, (7, 1), report(1, 1, Some(7)), [3, 0, 1]);
+    let table = check(&rt, &mut bank, (100, 50), Ok(None), [5 + 8, 8, 2]);
+    same(&rt, table.states[1], State::Missing);
 }
 
 // Member 1 goes down at its read of row 1: its slot is marked missing on the four others.
 #[test]
 fn member_fails(rt: HostRuntime) {
     let mut bank = bank_of(&rt, &[(2, 0, 1)], &[(1, 4)]);
-    let table = check(&rt, &mut bank, Ok(None), [5 + 8, 8, 2]);
+    let table = check(&rt, &mut bank, ALL, Ok(None), [5 + 8, 8, 2]);
     same(&rt, table.states[1], State::Missing);
     same(&rt, table.states[2], State::InSync);
 }
@@ -172,7 +240,7 @@ fn member_fails(rt: HostRuntime) {
 #[test]
 fn second_member_fails(rt: HostRuntime) {
     let mut bank = bank_of(&rt, &[], &[(1, 4), (0, 5)]);
-    let table = check(&rt, &mut bank, Err(Refusal::TwoLost), [5 + 1, 0, 2]);
+    let table = check(&rt, &mut bank, ALL, Err(Refusal::TwoLost), [5 + 1, 0, 2]);
     same(&rt, table.states[1], State::Missing);
 }
 
@@ -180,5 +248,5 @@ fn second_member_fails(rt: HostRuntime) {
 #[test]
 fn journal_is_down(rt: HostRuntime) {
     let mut bank = bank_of(&rt, &[], &[(3, 0)]);
-    check(&rt, &mut bank, report(0, None), READS);
+    check(&rt, &mut bank, ALL, report(256, 0, None), READS);
 }

@@ -5,7 +5,6 @@ use Rattle.std.specs.List.{All, AllByRecursion}
 use Rattle.std.proofs.lemmas.List.Elements.{All-contains, All-from_recursion}
 use Rattle.sector_model.specs.declared.refusal.Refusal.{Refusal}
 use Rattle.sector_model.specs.declared.refusal.Refusal.TheVariants.{Incomplete, NotMissing, NothingToRebuild, NotUsable, TwoLost, Worn, WouldLose, WriteFault}
-use Rattle.array_io.specs.Believed.Holds.{row_count}
 use Rattle.array_io.specs.Believed.Views.{EndsIt}
 use Rattle.recovery.specs.Making.{BankView}
 use Rattle.rebuild.specs.Rebuilding.{Complete, Position}
@@ -13,7 +12,7 @@ use Rattle.volume_table.specs.SetReplies.{Devices, set_reply}
 use Rattle.volume_table.specs.Stands.{StoreView}
 use Rattle.volume_table.specs.StoreCalls.{Applies, EndsStore, GoesThrough, IsListed, refusals_of, set_of}
 use Rattle.volume_table.specs.VolumeStep.{Command, Create, Done, Event, Extend, Fail, Names, OnSet, OnVolumes, Progressed, Read, RebuildStep, Refused, Remove}
-use Rattle.volume_table.specs.VolumeStep.{Rename, Replace, Reply, Scrub, Scrubbed, SetCommand, Upgrade, Write, first_refusal, or_refused}
+use Rattle.volume_table.specs.VolumeStep.{Rename, Replace, Reply, Scrub, ScrubRows, Scrubbed, SetCommand, Upgrade, Write, first_refusal, or_refused}
 use Rattle.volume_table.proofs.RunChains.{applies_for}
 use Rattle.report.specs.Replies.{reply_text}
 use Rattle.set_commands.specs.Serving.{AppliesOn, FailsOn, IsEventEnd, IsOpened, IsOwnEnd, IsTellEnd, RefusesOn, ReplacesOn, ScrubsOn, UpgradesOn, event_text}
@@ -57,6 +56,8 @@ through_refused honest (OnSet (Replace slot)) refusal old new goes through = let
 through_refused honest (OnSet (RebuildStep rows)) refusal old new goes through = let left =
     through.set_left goes in step_refused _ _ refusal _ left.left.replied
 through_refused honest (OnSet Scrub) refusal old new goes through = let left = through.set_left goes in scrub_refused _ refusal _ _ _ left.left.replied
+through_refused honest (OnSet (ScrubRows first rows)) refusal old new goes through = let left =
+    through.set_left goes in scrub_refused _ refusal _ _ _ left.left.replied
 through_refused honest (OnVolumes command) refusal old new goes through = elim through.listed [
   | inl own ↦ own
   | inr ends ↦ absurd (goes ends)
@@ -90,6 +91,7 @@ own_uncut (OnSet (Replace slot)) refusal (inl own) is = cc
 own_uncut (OnSet (Replace slot)) refusal (inr own) is = cc
 own_uncut (OnSet (RebuildStep rows)) refusal own is = cc
 own_uncut (OnSet Scrub) refusal own is = cc
+own_uncut (OnSet (ScrubRows first rows)) refusal own is = cc
 
 -- ---- over a store that was opened on a bank
 

@@ -292,7 +292,7 @@ no_float_in : (format : Format) (status : Status) → has_float (object (members
 no_float_in One status = ap (λ (b : Bool). b || false) (slots_no_float status (status.members + 2))
 no_float_in Two status = ap (λ (b : Bool). b || false) (slots_no_float status (status.members + 2))
 
-no_float : (status : Status) → has_float (status_json status) ≡ false
+pub no_float : (status : Status) → has_float (status_json status) ≡ false
 no_float status = no_float_in status.format status
 
 -- the text of the value, and the newline after it

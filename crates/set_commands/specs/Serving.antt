@@ -18,7 +18,7 @@ use Rattle.volume_table.specs.declared.status.Status.{Status}
 use Rattle.volume_table.specs.Opening.{Opened, Opens, Returned}
 use Rattle.volume_table.specs.Stands.{StoreView}
 use Rattle.volume_table.specs.StoreCalls.{Applies, refusals_of}
-use Rattle.volume_table.specs.VolumeStep.{Event, Fail, OnSet, OnVolumes, Progressed, RebuildStep, Refused, Replace, Reply, Scrub, Scrubbed}
+use Rattle.volume_table.specs.VolumeStep.{Event, Fail, OnSet, OnVolumes, Progressed, RebuildStep, Refused, Replace, Reply, Scrub, ScrubRows, Scrubbed}
 use Rattle.volume_table.specs.StoreFunctions.{FailsSlot, ReplacesDevice, ScrubsSet, TellsStatus, UpgradesTable, status_view}
 use Rattle.report.specs.Replies.{progress_line, reply_text, scrub_line}
 use Rattle.report.specs.Report.{status_json, status_text}
@@ -171,6 +171,7 @@ IsOwnEnd (OnSet (Fail slot)) refusal = (refusal ≡ WouldLose) ⊎ (refusal ≡ 
 IsOwnEnd (OnSet (Replace slot)) refusal = (refusal ≡ NotMissing) ⊎ (refusal ≡ NotUsable)
 IsOwnEnd (OnSet (RebuildStep rows)) refusal = refusal ≡ NothingToRebuild
 IsOwnEnd (OnSet Scrub) refusal = refusal ≡ Incomplete
+IsOwnEnd (OnSet (ScrubRows first rows)) refusal = refusal ≡ Incomplete
 
 -- what an event on a bank can be refused with
 abbrev pub IsEventEnd : Event → Refusal → Type 0

@@ -12,8 +12,8 @@ pub use progress::{Left, Meter, ProgressBank, Speed, average_speed, in_words, pe
 pub use script::run_script;
 pub use serving::fresh::serve_fresh;
 pub use serving::{
-    Health, apply_on, examine_on, open_on, rebuild_on, rebuild_with_progress, scrub_with_progress,
-    serve_on, tell_on,
+    Health, apply_on, examine_on, open_on, rebuild_on, rebuild_rows, rebuild_with_progress,
+    scrub_with_progress, serve_on, tell_on,
 };
 
 #[cfg(test)]

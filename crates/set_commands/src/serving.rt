@@ -23,7 +23,7 @@ pub use applying::{apply_on, scrub_with_progress};
 pub use examining::examine_on;
 pub use health::Health;
 use health::assembled;
-pub use rebuilding::{most_rows, rebuild_on, rebuild_with_progress};
+pub use rebuilding::{most_rows, rebuild_on, rebuild_rows, rebuild_with_progress};
 use recovery::assemble;
 use report::replies::write_text;
 use report::{table_text, to_json};

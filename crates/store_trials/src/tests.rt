@@ -80,6 +80,8 @@ pub(crate) enum Call<'a> {
     Replace(u8),
     RebuildStep(u64),
     Scrub,
+    /// The first row, and how many.
+    ScrubRows(u64, u64),
     /// So many blocks from one on.
     Read(&'a [u8], u32, u32),
     List,

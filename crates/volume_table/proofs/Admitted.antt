@@ -22,12 +22,14 @@ use Rattle.extents.proofs.Tables.{some_within}
 use Rattle.volume_table.specs.Names.{is_good_name}
 use Rattle.extents.specs.Versions.{most_name_bytes, most_volumes}
 use Rattle.volume_table.specs.Volumes.{AreVolumes, Block, Volume, VolumeList, VolumeMap, blocks_of, need, with_volume, zero_block}
-use Rattle.volume_table.specs.VolumeStep.{Command, Create, Extend, Remove, Rename, blocks_in, changed, checks_within, first_refusal, has_no_volume}
+use Rattle.volume_table.specs.VolumeStep.{Command, Create, Extend, Remove, Rename, Write, blocks_in, changed, checks_within, first_refusal}
+use Rattle.volume_table.specs.VolumeStep.{has_no_volume}
 use Rattle.volume_table.specs.VolumeStep.{is_bad_count}
 use Rattle.volume_table.specs.VolumeStep.{is_bad_size, refusal_of, zero_blocks}
 use Rattle.volume_table.specs.Law.{HasLength}
 use Rattle.volume_table.specs.Shows.{used_records}
-use Rattle.volume_table.specs.Admission.{AreKept, HasBlocksAt, HasRecordAt, IsFirstUnused, IsGrownFrom, IsRenamedFrom, IsWithinVolume, MayGrowTo, MayRename, ShowsBy}
+use Rattle.volume_table.specs.Admission.{AreKept, HasBlocksAt, HasRecordAt, IsFirstUnused, IsGrownFrom, IsRenamedFrom, IsWithinVolume, MayGrowTo}
+use Rattle.volume_table.specs.Admission.{MayRename, ShowsBy}
 use Rattle.volume_table.specs.Zeroing.{checks_of_zero}
 use Rattle.extents.specs.declared.volume_table.Found.{Found}
 use Rattle.volume_table.proofs.CountLemmas.{records_are_counted}
@@ -148,6 +150,15 @@ within_admitted name long at count volumes has least most fits =
     ∙ cond-false (is_bad_count count) (Some BadCount) _ (count_is_good count least most)
     ∙ cond-false (nat_lt (length (blocks_in name volumes)) (at + count)) (Some OutOfRange) None inside
     )
+
+-- blocks of a volume are admitted for a write of them
+pub admitted_within : (extents : ExtentLayout) (table : VolumeTable) (name : List ℕ) (number at : ℕ) (blocks : List Block)
+    → ∥ IsWithinVolume table.records name number at (length blocks) ∥₁
+    → (logical : List Block) (volumes : VolumeMap) → ShowsBy extents table logical volumes → None ≡ refusal_of extents (Write name at blocks) volumes
+admitted_within extents table name number at blocks within logical volumes by = ∥∥₁_elim within (hlevel props) (λ it.
+    within_admitted name it.entry.blocks at (length blocks) volumes.volumes
+    (length_by extents table logical volumes name number it.entry.blocks by (record { entry = it.entry; used = it.used; named = it.named; as_long = refl }))
+    it.least it.most it.fits)
 
 -- ---- blocks that are to be made zero
 

@@ -37,7 +37,7 @@ use Rattle.volume_table.specs.SetReplies.{Devices, set_refusal, settled}
 use Rattle.volume_table.specs.Stands.{IsSettledAfter, IsSettledOn, StandsThroughout, StoreView}
 use Rattle.volume_table.specs.StoreCalls.{Applies, GivesUp, IncarnationsStay, lost_in, lost_unless, no_devices, set_of}
 use Rattle.volume_table.specs.StoreFunctions.{FailsSlot}
-use Rattle.volume_table.specs.VolumeStep.{Done, Fail, OnSet, Refused, Scrub}
+use Rattle.volume_table.specs.VolumeStep.{Done, Fail, OnSet, Refused}
 use Rattle.volume_table.specs.Volumes.{VolumeMap}
 use Rattle.volume_table.proofs.OnSet.{are_devices, devices_leave, none_ended, none_rebuilding, refused_differ, refused_on_set, set_left_by, settled_still}
 use Rattle.volume_table.proofs.OnSet.{stands_for, state_in, states_in}
@@ -130,9 +130,6 @@ others_if_none table slot none = others_in_sync table slot (complete_if (is_comp
 
 done_differs : (refusal : Refusal) → Done ≡ Refused refusal → ⊥
 done_differs refusal is = cc
-
-not_scrub : (slot : ℕ) → OnSet (Fail slot) ≡ OnSet Scrub → ⊥
-not_scrub slot is = cc
 
 pub fail_refused : (honest : Type 0) (slot : ℕ) (store : StoreView) (refusal : Refusal) → store.ended ≡ None → ¬ EndsIt refusal
     → set_refusal no_devices (Fail slot) (set_of store.array.table) ≡ Some refusal → Applies honest (OnSet (Fail slot)) store store (Refused refusal)
@@ -271,7 +268,7 @@ fail_done honest slot old new is goes failure = record {
     ends = λ other same ends. absurd (done_differs other same);
     goes = λ unended. goes;
     listed = tt;
-    scrubs = λ fair scrub. absurd (not_scrub slot scrub);
+    scrubs = λ fair scrub. absurd scrub;
     moments = moments honest slot old new (Ok tt) is;
     answered = λ fair unended. tt;
     settled = λ fair unended lost volumes settled.
@@ -307,7 +304,7 @@ fail_ended honest slot old new refusal is ended = record {
     ends = λ other same ends. subst (λ (r : Refusal). (new.ended ≡ Some r) × IsEndOf old.array new.array ⊥ r) (refused_differ refusal other same) (ended, end);
     goes = λ unended. absurd (unended it_ends);
     listed = tt;
-    scrubs = λ fair scrub. absurd (not_scrub slot scrub);
+    scrubs = λ fair scrub. absurd scrub;
     moments = moments honest slot old new (Err refusal) is;
     answered = λ fair unended. tt;
     settled = λ fair unended. absurd (unended it_ends);

@@ -1,18 +1,17 @@
 -- Sectors in which blocks of a volume lie, that one entry makes zero.
-use Rattle.std.proofs.Common.{◌≡◌, ◌≢◌, inl, inr, ℕ, ◌+◌, ◌-◌, ◌*◌, ◌/◌, ◌%◌, ◌<◌, ◌≤◌, List, [], length, Option, Err, refl, sym, ◌∙◌, ap, subst, arith}
+use Rattle.std.proofs.Common.{◌≡◌, inl, inr, ℕ, ◌+◌, ◌-◌, ◌*◌, ◌<◌, ◌≤◌, List, [], length, Option, sym, ◌∙◌, ap, subst, arith}
 use Rattle.std.specs.Prelude.{slice_index_or}
 use Rattle.std.specs.List.{range_with_len}
 use Rattle.std.proofs.lemmas.Bool.{cases_lt}
 use Rattle.std.proofs.lemmas.List.{get_or-map, get_or-replicate, length-map, length-replicate}
 use Rattle.std.proofs.lemmas.List.FromFn.{get_or-range_with_len, length-range_with_len}
 use Rattle.std.proofs.lemmas.Nat.{div-add-mod'}
-use Rattle.sector_model.specs.declared.refusal.Refusal.{Refusal}
 use Rattle.layout_map.specs.declared.geometry.Geometry.{Geometry}
 use Rattle.layout_map.specs.Placement.{data_sectors_of}
 use Rattle.superblock.specs.Cases.{Lost}
 use Rattle.parity.specs.Xor.{zero_sector}
 use Rattle.batch.specs.Places.{AreApart, Given, bytes_at, logical_at}
-use Rattle.batch.specs.Staging.{HasLogical, IsStaged, sector_at}
+use Rattle.batch.specs.Staging.{IsStaged, sector_at}
 use Rattle.batch.specs.ZeroSectors.{zeros_from}
 use Rattle.array_io.specs.Believed.ArrayCalls.{Answer, Commits, written}
 use Rattle.array_io.specs.Believed.Views.{ArrayView, RestsOn}
@@ -24,8 +23,8 @@ use Rattle.extents.specs.Owners.{IsAt}
 use Rattle.extents.specs.SetExtents.{extents_in}
 use Rattle.extents.proofs.Blocks.{sector_within}
 use Rattle.extents.proofs.OwnerLemmas.{owned_is_within}
-use Rattle.volume_table.specs.ListChanges.{Change, ChangesList, IsSameOr}
-use Rattle.volume_table.specs.StoreChanges.{AllPlaced, IsOfBlocks, IsWrittenAt}
+use Rattle.volume_table.specs.ListChanges.{Change, IsSameOr}
+use Rattle.volume_table.specs.StoreChanges.{AllPlaced, IsWrittenAt}
 use Rattle.volume_table.specs.Volumes.{Block, zero_block}
 use Rattle.volume_table.specs.VolumeStep.{zero_blocks}
 use Rattle.volume_table.specs.ZeroedRanges.{GathersBlocks, ZeroesTogether}

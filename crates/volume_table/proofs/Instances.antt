@@ -16,7 +16,8 @@ use Rattle.volume_table.specs.Shows.{records_need, used_records}
 use Rattle.volume_table.specs.ShowsLaw.{TablesHaveOneSpelling}
 use Rattle.volume_table.specs.StoreCalls.{Applies, EndsStore, extents_for_store}
 use Rattle.volume_table.specs.StoreFunctions.{Answer, Chain, CreatesVolume, EndsAtEvent, ExtendsVolume, FailsSlot, ListsVolumes, ReadsBlocks, RebuildsRows}
-use Rattle.volume_table.specs.StoreFunctions.{RemovesVolume, RenamesVolume, ReplacesDevice, RunsEvents, ScrubsSet, TellsStatus, UpgradesTable, WritesBlocks}
+use Rattle.volume_table.specs.StoreFunctions.{RemovesVolume, RenamesVolume, ReplacesDevice, RunsEvents, ScrubsRows}
+use Rattle.volume_table.specs.StoreFunctions.{ScrubsSet, TellsStatus, UpgradesTable, WritesBlocks}
 use Rattle.volume_table.specs.StoreFunctions.{none_done, then_done}
 use Rattle.volume_table.proofs.CountLemmas.{records_are_counted}
 use Rattle.volume_table.proofs.EndedStore.{run_stays_ended, stays_ended, tells_ended}
@@ -72,6 +73,10 @@ rebuild_of_ended honest rows store refusal kept = stays_ended honest _ store ref
 
 pub scrub_of_ended : (honest : Type 0) (store : StoreView) (refusal : Refusal) → store.ended ≡ Some refusal → ScrubsSet honest store store (Err refusal)
 scrub_of_ended honest store refusal kept = stays_ended honest _ store refusal kept
+
+pub part_of_ended : (honest : Type 0) (first rows : ℕ) (store : StoreView) (refusal : Refusal) → store.ended ≡ Some refusal
+    → ScrubsRows honest first rows store store (Err refusal)
+part_of_ended honest first rows store refusal kept = stays_ended honest _ store refusal kept
 
 pub status_of_ended : (store : StoreView) (refusal : Refusal) → store.ended ≡ Some refusal → TellsStatus store (Err refusal)
 status_of_ended store refusal kept = tells_ended store refusal kept

@@ -1,4 +1,5 @@
 pub mod Admitted
+pub mod AdmittedRanges
 pub mod Assembled
 pub mod CleanExtents
 pub mod CountLemmas
@@ -21,6 +22,7 @@ pub mod SingleFailure
 pub mod OpenInstances
 pub mod Opened
 pub mod OpenedStore
+pub mod PartOfRows
 pub mod PlacedBlocks
 pub mod PutTable
 pub mod ReadBlocks

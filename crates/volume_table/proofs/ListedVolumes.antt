@@ -181,7 +181,7 @@ list_is_refused honest store going = record {
     ends = λ refusal same ends. absurd (memory_stays refusal same ends);
     goes = λ unended. going;
     listed = inl (0, omega arith, refl);
-    scrubs = λ fair same. absurd (let no : ⊥ = cc in no);
+    scrubs = λ fair scrub. absurd scrub;
     moments = nothing.moments;
     answered = λ fair unended lost volumes settled. inr (record { listing = refl; refused = refl });
     settled = λ fair unended. nothing.settled fair (λ e. e);

@@ -28,8 +28,8 @@ use Rattle.scrub.specs.Scrubbing.{AreUnsound}
 use Rattle.volume_table.specs.SetReplies.{Devices, changed_set, set_answer, set_or_same, set_refusal, settled, with_faults}
 use Rattle.volume_table.specs.Shows.{Shows}
 use Rattle.volume_table.specs.Stands.{IsSettledAfter, IsSettledOn, StandsNow, StandsThroughout, StoreView}
-use Rattle.volume_table.specs.StoreCalls.{Applies, AreDevicesOf, EndsStore, GoesThrough, IncarnationsStay, IsCounterFull, SetIsLeft, lost_in, set_of}
-use Rattle.volume_table.specs.VolumeStep.{Names, OnSet, OnVolumes, Refused, Reply, Scrub, Scrubbed, SetCommand, Volumes, or_refused}
+use Rattle.volume_table.specs.StoreCalls.{Applies, AreDevicesOf, EndsStore, GoesThrough, IncarnationsStay, IsCounterFull, IsScrub, SetIsLeft, lost_in, set_of}
+use Rattle.volume_table.specs.VolumeStep.{Names, OnSet, OnVolumes, Refused, Reply, Scrubbed, SetCommand, Volumes, or_refused}
 use Rattle.volume_table.specs.Volumes.{VolumeMap}
 use Rattle.volume_table.proofs.OpenInstances.{array_goes_on, list_at_rest}
 use Rattle.volume_table.proofs.StoreSteps.{are_unsound, devices_in, generation_same, has_fault, incarnations_same, length-set_of, made, missing_is, no_position}
@@ -251,7 +251,7 @@ pub record ActsOnSet (honest : Type 0) (command : SetCommand) (A : Type 0) (old 
   pub left : ¬ HasEnded answer → SetIsLeft honest (OnSet command) old new reply
   pub cause : (refusal : Refusal) → answer ≡ Err refusal → EndsIt refusal
       → IsEndOf old.array new.array (IsCounterFull (OnSet command) old.array new.array) refusal
-  pub scrubs : honest → OnSet command ≡ OnSet Scrub → (rows bad : ℕ) (first_bad : Option ℕ)
+  pub scrubs : honest → IsScrub (OnSet command) → (rows bad : ℕ) (first_bad : Option ℕ)
       → reply ≡ Scrubbed rows bad first_bad
       → HasRead old.array.history new.array.history
 

@@ -23,7 +23,7 @@ use Rattle.volume_table.specs.SetReplies.{changed_set, rebuilt, set_answer, set_
 use Rattle.volume_table.specs.Stands.{StoreView}
 use Rattle.volume_table.specs.StoreCalls.{IsCounterFull, SetIsLeft, set_of}
 use Rattle.volume_table.specs.StoreFunctions.{RebuildsRows, progress_reply}
-use Rattle.volume_table.specs.VolumeStep.{OnSet, Progressed, RebuildStep, Refused, Scrub}
+use Rattle.volume_table.specs.VolumeStep.{OnSet, Progressed, RebuildStep, Refused}
 use Rattle.volume_table.proofs.OnSet.{ActsOnSet, KeepsRefusal, acts_on_set, are_devices, devices_leave, fault_is_missing, faults_keep, kept_if_done}
 use Rattle.volume_table.proofs.OnSet.{kept_if_refused, none_rebuilding, refused_replies, set_left_by, state_in, states_in}
 use Rattle.volume_table.proofs.RebuildCount.{set_rebuilds}
@@ -185,9 +185,6 @@ end_of : (old new : ArrayView) (rows : ℕ) (refusal : Refusal) → IsNoStep old
 end_of old new rows TwoLost cause ends = cause
 end_of old new rows Worn cause ends = cause
 end_of old new rows refusal cause ends = absurd ends
-
-step_is_no_scrub : {rows : ℕ} → OnSet (RebuildStep rows) ≡ OnSet Scrub → ⊥
-step_is_no_scrub is = cc
 
 progressed_differs : (progress : Progress) (refusal : Refusal) → Progressed progress ≡ Refused refusal → ⊥
 progressed_differs progress refusal same = cc
@@ -351,7 +348,7 @@ module _ (honest : Type 0) (rows : ℕ) (old new : StoreView) (answer : Result P
     spared = spared;
     left = left;
     cause = λ refusal refused ends. end_of old.array new.array rows refusal (is.steps.cause refusal refused) ends;
-    scrubs = λ fair scrub. absurd (step_is_no_scrub scrub);
+    scrubs = λ fair scrub. absurd scrub;
   }
 
 -- ---- by what the array's call did

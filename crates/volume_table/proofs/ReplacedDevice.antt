@@ -24,7 +24,7 @@ use Rattle.volume_table.specs.SetReplies.{Devices, SetState, joined, set_refusal
 use Rattle.volume_table.specs.Stands.{StoreView, store_of}
 use Rattle.volume_table.specs.StoreCalls.{IncarnationsStay, IsCounterFull, SetIsLeft, set_of}
 use Rattle.volume_table.specs.StoreFunctions.{ReplacesDevice, done_reply}
-use Rattle.volume_table.specs.VolumeStep.{Done, OnSet, Refused, Replace, Scrub}
+use Rattle.volume_table.specs.VolumeStep.{Done, OnSet, Refused, Replace}
 use Rattle.volume_table.proofs.OnSet.{ActsOnSet, KeepsRefusal, acts_on_set, are_devices, devices_leave, fault_is_down, is_fault, refused_on_set}
 use Rattle.volume_table.proofs.OnSet.{refused_replies, set_left_by, state_in, states_in}
 use Rattle.volume_table.proofs.StoreSteps.{devices_in, generation_same, has_fault, incarnations_same, length-set_of, made, same_slots, slot_spared, states_left}
@@ -294,9 +294,6 @@ left_refused honest slot old new refusal is cause goes = absurd cause
 
 -- ---- by what the array's call did
 
-replace_is_no_scrub : {slot : ℕ} → OnSet (Replace slot) ≡ OnSet Scrub → ⊥
-replace_is_no_scrub is = cc
-
 done_differs : (refusal : Refusal) → Done ≡ Refused refusal → ⊥
 done_differs refusal same = cc
 
@@ -314,7 +311,7 @@ replace_acts honest slot old new answer is table left = record {
   spared = spared honest slot old new answer is;
   left = left;
   cause = λ refusal refused ends. end_of old.array new.array slot refusal (is.replaces.cause refusal refused) ends;
-  scrubs = λ fair scrub. absurd (replace_is_no_scrub scrub);
+  scrubs = λ fair scrub. absurd scrub;
 }
 
 given_applies : (honest : Type 0) (slot : ℕ) (old new : StoreView) (answer : Answer)

@@ -19,7 +19,8 @@ use Rattle.array_io.specs.Believed.Views.{ArrayView, EndsIt}
 use Rattle.rebuild.specs.Rebuilding.{Complete, IsNotMissing, IsRebuilding, IsUnusable, Position}
 use Rattle.recovery.specs.Making.{BankView}
 use Rattle.volume_table.specs.Volumes.{VolumeMap}
-use Rattle.volume_table.specs.VolumeStep.{Command, Done, Event, Fail, OnSet, OnVolumes, Progressed, RebuildStep, Refused, Replace, Reply, Scrub, Scrubbed}
+use Rattle.volume_table.specs.VolumeStep.{Command, Done, Event, Fail, OnSet, OnVolumes, Progressed}
+use Rattle.volume_table.specs.VolumeStep.{RebuildStep, Refused, Replace, Reply, Scrub, ScrubRows, Scrubbed}
 use Rattle.volume_table.specs.VolumeStep.{SetCommand, first_refusal, left_by, or_refused, volumes_after}
 use Rattle.volume_table.specs.SetReplies.{Devices, set_answer, set_refusal, set_reply, with_faults}
 use Rattle.volume_table.specs.Stands.{IsSettledAfter, IsSettledOn, StoreView}
@@ -27,7 +28,8 @@ use Rattle.volume_table.specs.StoreCalls.{Applies, AreDevicesOf, GoesThrough, Is
 use Rattle.volume_table.specs.StoreCalls.{set_of}
 use Rattle.volume_table.specs.StoreFunctions.{Answer, DoesNothing, EndsAtEvent, RunEnds}
 use Rattle.volume_table.specs.Opening.{IsNoOpening, WasGivenUp}
-use Rattle.volume_table.specs.SafeLaw.{AnswersAlways, Asks, EndedStoresAnswerAlways, EventsAreRefusedForCause, IsOwnRefusal, IsSetRefused, OpenStoresGoOn}
+use Rattle.volume_table.specs.SafeLaw.{AnswersAlways, Asks, EndedStoresAnswerAlways, EventsAreRefusedForCause}
+use Rattle.volume_table.specs.SafeLaw.{IsOutOrDown, IsOwnRefusal, IsSetRefused, OpenStoresGoOn}
 use Rattle.volume_table.specs.SafeLaw.{OpeningIsRefusedForCause, RefusalsLeaveVolumes, RunsAreRefusedForCause, none_asked, then_asked}
 use Rattle.volume_table.proofs.EndedStore.{ends_or_not}
 use Rattle.volume_table.proofs.OnSet.{refused_differ, state_in}
@@ -189,22 +191,26 @@ some_out faults (state ∷ states) is = some_out_from faults state states is (λ
 no_report_is_refused : (rows bad : ℕ) (first_bad : Option ℕ) (refusal : Refusal) → Scrubbed rows bad first_bad ≡ Refused refusal → ⊥
 no_report_is_refused rows bad first_bad refusal is = cc
 
-scrub_refused : (honest : Type 0) (devices : Devices) (old new : ArrayView) (refusal : Refusal)
+-- whatever a scrub would have told
+scrub_refused : (honest : Type 0) (devices : Devices) (old new : ArrayView) (refusal : Refusal) (rows bad : ℕ) (first_bad : Option ℕ)
     → AreDevicesOf honest old.table old.panel new.panel new.history devices
-    → Refused refusal ≡ set_reply devices Scrub (set_of old.table) → IsSetRefused Scrub old new refusal
-scrub_refused honest devices old new refusal are is =
-    subst (λ (r : Refusal). IsSetRefused Scrub old new r) (sym refused.1) record {
-      slot = there.slot;
-      of_set = of_set;
-      out = elim there.out [
-        | inl other ↦ inl (λ in_sync. other (state_in old.table there.slot of_set ∙ in_sync))
-        | inr fault ↦ inr (are.is_down there.slot of_set fault)
-      ];
-    }
+    → Refused refusal ≡ or_refused (set_refusal devices Scrub (set_of old.table)) (Scrubbed rows bad first_bad)
+    → (refusal ≡ Incomplete) × IsOutOrDown old new
+scrub_refused honest devices old new refusal rows bad first_bad are is = (
+  refused.1,
+  record {
+    slot = there.slot;
+    of_set = of_set;
+    out = elim there.out [
+      | inl other ↦ inl (λ in_sync. other (state_in old.table there.slot of_set ∙ in_sync))
+      | inr fault ↦ inr (are.is_down there.slot of_set fault)
+    ];
+  },
+)
   where
     refused : (not (is_complete (with_faults devices.faults (set_of old.table).states)) ≡ true) × (refusal ≡ Incomplete)
     refused = by_one (not (is_complete (with_faults devices.faults (set_of old.table).states))) Incomplete refusal
-        (set_answer devices Scrub (set_of old.table)) (no_report_is_refused _ _ _ refusal) (sym is)
+        (Scrubbed rows bad first_bad) (no_report_is_refused rows bad first_bad refusal) (sym is)
 
     there : IsOutAt devices.faults (set_of old.table).states
     there = some_out devices.faults (set_of old.table).states (not_true (is_complete (with_faults devices.faults (set_of old.table).states)) refused.0)
@@ -219,7 +225,12 @@ set_refused : (honest : Type 0) (command : SetCommand) (old new : StoreView) (re
 set_refused honest (Fail slot) old new refusal is = fail_refused is.devices slot old.array new.array refusal is.left.replied
 set_refused honest (Replace slot) old new refusal is = replace_refused honest is.devices slot old.array new.array refusal is.are is.left.replied
 set_refused honest (RebuildStep rows) old new refusal is = step_refused honest is.devices rows old.array new.array refusal is.are is.left.replied
-set_refused honest Scrub old new refusal is = scrub_refused honest is.devices old.array new.array refusal is.are is.left.replied
+set_refused honest Scrub old new refusal is =
+    let why = scrub_refused honest is.devices old.array new.array refusal _ _ _ is.are is.left.replied in
+    subst (λ (r : Refusal). IsSetRefused Scrub old.array new.array r) (sym why.0) why.1
+set_refused honest (ScrubRows first rows) old new refusal is =
+    let why = scrub_refused honest is.devices old.array new.array refusal _ _ _ is.are is.left.replied in
+    subst (λ (r : Refusal). IsSetRefused (ScrubRows first rows) old.array new.array r) (sym why.0) why.1
 
 own_refusal : (honest : Type 0) (event : Event) (old new : StoreView) (refusal : Refusal) → ¬ EndsIt refusal
     → GoesThrough honest event old new (Refused refusal)
@@ -277,6 +288,7 @@ lost_stays honest (OnSet (Fail slot)) old new refusal lost is =
 lost_stays honest (OnSet (Replace slot)) old new refusal lost is = refl
 lost_stays honest (OnSet (RebuildStep rows)) old new refusal lost is = refl
 lost_stays honest (OnSet Scrub) old new refusal lost is = refl
+lost_stays honest (OnSet (ScrubRows first rows)) old new refusal lost is = refl
 
 pub refusals_leave_volumes : RefusalsLeaveVolumes
 refusals_leave_volumes event old new reply refusal applies is goes lost volumes settled =

@@ -25,7 +25,7 @@ use Rattle.array_io.specs.Believed.Views.{ArrayView, RestsOn}
 use Rattle.recovery.specs.Making as recovery
 use Rattle.recovery.specs.Making.{IsQuietBeyond, Makes}
 use Rattle.volume_table.specs.Volumes.{VolumeMap, no_volumes}
-use Rattle.volume_table.specs.VolumeStep.{Command, Event, Fail, OnSet, OnVolumes, RebuildStep, Replace, Reply, Scrub, after, left_by, volumes_after}
+use Rattle.volume_table.specs.VolumeStep.{Command, Event, Fail, OnSet, OnVolumes, RebuildStep, Replace, Reply, Scrub, ScrubRows, after, left_by, volumes_after}
 use Rattle.volume_table.specs.Shows.{Shows}
 use Rattle.volume_table.specs.Stands.{StandsNow, StandsThroughout, StoreView}
 use Rattle.volume_table.specs.StoreCalls.{GoesThrough, lost_in}
@@ -41,7 +41,7 @@ use Rattle.volume_table.proofs.SingleFailure.{commit_not_two, not_two, opening_n
 use Rattle.volume_table.proofs.FreshLemmas.{fresh_set_shows_none}
 use Rattle.volume_table.proofs.Opened.{IsSafeArray, IsSafeStore, holds_readable, rests_on, stands_at_rest, store_after}
 use Rattle.volume_table.proofs.SafeWorlds.{IsSafe, begins_safe, goes_over, same_slots, crashes_safe}
-use Rattle.volume_table.proofs.Scrubbed.{scrub_finds_none}
+use Rattle.volume_table.proofs.Scrubbed.{part_finds_none, scrub_finds_none}
 use Rattle.extents.specs.declared.extent_layout.ExtentLayout.{ExtentLayout}
 use Rattle.extents.specs.SetExtents.{extents_in}
 
@@ -86,6 +86,12 @@ right_answer made devices (OnSet Scrub) reply old new volumes safe done = λ com
     scrub_finds_none old.store.array.table new.store.array.table (readable new.store.array.history) set.devices reply goes.goes_on.not_older.same_geometry
     set.are.rows set.left (set.are.unsound tt)
     complete (safe_after made devices (OnSet Scrub) reply old new volumes safe done).settled.rests.sound
+right_answer made devices (OnSet (ScrubRows first rows)) reply old new volumes safe done = λ complete.
+    let goes = goes_through made devices (slots_of made) (OnSet (ScrubRows first rows)) reply old new volumes safe done in
+    let set = goes.set_left done.goes in
+    part_finds_none first rows old.store.array.table new.store.array.table (readable new.store.array.history) set.devices reply
+    goes.goes_on.not_older.same_geometry set.are.rows set.left (set.are.unsound tt)
+    complete (safe_after made devices (OnSet (ScrubRows first rows)) reply old new volumes safe done).settled.rests.sound
 
 -- a store is safe after writes that were committed together
 safe_committed : (made : Table) (devices : ℕ) (writes : List Command) (old new : Serving) (volumes : VolumeMap) → IsSafeStore made devices old volumes

@@ -18,11 +18,11 @@ use Rattle.degraded.proofs.Others.{map-range}
 use Rattle.array_io.specs.Believed.Holds.{row_count}
 use Rattle.array_io.specs.Believed.Settled.{rows_by}
 use Rattle.array_io.proofs.Reading.Scanning.{own_value}
-use Rattle.scrub.specs.Scrubbing.{AreUnsound, row_in}
+use Rattle.scrub.specs.Scrubbing.{AreUnsound, row_in, rows_in_part}
 use Rattle.sector_model.specs.declared.refusal.Refusal.{Refusal}
 use Rattle.sector_model.specs.declared.refusal.Refusal.TheVariants.{Incomplete}
-use Rattle.volume_table.specs.VolumeStep.{Reply, Scrub, Scrubbed, or_refused}
-use Rattle.volume_table.specs.SetReplies.{AnswersSet, Devices, SetState, set_or_same, set_refusal, with_faults}
+use Rattle.volume_table.specs.VolumeStep.{OnSet, Reply, Scrub, ScrubRows, Scrubbed, or_refused}
+use Rattle.volume_table.specs.SetReplies.{AnswersSet, Devices, SetState, rows_within, set_after, set_or_same, set_refusal, with_faults}
 use Rattle.volume_table.specs.StoreCalls.{set_of}
 use Rattle.layout_map.specs.declared.sizes.TheConstants.{FIRST_ROW}
 
@@ -62,22 +62,35 @@ same_set : (refusal : Option Refusal) (set : SetState) → set_or_same refusal s
 same_set None set = refl
 same_set (Some refusal) set = refl
 
--- where the set is complete at the return, a scrub was answered
-scrubbed : (devices : Devices) (before left : SetState) (reply : Reply) → AnswersSet devices Scrub before reply left → is_complete left.states ≡ true
-    → reply ≡ Scrubbed devices.rows (length devices.unsound) (slice_get devices.unsound 0)
-scrubbed devices before left reply answers complete =
-    answers.replied ∙ ap (λ (b : Bool). or_refused (cond (not b) (Some Incomplete) None)
-    (Scrubbed devices.rows (length devices.unsound) (slice_get devices.unsound 0))) whole
+-- where the set is complete at the return, a scrub was answered, whatever it told
+scrubbed : (devices : Devices) (before left : SetState) (reply told : Reply) → reply ≡ or_refused (set_refusal devices Scrub before) told
+    → left ≡ set_after devices (OnSet Scrub) before → is_complete left.states ≡ true → reply ≡ told
+scrubbed devices before left reply told replied leaves complete =
+    replied ∙ ap (λ (b : Bool). or_refused (cond (not b) (Some Incomplete) None) told) whole
   where
     whole : is_complete (with_faults devices.faults before.states) ≡ true
     whole = sym (ap (λ (set : SetState). is_complete (with_faults devices.faults set.states)) (same_set (set_refusal devices Scrub before) before))
-        ∙ sym (ap (λ (set : SetState). is_complete set.states) answers.leaves) ∙ complete
+        ∙ sym (ap (λ (set : SetState). is_complete set.states) leaves) ∙ complete
 
 -- A scrub of a set that is then complete and sound finds nothing in all of its rows.
 pub scrub_finds_none : (old new : Table) (image : Slots) (devices : Devices) (reply : Reply) → new.geometry ≡ old.geometry → devices.rows ≡ row_count old
     → AnswersSet devices Scrub (set_of old) reply (set_of new) → AreUnsound old image devices.unsound
     → IsComplete new → AreSound (rows_by new image) (row_count new) → reply ≡ Scrubbed (row_count new) 0 None
 scrub_finds_none old new image devices reply same all answers are complete sound =
-    scrubbed devices (set_of old) (set_of new) reply answers (complete_states new complete)
+    scrubbed devices (set_of old) (set_of new) reply (Scrubbed devices.rows (length devices.unsound) (slice_get devices.unsound 0)) answers.replied
+    answers.leaves (complete_states new complete)
     ∙ ap (λ (rows : List ℕ). Scrubbed devices.rows (length rows) (slice_get rows 0)) (none_unsound new old image devices.unsound (sym same) complete sound are)
     ∙ ap (λ (count : ℕ). Scrubbed count 0 None) (all ∙ ap (λ (g : Geometry). g.stripes * g.chunk) (sym same))
+
+-- Nor does a scrub of a part of it in that part.
+pub part_finds_none : (first count : ℕ) (old new : Table) (image : Slots) (devices : Devices) (reply : Reply) → new.geometry ≡ old.geometry
+    → devices.rows ≡ row_count old
+    → AnswersSet devices (ScrubRows first count) (set_of old) reply (set_of new) → AreUnsound old image devices.unsound
+    → IsComplete new → AreSound (rows_by new image) (row_count new) → reply ≡ Scrubbed (rows_in_part (row_count new) first count) 0 None
+part_finds_none first count old new image devices reply same all answers are complete sound =
+    scrubbed devices (set_of old) (set_of new) reply (told devices.unsound) answers.replied answers.leaves (complete_states new complete)
+    ∙ ap told (none_unsound new old image devices.unsound (sym same) complete sound are)
+    ∙ ap (λ (rows : ℕ). Scrubbed (rows_in_part rows first count) 0 None) (all ∙ ap (λ (g : Geometry). g.stripes * g.chunk) (sym same))
+  where
+    told : List ℕ → Reply
+    told rows = Scrubbed (rows_in_part devices.rows first count) (length (rows_within first count rows)) (slice_get (rows_within first count rows) 0)

@@ -10,7 +10,7 @@ use Rattle.superblock.specs.declared.state.State.TheVariants.{Missing, InSync, R
 use Rattle.superblock.specs.declared.table.Table.{Table}
 use Rattle.superblock.specs.NextTables.{slots_of}
 use Rattle.volume_table.specs.StoreCalls.{set_of}
-use Rattle.volume_table.specs.VolumeStep.{Command, SetCommand, Fail, Replace, RebuildStep, Scrub, Event, OnVolumes, OnSet, Done, Refused, Progressed}
+use Rattle.volume_table.specs.VolumeStep.{Command, SetCommand, Fail, Replace, RebuildStep, Scrub, ScrubRows, Event, OnVolumes, OnSet, Done, Refused, Progressed}
 use Rattle.volume_table.specs.VolumeStep.{first_refusal, or_refused}
 use Rattle.layout_map.specs.declared.format.Format.{Format}
 use Rattle.layout_map.specs.Formats.{rebuild_rows}
@@ -66,6 +66,7 @@ slots_of_changed devices (RebuildStep rows) was = by_case (position_after device
     by_case true = length-rebuilt was.states
     by_case false = refl
 slots_of_changed devices Scrub was = refl
+slots_of_changed devices (ScrubRows first rows) was = refl
 
 -- the set before faults are counted
 unsettled : Devices → Event → SetState → SetState
@@ -132,6 +133,7 @@ no_refusal_answered devices (Replace slot) was refusal e = absurd (grind arith)
 no_refusal_answered devices (RebuildStep rows) was refusal e =
     step_answer_is_none (position_after devices rows was.position == devices.rows) (position_after devices rows was.position) refusal e
 no_refusal_answered devices Scrub was refusal e = absurd (grind arith)
+no_refusal_answered devices (ScrubRows first rows) was refusal e = absurd (grind arith)
 
 pub refused_leaves_set : (devices : Devices) (command : SetCommand) (was : SetState) (refusal : Refusal) → NoFaults devices was → IsZeroUnlessRebuilding was
     → set_reply devices command was ≡ Refused refusal
@@ -333,6 +335,7 @@ call_leaves devices event was one_out rebuilding goes_on more = by_case event go
         ap (λ n. set_after devices (OnSet (RebuildStep n)) was) (lets.whole rows refl)
         ∙ (step_goes_on devices was lets.no_faults rebuilding (omega (arith, few, one))).0 ∙ ap (made was.states) one
     by_case (OnSet Scrub) lets few = scrub_leaves devices was lets.no_faults zero_else ∙ same
+    by_case (OnSet (ScrubRows first rows)) lets few = scrub_leaves devices was lets.no_faults zero_else ∙ same
 
 -- the same, where the set's format and rows are those of other devices
 call_leaves_by : (devices : Devices) (call : Call) (was : SetState) → IsOneOut was.states → has_rebuilding was.states ≡ true

@@ -25,7 +25,7 @@ use Rattle.array_io.specs.Believed.Views.{ArrayView, IsSlotOut, IsTwoLost, Stays
 use Rattle.array_io.proofs.Laws.Beginning.{state_in_sync}
 use Rattle.array_io.specs.Believed.ArrayCalls.{Answer}
 use Rattle.volume_table.specs.Staging.{CommitsWrites}
-use Rattle.volume_table.specs.VolumeStep.{Command, Event, Fail, OnSet, OnVolumes, RebuildStep, Refused, Replace, Reply, Scrub}
+use Rattle.volume_table.specs.VolumeStep.{Command, Event, Fail, OnSet, OnVolumes, RebuildStep, Refused, Replace, Reply, Scrub, ScrubRows}
 use Rattle.volume_table.specs.SetReplies.{set_refusal}
 use Rattle.volume_table.specs.Stands.{StoreView}
 use Rattle.volume_table.specs.StoreCalls.{GivesUp, GoesThrough, lost_in, lost_unless, no_devices, set_of}
@@ -49,6 +49,7 @@ in_some (OnSet (Fail slot)) table lost = unless_some (set_refusal no_devices (Fa
 in_some (OnSet (Replace slot)) table lost = refl
 in_some (OnSet (RebuildStep rows)) table lost = refl
 in_some (OnSet Scrub) table lost = refl
+in_some (OnSet (ScrubRows first rows)) table lost = refl
 
 still_lost : (event : Event) (table : Table) (lost : Option Lost) (slot : ℕ) → IsOfLost lost slot → IsOfLost (lost_in event table lost) slot
 still_lost event table None slot is = absurd is
@@ -122,6 +123,7 @@ given_up (OnVolumes command) table lost slot is gives = absurd gives
 given_up (OnSet (Replace other)) table lost slot is gives = absurd gives
 given_up (OnSet (RebuildStep rows)) table lost slot is gives = absurd gives
 given_up (OnSet Scrub) table lost slot is gives = absurd gives
+given_up (OnSet (ScrubRows first rows)) table lost slot is gives = absurd gives
 given_up (OnSet (Fail other)) table lost slot is gives =
     subst (λ (r : Option Refusal). IsOfLost (lost_unless r lost other) slot) (sym gives.1) (from lost is)
   where
@@ -137,6 +139,7 @@ gives_or_not (OnVolumes command) table slot = inr (λ gives. gives)
 gives_or_not (OnSet (Replace other)) table slot = inr (λ gives. gives)
 gives_or_not (OnSet (RebuildStep rows)) table slot = inr (λ gives. gives)
 gives_or_not (OnSet Scrub) table slot = inr (λ gives. gives)
+gives_or_not (OnSet (ScrubRows first rows)) table slot = inr (λ gives. gives)
 gives_or_not (OnSet (Fail other)) table slot = elim (cases_eq slot other) [
   | inl is ↦ by_refusal is (set_refusal no_devices (Fail other) (set_of table)) refl
   | inr apart ↦ inr (λ gives. apart gives.0)

@@ -38,7 +38,7 @@ use Rattle.extents.proofs.TableLaws.{one_table}
 use Rattle.scrub.specs.Scrubbing.{AreUnsound, row_in}
 use Rattle.volume_table.specs.Names.{is_same_name}
 use Rattle.volume_table.specs.Volumes.{Block, VolumeMap}
-use Rattle.volume_table.specs.VolumeStep.{Command, Create, Done, Event, Extend, HasBlocks, Names, OnSet, OnVolumes, Read, Refused, Remove, Rename, Reply, Scrub}
+use Rattle.volume_table.specs.VolumeStep.{Command, Create, Done, Event, Extend, HasBlocks, Names, OnVolumes, Read, Refused, Remove, Rename, Reply}
 use Rattle.volume_table.specs.VolumeStep.{Upgrade, Write, answer, done, or_refused, refusal_of, unless_refused, volumes_after}
 use Rattle.volume_table.specs.SetReplies.{Devices, SetState, settled, with_faults}
 use Rattle.volume_table.specs.Shows.{Shows}
@@ -70,7 +70,7 @@ is_sound table image row is = same_name_is (xor_of_all (row_in table image row))
     (not-false (is_same_name (xor_of_all (row_in table image row)) zero_sector) is)
 
 -- what passes a test is kept
-kept : (test : ℕ → Bool) (rows : List ℕ) (row : ℕ) → Contains rows row → test row ≡ true → Contains (filter test rows) row
+pub kept : (test : ℕ → Bool) (rows : List ℕ) (row : ℕ) → Contains rows row → test row ≡ true → Contains (filter test rows) row
 kept test [] row (k, below, is) passes = absurd (omega (arith, below))
 kept test (first ∷ rows) row (zero, below, is) passes =
     subst (λ (b : Bool). Contains (cond b (first ∷ filter test rows) (filter test rows)) row) (sym (ap test is ∙ passes)) (0, omega arith, is)
@@ -340,9 +340,6 @@ settled_then honest entries passes leaves old new after going changes done fair 
 none_ended : (refusal : Refusal) → Some refusal ≡ None → ⊥
 none_ended refusal is = cc
 
-not_scrub : (command : Command) → OnVolumes command ≡ OnSet Scrub → ⊥
-not_scrub command is = cc
-
 same_refusal : (first second : Refusal) → Refused first ≡ Refused second → first ≡ second
 same_refusal first second is = cc
 
@@ -402,7 +399,7 @@ refused_at_once honest command store refusal going among goes refuses = record {
     ends = λ other is ends. absurd (goes (subst EndsIt (sym (same_refusal refusal other is)) ends));
     goes = λ unended. going;
     listed = inl among;
-    scrubs = λ fair scrub. absurd (not_scrub command scrub);
+    scrubs = λ fair scrub. absurd scrub;
     moments = moments honest 0 IsSame IsSame store store (Ok tt) (volumes_after (extents_for_store store) command) nothing
         (λ V W volumes shown same. inl (subst (λ (l : List Block). Shows (extents_for_store store) l volumes) (sym same) shown.shows));
     answered = λ fair unended lost volumes settled. inl
@@ -445,7 +442,7 @@ done_with_volumes honest command entries passes leaves old new reply whole few g
     ends = λ other is ends. absurd (not_refused command reply other kind is);
     goes = λ unended. goes;
     listed = kind_is_listed command reply kind;
-    scrubs = λ fair scrub. absurd (not_scrub command scrub);
+    scrubs = λ fair scrub. absurd scrub;
     moments = λ fair lost volumes settled.
         subst (λ (after : VolumeMap). StandsThroughout old.array.table old.array.panel.devices lost (volumes ∷ after ∷ []) old.array.history new.array.history)
         (left_then command old lost volumes settled admitted)
@@ -482,7 +479,7 @@ ended_with_volumes honest command entries passes leaves old new refusal whole fe
         (ended, end_more command entries old.array new.array refusal few (changes.cause refusal refl));
     goes = λ unended. absurd (unended it_ends);
     listed = inr it_ends;
-    scrubs = λ fair scrub. absurd (not_scrub command scrub);
+    scrubs = λ fair scrub. absurd scrub;
     moments = λ fair lost volumes settled.
         subst (λ (after : VolumeMap). StandsThroughout old.array.table old.array.panel.devices lost (volumes ∷ after ∷ []) old.array.history new.array.history)
         (left_then command old lost volumes settled admitted)

@@ -1,10 +1,9 @@
 -- The writes of zeros together make the blocks zero, and change no other.
-use Rattle.std.proofs.Common.{◌≡◌, ◌≢◌, inl, inr, ℕ, ◌+◌, ◌-◌, ◌<◌, ◌≤◌, List, [], ◌∷◌, length, get_or, replicate, Some, None, refl, sym, ◌∙◌, ap, subst, arith}
+use Rattle.std.proofs.Common.{◌≡◌, ◌≢◌, inl, inr, ℕ, ◌+◌, ◌-◌, ◌<◌, ◌≤◌, List, length, Some, None, refl, sym, ◌∙◌, ap, subst, arith}
 use Rattle.std.specs.Prelude.{slice_index_or}
 use Rattle.std.proofs.lemmas.Bool.{cases_lt, ltb-false}
 use Rattle.std.proofs.lemmas.List.{get_or-replicate, length-replicate}
 use Rattle.extents.specs.declared.extent_layout.ExtentLayout.{ExtentLayout}
-use Rattle.volume_table.specs.declared.event.TheConstants.{MOST_BLOCKS_AT_ONCE}
 use Rattle.volume_table.specs.Law.{HasLength, IsWritten}
 use Rattle.volume_table.specs.Staging.{after_all}
 use Rattle.volume_table.specs.Volumes.{Block, VolumeList, VolumeMap, blocks_of, zero_block}
@@ -12,7 +11,7 @@ use Rattle.volume_table.specs.VolumeStep.{Command, Done, Write, blocks_in, first
 use Rattle.volume_table.specs.Zeroing.{AreZeroWrites, checks_of_zero, no_write, then_write}
 use Rattle.volume_table.specs.ZeroingLaw.{LeavesZeros}
 use Rattle.volume_table.proofs.StepLemmas.{none_applies, not_the_one, others_stay, there, write_changes_its_blocks}
-use Rattle.volume_table.proofs.ZeroedVolumes.{admitted, long_after, writes_are_done, writes_order}
+use Rattle.volume_table.proofs.ZeroedVolumes.{admitted, writes_are_done, writes_order}
 
 -- where it is not refused the volume has the blocks
 record IsZeroWithin (name : List ℕ) (at count : ℕ) (volumes : VolumeList) : Type 0 where
@@ -44,8 +43,8 @@ one_list : (first second : List Block) → Some first ≡ Some second → first 
 one_list first second is = cc
 
 -- zeros after zeros
-zeros_then : (before mid left : List Block) (at count more : ℕ) → IsWritten before mid at (zero_blocks count) → IsWritten mid left (at + count) (zero_blocks more)
-    → IsWritten before left at (zero_blocks (count + more))
+zeros_then : (before mid left : List Block) (at count more : ℕ) → IsWritten before mid at (zero_blocks count)
+    → IsWritten mid left (at + count) (zero_blocks more) → IsWritten before left at (zero_blocks (count + more))
 zeros_then before mid left at count more first second = record {
   as_long = second.as_long ∙ first.as_long;
   inside = λ k d below. elim (cases_lt k count) [
@@ -54,7 +53,8 @@ zeros_then before mid left at count more first second = record {
     | inr late ↦
         let few : k - count < more = omega (arith, late, below, length-zeros (count + more)) in
         let place : at + count + (k - count) ≡ at + k = omega (arith, late) in
-        ap (λ (n : ℕ). slice_index_or left n d) (sym place) ∙ second.inside (k - count) d (omega (arith, few, length-zeros more)) ∙ zero_at more (k - count) d few
+        ap (λ (n : ℕ). slice_index_or left n d) (sym place) ∙ second.inside (k - count) d (omega (arith, few, length-zeros more))
+        ∙ zero_at more (k - count) d few
         ∙ sym (zero_at (count + more) k d (omega (arith, late, few)))
   ];
   below = λ k d early. second.below k d (omega (arith, early)) ∙ first.below k d early;

@@ -1,5 +1,5 @@
 -- Blocks of a volume are made zero by one commit after another.
-use Rattle.std.proofs.Common.{◌≡◌, ℕ, ◌+◌, ◌-◌, ◌<◌, ◌≤◌, Bool, List, Option, Ok, Err, refl, sym, ◌∙◌, ap, subst, arith}
+use Rattle.std.proofs.Common.{◌≡◌, ℕ, ◌+◌, ◌-◌, ◌<◌, ◌≤◌, Bool, List, Option, Ok, Err, refl, ◌∙◌, subst, arith}
 use Rattle.sector_model.specs.declared.refusal.Refusal.{Refusal}
 use Rattle.sector_model.specs.Bank.{IsTrueTo}
 use Rattle.layout_map.specs.declared.geometry.Geometry.{Geometry}

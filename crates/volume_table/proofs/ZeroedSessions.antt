@@ -1,9 +1,8 @@
 -- Making blocks of a volume zero, as a part of a session: one commit after another.
-use Rattle.std.proofs.Common.{◌≡◌, ◌≢◌, ◌⊎◌, inl, inr, ℕ, zero, suc, ◌+◌, ◌<◌, ◌≤◌, Bool, true, false, cond, nat_lt, List, [], ◌∷◌, ◌++◌, length, map, take, get_or}
-use Rattle.std.proofs.Common.{Option, Some, None, Ok, Err, refl, sym, ◌∙◌, ap, ap₂, subst, subst₂, arith}
+use Rattle.std.proofs.Common.{◌≡◌, ◌≢◌, ◌⊎◌, inl, inr, ℕ, zero, suc, ◌+◌, ◌<◌, ◌≤◌, Bool, true, false, cond, nat_lt, List, [], ◌∷◌, ◌++◌, map, take}
+use Rattle.std.proofs.Common.{get_or, Option, Some, None, Ok, Err, refl, sym, ◌∙◌, ap, ap₂, subst, subst₂, arith}
 use Rattle.std.proofs.lemmas.Bool.{cases_lt, le-ltb, lt-ltb}
-use Rattle.std.proofs.lemmas.List.{append_assoc, append-nil, get_or-take, map-append}
-use Rattle.sector_model.specs.declared.event.Event.{Event as DeviceEvent}
+use Rattle.std.proofs.lemmas.List.{append_assoc, get_or-take, map-append}
 use Rattle.sector_model.specs.declared.refusal.Refusal.{Refusal}
 use Rattle.sector_model.specs.Bank.{IsTrueTo}
 use Rattle.sector_model.specs.History.{After, Began, History, MayLeave, calls_of, cut_at}
@@ -11,10 +10,9 @@ use Rattle.sector_model.specs.Moments.{Throughout, here, then_also}
 use Rattle.sector_model.proofs.Steps.{throughout_cut, throughout_last, throughout_more, throughout_on}
 use Rattle.superblock.specs.declared.state.State.{State}
 use Rattle.superblock.specs.declared.state.State.TheVariants.{InSync, Missing}
-use Rattle.superblock.specs.declared.table.Table.{Table}
 use Rattle.superblock.specs.Cases.{IsLostAfter, Lost}
 use Rattle.superblock.specs.Losses.{IsLostAt, IsSingleFailure}
-use Rattle.superblock.specs.NextTables.{IsComplete, IsOut, slots_of}
+use Rattle.superblock.specs.NextTables.{IsOut, slots_of}
 use Rattle.superblock.specs.Tables.{state_at}
 use Rattle.superblock.proofs.Losing.{lost_after_is_one}
 use Rattle.array_io.specs.Believed.ArrayCalls.{Answer}
@@ -32,7 +30,7 @@ use Rattle.volume_table.specs.Stands.{IsSettledAfter, IsSettledOn, StoreView}
 use Rattle.volume_table.specs.StoreCalls.{extents_for_store}
 use Rattle.volume_table.specs.Volumes.{VolumeMap}
 use Rattle.volume_table.specs.VolumeStep.{Command, Done, Event, Names, OnVolumes, Reply}
-use Rattle.volume_table.specs.Zeroing.{AreCommittedInTurn, AreZeroWrites, CommitsInTurn, EndsCommitting, RefusesZero, Zeroes, ZeroesBlocks}
+use Rattle.volume_table.specs.Zeroing.{AreCommittedInTurn, AreZeroWrites, EndsCommitting, ZeroesBlocks}
 use Rattle.volume_table.specs.Zeroing.{commit_then, no_write, none_committed, then_write}
 use Rattle.volume_table.specs.ZeroingLaw.{AreZeroed, DoesZeros, EndsInZeros}
 use Rattle.volume_table.proofs.ListChanges.{IsLostSince, changes_none, lost_at_later, stays_down, still_lost}
@@ -120,7 +118,8 @@ module _ (writes : List Command) (old new : StoreView) (commits : CommitsWrites 
 -- ---- what becomes of the devices
 
 -- what is lost between tells as much of what is replaced
-replaced_since : (slots : ℕ) (lost between after : Option Lost) (h : History) → IsLostSince slots lost h between → replaced_by lost after ≡ replaced_by between after
+replaced_since : (slots : ℕ) (lost between after : Option Lost) (h : History) → IsLostSince slots lost h between
+    → replaced_by lost after ≡ replaced_by between after
 replaced_since slots lost between after h (inl same) = ap (λ (l : Option Lost). replaced_by l after) (sym same)
 replaced_since slots lost between after h (inr failed) =
     ap (λ (l : Option Lost). replaced_by l after) failed.none ∙ by_after after ∙ ap (λ (l : Option Lost). replaced_by l after) (sym failed.lost)

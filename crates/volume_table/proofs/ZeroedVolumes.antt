@@ -1,12 +1,11 @@
 -- Blocks of a volume are made zero by one commit after another: the writes that these do.
-use Rattle.std.proofs.Common.{◌≡◌, inl, inr, ℕ, zero, suc, ◌+◌, ◌-◌, ◌<◌, ◌≤◌, List, [], ◌∷◌, ◌++◌, length, All, Option, Some, None, Ok, Err, refl, sym, ◌∙◌}
+use Rattle.std.proofs.Common.{◌≡◌, inl, inr, ℕ, zero, suc, ◌+◌, ◌-◌, ◌≤◌, List, [], ◌∷◌, ◌++◌, length, Option, Some, None, Ok, Err, refl, sym, ◌∙◌}
 use Rattle.std.proofs.Common.{ap, subst, arith}
-use Rattle.std.specs.Prelude.{Contains, replicate}
+use Rattle.std.specs.Prelude.{Contains}
 use Rattle.std.proofs.lemmas.Bool.{cases_lt}
-use Rattle.std.proofs.lemmas.List.{append_assoc, append-nil, length-replicate}
+use Rattle.std.proofs.lemmas.List.{length-replicate}
 use Rattle.sector_model.specs.declared.refusal.Refusal.{Refusal}
 use Rattle.sector_model.specs.declared.refusal.Refusal.TheVariants.{BadCount, NoVolume, OutOfRange}
-use Rattle.sector_model.specs.Bank.{IsTrueTo}
 use Rattle.layout_map.specs.declared.geometry.Geometry.{Geometry}
 use Rattle.superblock.specs.Cases.{Lost}
 use Rattle.array_io.specs.Believed.ArrayCalls.{Answer}
@@ -20,14 +19,13 @@ use Rattle.volume_table.specs.Admission.{AreKept, HasBlocksAt, HasRecordAt, Show
 use Rattle.volume_table.specs.Law.{HasLength}
 use Rattle.volume_table.specs.ListChanges.{Change, IsSameOr}
 use Rattle.volume_table.specs.Shows.{Shows}
-use Rattle.volume_table.specs.Staging.{AreDone, CommitsStaged, CommitsWrites, after_all}
+use Rattle.volume_table.specs.Staging.{AreDone, CommitsStaged, after_all}
 use Rattle.volume_table.specs.Stands.{IsSettledOn, StoreView, store_of}
-use Rattle.volume_table.specs.StoreCalls.{extents_for_store}
 use Rattle.volume_table.specs.StoreChanges.{IsWrittenAt}
-use Rattle.volume_table.specs.Volumes.{Block, IsBlock, VolumeMap, zero_block}
+use Rattle.volume_table.specs.Volumes.{Block, VolumeMap, zero_block}
 use Rattle.volume_table.specs.VolumeStep.{Command, Done, Write, or_refused, refusal_of, reply_to, volumes_after, zero_blocks}
-use Rattle.volume_table.specs.ZeroedRanges.{AreZeroedInTurn, EndsZeroing, ZeroesInTurn, ZeroesTogether, none_zeroed, then_zeroed}
-use Rattle.volume_table.specs.Zeroing.{AreCommittedInTurn, AreZeroWrites, CommitsInTurn, EndsCommitting, IsZeroRefusal, RefusesZero, Zeroes, ZeroesBlocks}
+use Rattle.volume_table.specs.ZeroedRanges.{AreZeroedInTurn, ZeroesInTurn, ZeroesTogether, none_zeroed, then_zeroed}
+use Rattle.volume_table.specs.Zeroing.{AreCommittedInTurn, AreZeroWrites, IsZeroRefusal, Zeroes, ZeroesBlocks}
 use Rattle.volume_table.specs.Zeroing.{commit_then, no_write, none_committed, then_write}
 use Rattle.volume_table.proofs.Admitted.{length_by, within_admitted}
 use Rattle.volume_table.proofs.KeptMaps.{blocks_record, record_has_blocks}
@@ -228,7 +226,8 @@ commits_cut honest keeps owners name number last geometry here {at = at} {old = 
       writes = first.writes ++ more.writes;
       zeros = writes_both name first.zeros more.zeros;
       committed = commit_then (store_of mid keeps None) first.writes
-          (commit_of honest keeps owners name number last geometry here at upto first.writes old mid None same first.zeros (omega (arith, order, within)) (Ok tt)
+          (commit_of honest keeps owners name number last geometry here at upto first.writes old mid None same first.zeros (omega (arith, order, within))
+          (Ok tt)
           one (λ is. refl) (λ refusal is. not_failed refusal None is))
           told more.committed;
     }

@@ -12,7 +12,7 @@ use Rattle.volume_table.specs.Stands.{StoreView}
 use Rattle.volume_table.specs.StoreCalls.{Applies, EndsStore}
 use Rattle.volume_table.specs.StoreFunctions.{Answer}
 use Rattle.volume_table.specs.VolumeStep.{Blocks, Create, Done, Event, Extend, Fail, Names, OnSet, OnVolumes, Progressed, Read, RebuildStep, Refused, Remove}
-use Rattle.volume_table.specs.VolumeStep.{Rename, Replace, Reply, Scrub, Scrubbed, Upgrade, Volumes, Write}
+use Rattle.volume_table.specs.VolumeStep.{Rename, Replace, Reply, Scrub, ScrubRows, Scrubbed, Upgrade, Volumes, Write}
 
 -- what a store is asked
 abbrev pub event_of : asked.Event → Event
@@ -28,6 +28,7 @@ event_of (asking.Fail slot) = OnSet (Fail slot)
 event_of (asking.Replace slot) = OnSet (Replace slot)
 event_of (asking.RebuildStep rows) = OnSet (RebuildStep rows)
 event_of asking.Scrub = OnSet Scrub
+event_of (asking.ScrubRows first rows) = OnSet (ScrubRows first rows)
 
 -- what it answers
 abbrev pub reply_of : answered.Reply → Reply

@@ -12,8 +12,9 @@ use Rattle.array_io.specs.Believed.Views.{ArrayView}
 use Rattle.recovery.specs.Making as recovery
 use Rattle.recovery.specs.Making.{BankView, IsQuietBeyond, Makes}
 use Rattle.recovery.specs.Assembling.{IsNoAssembly}
+use Rattle.scrub.specs.Scrubbing.{rows_in_part}
 use Rattle.volume_table.specs.Volumes.{VolumeMap, no_volumes}
-use Rattle.volume_table.specs.VolumeStep.{Event, OnSet, OnVolumes, Refused, Reply, Scrub, Scrubbed, after, left_by, reply_to}
+use Rattle.volume_table.specs.VolumeStep.{Event, OnSet, OnVolumes, Refused, Reply, Scrub, ScrubRows, Scrubbed, after, left_by, reply_to}
 use Rattle.volume_table.specs.Stands.{IsSettledOn, StoreView}
 use Rattle.volume_table.specs.StoreCalls.{LacksMemory, lost_in}
 use Rattle.volume_table.specs.Staging.{AreDone, after_all}
@@ -37,10 +38,12 @@ pub record IsAfterPrefix (extents : ExtentLayout) (before : Before) (volumes : V
   pub is : volumes ≡ after extents before.events before.volumes n
 
 -- An event is answered rightly: a command on volumes as the volume machine does, but that there may be no memory for a list; and a scrub of a set that
--- is complete looks at all of its rows, and finds none whose parity is not the XOR of its data.
+-- is complete looks at all of its rows, or at all of the part that it is asked of, and finds none whose parity is not the XOR of its data.
 abbrev pub IsRight : ExtentLayout → VolumeMap → Event → (after : StoreView) → Reply → Type 0
 IsRight extents volumes (OnVolumes command) after reply = (reply ≡ reply_to extents command volumes) ⊎ LacksMemory command reply
 IsRight extents volumes (OnSet Scrub) after reply = IsComplete after.array.table → reply ≡ Scrubbed (row_count after.array.table) 0 None
+IsRight extents volumes (OnSet (ScrubRows first rows)) after reply = IsComplete after.array.table
+    → reply ≡ Scrubbed (rows_in_part (row_count after.array.table) first rows) 0 None
 IsRight extents volumes (OnSet command) after reply = Unit {0}
 
 -- so are events that are done one after another

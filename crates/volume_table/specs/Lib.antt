@@ -23,6 +23,7 @@ pub mod StoreCalls
 pub mod StoreChanges
 pub mod StoreFunctions
 pub mod StagedBlocks
+pub mod StagedParts
 pub mod Staging
 pub mod Stretches
 pub mod VolumeStep

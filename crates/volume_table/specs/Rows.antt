@@ -1,5 +1,5 @@
 -- Small runs of commands, worked out by hand.
-use Rattle.std.specs.Prelude.{◌≡◌, ℕ, ◌+◌, ◌/◌, ◌%◌, false, List, [], ◌∷◌, ◌++◌, map, replicate, codes, None}
+use Rattle.std.specs.Prelude.{◌≡◌, ℕ, ◌+◌, ◌/◌, ◌%◌, false, List, [], ◌∷◌, ◌++◌, map, replicate, codes, Some, None}
 use Rattle.std.specs.List.{range_with_len}
 use Rattle.std.proofs.Common.{arith}
 use Rattle.extents.specs.declared.extent_layout.ExtentLayout.{ExtentLayout}
@@ -9,7 +9,8 @@ use Rattle.sector_model.specs.declared.refusal.Refusal.TheVariants.{WouldLose, N
 use Rattle.layout_map.specs.declared.format.Format.TheVariants.{One, Two}
 use Rattle.superblock.specs.declared.state.State.TheVariants.{InSync}
 use Rattle.volume_table.specs.Volumes.{Block, zero_block, VolumeMap, no_volumes}
-use Rattle.volume_table.specs.VolumeStep.{Command, Create, Extend, Remove, Read, Write, Rename, Names, Upgrade, SetCommand, Fail, Replace, RebuildStep, Scrub}
+use Rattle.volume_table.specs.VolumeStep.{Command, Create, Extend, Remove, Read, Write, Rename, Names}
+use Rattle.volume_table.specs.VolumeStep.{Upgrade, SetCommand, Fail, Replace, RebuildStep, Scrub, ScrubRows}
 use Rattle.volume_table.specs.VolumeStep.{OnSet, Reply, Done, Blocks, Volumes, Progressed, Scrubbed, Refused, reply_to, volumes_after}
 use Rattle.rebuild.specs.Rebuilding.{Complete, Position}
 use Rattle.volume_table.specs.SetReplies.{SetState, Devices, set_reply, set_after}
@@ -171,3 +172,24 @@ RebuildPositions = set_replies (Fail 0 ∷ Replace 0 ∷ RebuildStep 0 ∷ Rebui
 -- a journal is whole when it has joined
 abbrev pub JournalJoins : Type 0
 JournalJoins = set_replies (Fail 4 ∷ Replace 4 ∷ Scrub ∷ []) complete_set ≡ Done ∷ Done ∷ Scrubbed 256 0 None ∷ []
+
+-- the same devices, where three rows are not sound
+abbrev pub unsound_devices : Devices
+unsound_devices = record { faults = λ slot. false; unusable = λ slot. false; format = One; rows = 256; unsound = 7 ∷ 200 ∷ 255 ∷ [] }
+
+-- the replies to scrubs of these parts
+abbrev pub part_replies : List (ℕ × ℕ) → List Reply
+part_replies parts = map (λ part. set_reply unsound_devices (ScrubRows part.0 part.1) complete_set) parts
+
+-- parts that meet have all rows, a row keeps its number in the set, and none is past the last
+abbrev pub ScrubInParts : Type 0
+ScrubInParts = (set_reply unsound_devices Scrub complete_set ≡ Scrubbed 256 3 (Some 7))
+    × (part_replies ((0, 100) ∷ (100, 100) ∷ (200, 56) ∷ []) ≡ Scrubbed 100 1 (Some 7) ∷ Scrubbed 100 0 None ∷ Scrubbed 56 2 (Some 200) ∷ [])
+    × (part_replies ((7, 1) ∷ (8, 192) ∷ (8, 193) ∷ (7, 0) ∷ (250, 10) ∷ (256, 5) ∷ (300, 0) ∷ [])
+    ≡ Scrubbed 1 1 (Some 7) ∷ Scrubbed 192 0 None ∷ Scrubbed 193 1 (Some 200) ∷ Scrubbed 0 0 None ∷ Scrubbed 6 1 (Some 255) ∷ Scrubbed 0 0 None
+    ∷ Scrubbed 0 0 None ∷ [])
+
+-- a part is refused as the whole is, whether or not it has a row
+abbrev pub PartRefusals : Type 0
+PartRefusals = set_replies (ScrubRows 0 256 ∷ Fail 1 ∷ ScrubRows 0 1 ∷ ScrubRows 300 0 ∷ Replace 1 ∷ ScrubRows 0 1 ∷ []) complete_set
+    ≡ Scrubbed 256 0 None ∷ Done ∷ Refused Incomplete ∷ Refused Incomplete ∷ Done ∷ Refused Incomplete ∷ []

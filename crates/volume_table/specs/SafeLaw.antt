@@ -10,7 +10,7 @@ use Rattle.array_io.specs.Believed.Views.{ArrayView, EndsIt, IsEndOf}
 use Rattle.rebuild.specs.Rebuilding.{IsNotMissing, IsRebuilding, IsUnusable}
 use Rattle.recovery.specs.Making.{BankView}
 use Rattle.volume_table.specs.Volumes.{VolumeMap}
-use Rattle.volume_table.specs.VolumeStep.{Event, Fail, OnSet, OnVolumes, RebuildStep, Refused, Replace, Reply, Scrub, SetCommand}
+use Rattle.volume_table.specs.VolumeStep.{Event, Fail, OnSet, OnVolumes, RebuildStep, Refused, Replace, Reply, Scrub, ScrubRows, SetCommand}
 use Rattle.volume_table.specs.SetReplies.{set_refusal}
 use Rattle.volume_table.specs.Stands.{IsSettledAfter, IsSettledOn, StoreView}
 use Rattle.volume_table.specs.StoreCalls.{Applies, IsCounterFull, no_devices, refusals_of, set_of}
@@ -31,6 +31,7 @@ IsSetRefused (Replace slot) old new NotMissing = IsNotMissing old.table slot
 IsSetRefused (Replace slot) old new NotUsable = IsUnusable old slot ⊎ (new.panel.down slot ≡ true)
 IsSetRefused (RebuildStep rows) old new NothingToRebuild = (member : ℕ) → IsRebuilding old.table member → new.panel.down member ≡ true
 IsSetRefused Scrub old new Incomplete = IsOutOrDown old new
+IsSetRefused (ScrubRows first rows) old new Incomplete = IsOutOrDown old new
 IsSetRefused command old new refusal = ⊥
 
 -- a refusal of the event's own

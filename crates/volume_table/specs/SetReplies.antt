@@ -1,5 +1,6 @@
 -- What each command on the set answers, and which states and position every call leaves.
-use Rattle.std.specs.Prelude.{◌≡◌, Option, Some, None, ℕ, ◌+◌, Bool, not, ◌||◌, ◌==◌, nat_lt, nat_le, if◌then◌else◌, List, [], ◌∷◌, length, map, slice_get}
+use Rattle.std.specs.Prelude.{◌≡◌, Option, Some, None, ℕ, ◌+◌, Bool, not, ◌&&◌, ◌||◌, ◌==◌}
+use Rattle.std.specs.Prelude.{nat_lt, nat_le, if◌then◌else◌, List, [], ◌∷◌, length, filter, map, slice_get}
 use Rattle.std.specs.Prelude.{slice_index_or, slice_set}
 use Rattle.sector_model.specs.declared.refusal.Refusal.{Refusal}
 use Rattle.sector_model.specs.declared.refusal.Refusal.TheVariants.{WouldLose, NotMissing, NotUsable, NothingToRebuild, Incomplete}
@@ -9,7 +10,9 @@ use Rattle.superblock.specs.declared.state.State.{State}
 use Rattle.superblock.specs.declared.state.State.TheVariants.{Missing, InSync, Rebuilding}
 use Rattle.superblock.specs.States.{has_rebuilding, is_complete, is_missing, is_rebuilding, position_in}
 use Rattle.rebuild.specs.Rebuilding.{Complete, Position, stepped}
-use Rattle.volume_table.specs.VolumeStep.{SetCommand, Fail, Replace, RebuildStep, Scrub, Reply, Done, Progressed, Scrubbed, Check, first_refusal, or_refused}
+use Rattle.scrub.specs.Scrubbing.{rows_in_part}
+use Rattle.volume_table.specs.VolumeStep.{SetCommand, Fail, Replace, RebuildStep, Scrub, ScrubRows, Reply}
+use Rattle.volume_table.specs.VolumeStep.{Done, Progressed, Scrubbed, Check, first_refusal, or_refused}
 use Rattle.volume_table.specs.VolumeStep.{Event, OnVolumes, OnSet}
 
 -- what a set is between two calls
@@ -72,6 +75,11 @@ changed_set devices (RebuildStep rows) set =
     then (record { states = rebuilt set.states; position = 0 })
     else (record { states = set.states; position = position_after devices rows set.position })
 changed_set devices Scrub set = set
+changed_set devices (ScrubRows first rows) set = set
+
+-- those of some rows that are among so many from `first` on
+abbrev pub rows_within : (first count : ℕ) → List ℕ → List ℕ
+rows_within first count rows = filter (λ row. nat_le first row && nat_lt row (first + count)) rows
 
 -- the reply to a command on the set that is not refused
 abbrev pub set_answer : Devices → SetCommand → SetState → Reply
@@ -82,6 +90,8 @@ set_answer devices (RebuildStep rows) set =
     then Progressed Complete
     else Progressed (Position (position_after devices rows set.position))
 set_answer devices Scrub set = Scrubbed devices.rows (length devices.unsound) (slice_get devices.unsound 0)
+set_answer devices (ScrubRows first rows) set = Scrubbed (rows_in_part devices.rows first rows) (length (rows_within first rows devices.unsound))
+    (slice_get (rows_within first rows devices.unsound) 0)
 
 -- what a command on the set is refused with, in this order
 abbrev pub set_checks : Devices → SetCommand → SetState → List Check
@@ -95,6 +105,7 @@ set_checks devices (Replace slot) set =
     ∷ []
 set_checks devices (RebuildStep rows) set = (not (has_rebuilding (with_faults devices.faults set.states)), NothingToRebuild) ∷ []
 set_checks devices Scrub set = (not (is_complete (with_faults devices.faults set.states)), Incomplete) ∷ []
+set_checks devices (ScrubRows first rows) set = (not (is_complete (with_faults devices.faults set.states)), Incomplete) ∷ []
 
 abbrev pub set_refusal : Devices → SetCommand → SetState → Option Refusal
 set_refusal devices command set = first_refusal (set_checks devices command set)

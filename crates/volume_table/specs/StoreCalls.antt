@@ -18,7 +18,7 @@ use Rattle.layout_map.specs.declared.format.Format.TheVariants.{One}
 use Rattle.scrub.specs.Scrubbing.{AreUnsound}
 use Rattle.volume_table.specs.Volumes.{Block, VolumeMap}
 use Rattle.volume_table.specs.VolumeStep.{Blocks, Command, Create, Done, Event, Extend, Fail, Names, OnSet, OnVolumes, Refused, Remove, Rename, Replace, Reply}
-use Rattle.volume_table.specs.VolumeStep.{Scrub, Scrubbed, Upgrade, Volumes, Write, Read, left_by, reply_to}
+use Rattle.volume_table.specs.VolumeStep.{Scrub, ScrubRows, Scrubbed, Upgrade, Volumes, Write, Read, left_by, reply_to}
 use Rattle.volume_table.specs.SetReplies.{AnswersSet, Devices, SetState, set_after, set_refusal}
 use Rattle.volume_table.specs.Stands.{IsSettledAfter, IsSettledOn, StandsThroughout, StoreView}
 use Rattle.extents.specs.declared.extent_layout.ExtentLayout.{ExtentLayout}
@@ -61,6 +61,12 @@ lost_in event table lost = lost
 abbrev pub GivesUp : Event → Table → ℕ → Type 0
 GivesUp (OnSet (Fail slot)) table other = (other ≡ slot) × (set_refusal no_devices (Fail slot) (set_of table) ≡ None)
 GivesUp event table other = ⊥
+
+-- the event is a scrub, of the whole set or of a part
+abbrev pub IsScrub : Event → Type 0
+IsScrub (OnSet Scrub) = Unit {0}
+IsScrub (OnSet (ScrubRows first rows)) = Unit {0}
+IsScrub event = ⊥
 
 -- the reply is 15 or 16, and ends the store
 abbrev pub EndsStore : Reply → Type 0
@@ -145,7 +151,7 @@ pub record GoesThrough (honest : Type 0) (event : Event) (old new : StoreView) (
   pub goes : ¬ EndsStore reply → new.ended ≡ None
   pub listed : IsListed event reply
   -- a scrub that is answered repairs nothing
-  pub scrubs : honest → event ≡ OnSet Scrub → (rows bad : ℕ) (first_bad : Option ℕ) → reply ≡ Scrubbed rows bad first_bad
+  pub scrubs : honest → IsScrub event → (rows bad : ℕ) (first_bad : Option ℕ) → reply ≡ Scrubbed rows bad first_bad
       → HasRead old.array.history new.array.history
   -- at each moment the volumes are those before the event or those after it
   pub moments : honest → (lost : Option Lost) (volumes : VolumeMap) → IsSettledOn old lost volumes

@@ -17,7 +17,7 @@ use Rattle.volume_table.specs.declared.status.Status.{Status}
 use Rattle.volume_table.specs.declared.listed.Listed.{Listed}
 use Rattle.volume_table.specs.Volumes.{Block, VolumeMap, need}
 use Rattle.volume_table.specs.VolumeStep.{Blocks, Create, Done, Event, Extend, Fail, Names, OnSet, OnVolumes, Progressed, Read, RebuildStep, Refused, Remove}
-use Rattle.volume_table.specs.VolumeStep.{Rename, Replace, Reply, Scrub, Scrubbed, Upgrade, Volumes, Write}
+use Rattle.volume_table.specs.VolumeStep.{Rename, Replace, Reply, Scrub, ScrubRows, Scrubbed, Upgrade, Volumes, Write}
 use Rattle.volume_table.specs.Stands.{IsSettledOn, StoreView}
 use Rattle.volume_table.specs.StoreCalls.{Applies, EndsStore, extents_for_store}
 
@@ -98,6 +98,10 @@ RebuildsRows honest rows old new result = Applies honest (OnSet (RebuildStep row
 -- `scrub()`. 13, 15, 16.
 abbrev pub ScrubsSet : (honest : Type 0) (old new : StoreView) → Result Report Refusal → Type 0
 ScrubsSet honest old new result = Applies honest (OnSet Scrub) old new (scrub_reply result)
+
+-- `scrub_rows(first, rows)`. 13, 15, 16.
+abbrev pub ScrubsRows : (honest : Type 0) (first rows : ℕ) (old new : StoreView) → Result Report Refusal → Type 0
+ScrubsRows honest first rows old new result = Applies honest (OnSet (ScrubRows first rows)) old new (scrub_reply result)
 
 -- what a store tells of its set
 pub record StatusView : Type 0 where

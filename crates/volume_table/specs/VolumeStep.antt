@@ -30,6 +30,8 @@ pub data SetCommand : Type 0 where
   Replace : (slot : ℕ) → SetCommand
   RebuildStep : (rows : ℕ) → SetCommand
   Scrub : SetCommand
+  -- a scrub of so many rows, from `first` on
+  ScrubRows : (first rows : ℕ) → SetCommand
 
 pub data Event : Type 0 where
   OnVolumes : Command → Event
@@ -43,7 +45,7 @@ pub data Reply : Type 0 where
   -- names of volumes, and their numbers of blocks
   Volumes : List (List ℕ × ℕ) → Reply
   Progressed : Progress → Reply
-  -- how many rows there are, how many of them are not sound, and the first of these
+  -- how many rows were looked at, how many of them are not sound, and the first of these
   Scrubbed : (rows bad : ℕ) → (first_bad : Option ℕ) → Reply
   Refused : Refusal → Reply
 

@@ -19,8 +19,8 @@ use Rattle.volume_table.specs.StoreChanges.{IsOfBlocks, IsWrittenAt}
 use Rattle.volume_table.specs.VolumeStep.{zero_blocks}
 
 -- One commit makes the blocks `at` to `end` - 1 of a record's volume zero, all of them or none, and changes nothing else. 15, 16.
-pub record ZeroesTogether (honest : Type 0) (extents : ExtentLayout) (owners : List (Option Owned)) (number at end : ℕ) (old new : ArrayView) (answer : Answer) :
-    Type 0
+pub record ZeroesTogether (honest : Type 0) (extents : ExtentLayout) (owners : List (Option Owned)) (number at end : ℕ) (old new : ArrayView)
+    (answer : Answer) : Type 0
   where
     pub changes : ChangesList honest 1 (IsSameOr (IsWrittenAt extents owners number at (zero_blocks (end - at))))
         (IsWrittenAt extents owners number at (zero_blocks (end - at))) old new answer

@@ -65,6 +65,11 @@ pub enum Event<'a> {
     },
     /// The rows of the set are looked at.
     Scrub,
+    /// So many rows of the set are looked at, from row `first` on.
+    ScrubRows {
+        first: u64,
+        rows: u64,
+    },
 }
 
 /// What an event is answered.
@@ -78,7 +83,7 @@ pub enum Reply {
     Volumes(Vec<Listed>),
     /// How far the rebuild is.
     Progress(Progress),
-    /// What was found in the rows of the set.
+    /// What was found in the rows of the set, or of a part of it.
     Scrubbed(ScrubReport),
     /// It was refused.
     Refused(Refusal),

@@ -67,9 +67,9 @@ impl<B: Bank> Array<B> {
         })
     }
 
-    /// Makes the listed sectors zero, of a set of this geometry (condition), by one entry: as `commit` writes those that
-    /// it is given. Of rows that become zero as a whole nothing is read. Where none is listed, no device is called.
-    /// Refused as `commit` is.
+    /// Makes the listed sectors zero, of a set of this geometry (condition), by one entry: as `commit` writes those
+    /// that it is given. Of rows that become zero as a whole nothing is read. Where none is listed, no device is
+    /// called. Refused as `commit` is.
     pub fn commit_zero_sectors(&mut self, zeros: &ZeroSectors) -> Result<(), Refusal>
         requires same { zeros.now.geometry ≡ self.old.table.geometry }
         ensures honest { IsHonest self.old ↔ IsHonest self.new }

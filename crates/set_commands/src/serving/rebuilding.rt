@@ -74,8 +74,13 @@ pub fn rebuild_with_progress<W: Write, B: Bank + Drop, M: Meter>(
     rebuild_on(watched, entry, id, steps, out)
 }
 
-// Makes so many steps, but one at least, and none once the rebuild is complete.
-fn rebuild_rows<B: Bank>(store: &mut Store<B>, steps: Option<u64>) -> Result<Progress, Refusal>
+/// Makes steps of the rebuild of a store's set, each of 64 rows or in format 2 of 4,096: so many, but one at least, or
+/// where no number is given as many as it takes, and none once the rebuild is complete. The progress is that of the
+/// last one.
+///
+/// Refused with `NothingToRebuild` as `Store::rebuild_step` says, where the steps before are done. `TwoLost` and `Worn`
+/// end the store.
+pub fn rebuild_rows<B: Bank>(store: &mut Store<B>, steps: Option<u64>) -> Result<Progress, Refusal>
     ensures honest { IsHonest store.old.array ↔ IsHonest store.new.array }
     ensures rebuilds { Rebuilds (IsHonest store.old.array) steps (store_view store.old) (store_view store.new)
         (answer_by result) }

@@ -27,6 +27,9 @@ pub(crate) fn check_call(
             return check_step(rt, number, store.rebuild_step(rows), answer);
         }
         Call::Scrub => return check_report(rt, number, store.scrub(), answer),
+        Call::ScrubRows(first, rows) => {
+            return check_report(rt, number, store.scrub_rows(first, rows), answer);
+        }
         Call::Read(name, at, count) => {
             return check_read(rt, store, number, (name, at, count), answer);
         }
@@ -72,6 +75,7 @@ fn event_of<'a>(call: Call<'a>, blocks: &'a [Sector]) -> Event<'a> {
         Call::Replace(slot) => Event::Replace { slot },
         Call::RebuildStep(rows) => Event::RebuildStep { rows },
         Call::Scrub => Event::Scrub,
+        Call::ScrubRows(first, rows) => Event::ScrubRows { first, rows },
         Call::Read(name, at, count) => Event::Read { name, at, count },
         Call::List => Event::List,
         Call::Upgrade => Event::Upgrade,

@@ -4,6 +4,7 @@ ghost use Rattle.volume_table.specs.Rows.{ReusedIsZero, ThirtyTwoBlocks, WriteOu
 ghost use Rattle.volume_table.specs.Rows.{LargestVolume, ReadsAtTheLimits, NamesAtTheLimits, ThirtyTwoVolumes};
 ghost use Rattle.volume_table.specs.Rows.{SixtyFourVolumes, LongNames, RenameScript, ListRises, FailRefusals};
 ghost use Rattle.volume_table.specs.Rows.{SmallerExtents, RebuildInSteps, RebuildPositions, JournalJoins};
+ghost use Rattle.volume_table.specs.Rows.{ScrubInParts, PartRefusals};
 
 /// Small runs of commands, worked out by hand: what the laws leave open of the numbers, the order of the refusals and
 /// the list. It computes nothing.
@@ -29,4 +30,6 @@ pub fn worked_rows()
     ensures rebuild { RebuildInSteps }
     ensures positions { RebuildPositions }
     ensures journal { JournalJoins }
+    ensures parts { ScrubInParts }
+    ensures part_refusals { PartRefusals }
 {}

@@ -20,8 +20,8 @@ use std::alloc::Global;
 
 impl<B: Bank> Store<B> {
     /// Does what an event asks, by its call: `create`, `extend`, `remove`, `read`, `write`, `rename`, `list`,
-    /// `upgrade`, `fail`, `replace`, `rebuild_step` or `scrub`. The reply is what that call answers, and its refusals
-    /// are those of the call: `Memory` for `List` alone. `TwoLost` and `Worn` end the store.
+    /// `upgrade`, `fail`, `replace`, `rebuild_step`, `scrub` or `scrub_rows`. The reply is what that call answers, and
+    /// its refusals are those of the call: `Memory` for `List` alone. `TwoLost` and `Worn` end the store.
     pub fn apply(&mut self, alloc: Global, event: &Event<'_>) -> Reply
         ensures honest { IsHonest self.old.array ↔ IsHonest self.new.array }
         ensures applies { Applies (IsHonest self.old.array) (event_of event.now) (store_view self.old)
@@ -40,6 +40,7 @@ impl<B: Bank> Store<B> {
             Event::Replace { slot } => reply_to(self.replace(slot)),
             Event::RebuildStep { rows } => reply_to_step(self.rebuild_step(rows)),
             Event::Scrub => reply_to_scrub(self.scrub()),
+            Event::ScrubRows { first, rows } => reply_to_scrub(self.scrub_rows(first, rows)),
         }
     }
 

@@ -1,14 +1,16 @@
 //! Writes wait in a batch, and are committed together.
-ghost use Rattle.std.specs.Prelude.{◌≡◌, ◌≤◌, ◌↔◌, [], List};
+ghost use Rattle.std.specs.Prelude.{◌≡◌, ◌≤◌, ◌↔◌, ℕ, [], List, length};
 ghost use Rattle.array_io.specs.Believed.OpenArray.{IsHonest};
 ghost use Rattle.batch.specs.Batches.{waiting};
 ghost use Rattle.extents.specs.SetExtents.{extents_in};
+ghost use Rattle.volume_table.specs.Admission.{IsWithinVolume};
 ghost use Rattle.volume_table.specs.OpenStore.{store_view};
 ghost use Rattle.volume_table.specs.Staging.{CommitsStaged, HoldSome, HoldsWrites, Stages};
+ghost use Rattle.volume_table.specs.StagedParts.{Admits, StagesPart};
 ghost use Rattle.volume_table.specs.VolumeStep.{Command};
 
 use super::Store;
-use super::admission::admit_within;
+use super::admission::{admit_within, admit_zeroing};
 use super::placing::stage_blocks;
 use batch::Batch;
 use extents::ExtentLayout;
@@ -38,8 +40,36 @@ impl<B: Bank> Store<B> {
             return Err(refusal);
         }
         let volume = admit_within(&self.table, name, at, from.len())?;
+        Ok(self.stage_part(batch, volume, at, from))
+    }
+
+    /// The number of the volume of this name, which has `count` blocks, 1 to 65,536, from block `at` on: parts of a
+    /// longer write are staged by it. No device is called.
+    ///
+    /// Refused, in this order, with the refusal that ended the store, with `NoVolume` where no volume has the name,
+    /// `BadCount` where `count` is 0 or above 65,536, and `OutOfRange` where the volume has not so many blocks.
+    pub fn admit(&self, name: &[u8], at: u32, count: u32) -> Result<u8, Refusal>
+        ensures { Admits (store_view self.now) name.now at count result }
+    {
+        if let Some(refusal) = self.ended {
+            return Err(refusal);
+        }
+        admit_zeroing(&self.table, name, at, count)
+    }
+
+    /// Has 1 to 32 blocks of the volume of this number, from block `at` on, wait in a batch of a set of this geometry,
+    /// as `stage` does. They are the volume's (condition): `admit` gave its number, for these blocks among others, and
+    /// no volume was created, made longer, removed or renamed since. `false` as `stage` answers it.
+    pub fn stage_part(&self, batch: &mut Batch, volume: u8, at: u32, from: &[Sector]) -> bool
+        requires of_set { batch.old.geometry ≡ self.now.array.table.geometry }
+        requires within { (name : List ℕ)
+            × ∥ IsWithinVolume self.now.table.records name volume at (length from.now) ∥₁ }
+        ensures stages { StagesPart (store_view self.now) volume at from.now (waiting batch.old) (waiting batch.new)
+            result }
+        ensures geometry { batch.new.geometry ≡ batch.old.geometry }
+    {
         let extents = ExtentLayout::of(&self.array.table.geometry);
-        Ok(stage_blocks(&extents, &self.map, batch, volume, at, from))
+        stage_blocks(&extents, &self.map, batch, volume, at, from)
     }
 
     /// Commits the writes that wait in a batch of a set of this geometry, together: at each moment a crash leaves none

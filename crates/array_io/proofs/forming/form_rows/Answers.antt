@@ -34,7 +34,8 @@ its_plan geometry sectors places runs entry same plan = subst (λ (list : List R
 pub put_given-requires : goal.put_given-requires
 put_given-requires g c =
     planned_room c.args.table.now.geometry (given_of c.args.writes.now.contents) c.args.writes.now.places.now c.set_rows.new.self
-    (its_plan c.args.table.now.geometry (given_of c.args.writes.now.contents) c.args.writes.now.places.now (runs_in c.args.writes.now.rows.now) c.set_rows.new.self
+    (its_plan c.args.table.now.geometry (given_of c.args.writes.now.contents) c.args.writes.now.places.now (runs_in c.args.writes.now.rows.now)
+    c.set_rows.new.self
     c.set_rows.ensures c.requires.planned)
 
 pub form_parities-requires-clause-its_slots : goal.form_parities-requires-clause-its_slots
@@ -82,7 +83,8 @@ returns-clause-rows g c =
     let plan = its_plan c.args.table.now.geometry (given_of c.args.writes.now.contents) c.args.writes.now.places.now (runs_in c.args.writes.now.rows.now)
     c.set_rows.new.self
     c.set_rows.ensures c.requires.planned in
-    in_any_case c.form_parities.result _ (rows_of_form c.args.table.now.geometry (given_of c.args.writes.now.contents) c.args.writes.now.places.now c.set_rows.new.self
+    in_any_case c.form_parities.result _
+    (rows_of_form c.args.table.now.geometry (given_of c.args.writes.now.contents) c.args.writes.now.places.now c.set_rows.new.self
     c.form_parities.new.entry plan (c.form_parities.ensures.form ∙ c.put_given.ensures.form) c.requires.may.least c.requires.may.of_set)
 
 pub returns-clause-held : goal.returns-clause-held
@@ -90,7 +92,8 @@ returns-clause-held g c =
     let plan = its_plan c.args.table.now.geometry (given_of c.args.writes.now.contents) c.args.writes.now.places.now (runs_in c.args.writes.now.rows.now)
     c.set_rows.new.self
     c.set_rows.ensures c.requires.planned in
-    in_any_case c.form_parities.result _ (held_of_form c.args.table.now.geometry (given_of c.args.writes.now.contents) c.args.writes.now.places.now c.set_rows.new.self
+    in_any_case c.form_parities.result _
+    (held_of_form c.args.table.now.geometry (given_of c.args.writes.now.contents) c.args.writes.now.places.now c.set_rows.new.self
     c.form_parities.new.entry plan (c.form_parities.ensures.form ∙ c.put_given.ensures.form))
 
 -- what was put stands there still, where no parity does

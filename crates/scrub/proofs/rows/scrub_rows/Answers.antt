@@ -1,16 +1,17 @@
-use Rattle.std.proofs.Common.{◌≡◌, ◌∙◌, ℕ, ◌+◌, ◌*◌, false, ap, refl, sym, subst, arith}
+use Rattle.std.proofs.Common.{◌≡◌, ◌∙◌, ℕ, ◌+◌, false, ap, refl, sym, subst, arith}
 use Rattle.std.specs.Prelude.{Ok, Err}
 use Rattle.std.proofs.lemmas.Result.{err_from_is_err_and}
 use Rattle.sector_model.specs.History.{Slots}
 use Rattle.sector_model.specs.Readable.{readable}
 use Rattle.parity.specs.Xor.{xor_of_all}
 use Rattle.superblock.specs.declared.table.Table.{Table}
+use Rattle.array_io.specs.Believed.Holds.{row_count}
 use Rattle.array_io.specs.Steps.Scanning.{ScansOrFailsSlot}
 use Rattle.array_io.proofs.Reading.Scanning.{all_scanned, scanned_both, scanned_none, scanned_then}
 use Rattle.array_io.proofs.Writes.Writable.{same_readable}
 use Rattle.scrub.specs.Reports.{TellsBelow, counted, report_of}
-use Rattle.scrub.specs.Scrubbing.{Report, row_in}
-use Rattle.scrub.proofs.Telling.{report_of_all, tells_next, tells_none}
+use Rattle.scrub.specs.Scrubbing.{Report, row_in, rows_in_part}
+use Rattle.scrub.proofs.Telling.{report_of_part, tells_next, tells_none}
 use Rattle.scrub.proofs.rows.scrub_rows.Goals as goal
 
 pub loop-row-init : goal.loop-row-init
@@ -21,8 +22,9 @@ loop-row-init g c = record {
   its_slots = c.requires.its_slots;
   scanned = scanned_none _ _;
   told = subst (TellsBelow (g.B.Bank.honest c.args.bank.now) c.args.table.now
-      (readable (g.B.Bank.history c.args.bank.now)) 0) (sym c.new-report.ensures)
-      (tells_none (g.B.Bank.honest c.args.bank.now) c.args.table.now (readable (g.B.Bank.history c.args.bank.now)));
+      (readable (g.B.Bank.history c.args.bank.now)) c.args.first c.args.first) (sym c.new-report.ensures)
+      (tells_none (g.B.Bank.honest c.args.bank.now) c.args.table.now (readable (g.B.Bank.history c.args.bank.now))
+      c.args.first);
 }
 
 pub returns-in_err-sum_row-clause-scans : goal.returns-in_err-sum_row-clause-scans
@@ -68,10 +70,10 @@ loop-row-preserved g c =
       its_slots = c.sum_row.ensures.its_slots;
       scanned = scanned_both now.honest now.scanned all.1;
       told = subst (λ (r : Report). TellsBelow (g.B.Bank.honest c.args.bank.now) c.args.table.now
-          (readable (g.B.Bank.history c.args.bank.now)) (c.loop-row.row + 1) r)
-          {x = counted (report_of c.loop-row.report) c.is_zero.result} (sym c.count.ensures)
+          (readable (g.B.Bank.history c.args.bank.now)) c.args.first (c.loop-row.row + 1) r)
+          {x = counted (report_of c.loop-row.report) c.loop-row.row c.is_zero.result} (sym c.count.ensures)
           (tells_next (g.B.Bank.honest c.args.bank.now) c.args.table.now (readable (g.B.Bank.history c.args.bank.now))
-          c.loop-row.row (report_of c.loop-row.report) c.sum_row.new.sum c.is_zero.result
+          c.args.first c.loop-row.row (report_of c.loop-row.report) c.sum_row.new.sum c.is_zero.result
           now.told (λ fair. c.in_ok-sum_row.ensures.sum c.if-not-branch.false (now.honest fair)
           ∙ ap (λ (t : Table). xor_of_all (row_in t (readable (g.B.Bank.history c.loop-row.bank)) c.loop-row.row))
           now.same
@@ -82,9 +84,9 @@ loop-row-preserved g c =
 
 pub returns-clause-told : goal.returns-clause-told
 returns-clause-told g c =
-    let last : c.loop-row.row ≡ c.args.table.now.geometry.stripes * c.args.table.now.geometry.chunk = omega
-    (arith, c.loop-row-test.false, c.loop-row.auto.row-end, c.rows-row-end.ensures) in
-    report_of_all (g.B.Bank.honest c.args.bank.now) c.args.table.now (readable (g.B.Bank.history c.args.bank.now))
-    (report_of c.loop-row.report)
+    let last : c.loop-row.row ≡ c.args.first + rows_in_part (row_count c.args.table.now) c.args.first c.args.rows = omega
+    (arith, c.loop-row-test.false, c.loop-row.auto.row-end, c.rows.ensures, c.min-count.ensures, c.saturating_sub.ensures) in
+    report_of_part (g.B.Bank.honest c.args.bank.now) c.args.table.now (readable (g.B.Bank.history c.args.bank.now))
+    c.args.first c.args.rows (report_of c.loop-row.report)
     (subst (λ (n : ℕ). TellsBelow (g.B.Bank.honest c.args.bank.now) c.args.table.now
-    (readable (g.B.Bank.history c.args.bank.now)) n (report_of c.loop-row.report)) last c.loop-row.invariant.told)
+    (readable (g.B.Bank.history c.args.bank.now)) c.args.first n (report_of c.loop-row.report)) last c.loop-row.invariant.told)

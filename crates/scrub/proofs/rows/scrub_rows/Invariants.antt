@@ -1,4 +1,4 @@
--- Nothing but reads so far, of which none took a device down, and what is told of the rows before this one.
+-- Nothing but reads so far, of which none took a device down, and what is told of the rows of the part before this one.
 use Rattle.std.proofs.Common.{◌≡◌}
 use Rattle.sector_model.specs.Readable.{readable}
 use Rattle.array_io.specs.Steps.Scanning.{HasScanned}
@@ -14,6 +14,6 @@ invariant-loop-row g l = record {
   its_slots : HasItsSlots l.table (g.B.Bank.panel l.bank);
   scanned : HasScanned (g.B.Bank.honest l.initial.bank) (g.B.Bank.panel l.initial.bank) (g.B.Bank.panel l.bank)
       (g.B.Bank.history l.initial.bank) (g.B.Bank.history l.bank);
-  told : TellsBelow (g.B.Bank.honest l.initial.bank) l.initial.table (readable (g.B.Bank.history l.initial.bank)) l.row
-      (report_of l.report);
+  told : TellsBelow (g.B.Bank.honest l.initial.bank) l.initial.table (readable (g.B.Bank.history l.initial.bank)) l.first
+      l.row (report_of l.report);
 }

@@ -24,7 +24,8 @@ returns-then-self-ge-GREATEST_COUNT-clause-commits g c =
 pub returns-in_err-form_rows-clause-commits : goal.returns-in_err-form_rows-clause-commits
 returns-in_err-form_rows-clause-commits g c =
     let p = err_from_is_err_and c.from_residual.result c.from_residual.ensures.1 in
-    rw (p.1, p.2) (commit_unformed spellings (g.B.Bank.honest c.args.self.now.bank) c.args.self.now.entry (given_of c.args.writes.now.contents) c.args.self.now.table
+    rw (p.1, p.2) (commit_unformed spellings (g.B.Bank.honest c.args.self.now.bank) c.args.self.now.entry (given_of c.args.writes.now.contents)
+    c.args.self.now.table
     c.form_rows.new.table
     (g.B.Bank.panel c.args.self.now.bank) (g.B.Bank.panel c.form_rows.new.bank) (g.B.Bank.history c.args.self.now.bank) (g.B.Bank.history c.form_rows.new.bank)
     (λ fair. g.met.B.Bank.true_to _ fair) (λ fair. g.met.B.Bank.true_to _ (c.form_rows.ensures.honest.0 fair)) c.in_err-form_rows.field-0.0
@@ -67,7 +68,8 @@ next_seal-seal-requires-clause-listed g c = λ one.
 pub returns-in_err-put_on_journals-clause-commits : goal.returns-in_err-put_on_journals-clause-commits
 returns-in_err-put_on_journals-clause-commits g c =
     let p = err_from_is_err_and c.from_residual-in_err-put_on_journals.result c.from_residual-in_err-put_on_journals.ensures.1 in
-    rw (p.1, p.2) (put_unsealed spellings (g.B.Bank.honest c.args.self.now.bank) c.args.self.now.entry (given_of c.args.writes.now.contents) c.args.self.now.table
+    rw (p.1, p.2) (put_unsealed spellings (g.B.Bank.honest c.args.self.now.bank) c.args.self.now.entry (given_of c.args.writes.now.contents)
+    c.args.self.now.table
     c.form_rows.new.table
     (g.B.Bank.panel c.args.self.now.bank) (g.B.Bank.panel c.form_rows.new.bank) (g.B.Bank.history c.args.self.now.bank) (g.B.Bank.history c.form_rows.new.bank)
     (λ fair. g.met.B.Bank.true_to _ fair) (λ fair. g.met.B.Bank.true_to _ (c.form_rows.ensures.honest.0 fair))
@@ -108,7 +110,8 @@ returns-in_err-put_on_members-clause-commits g c =
 
 pub returns-clause-commits : goal.returns-clause-commits
 returns-clause-commits g c =
-    put_done spellings (g.B.Bank.honest c.args.self.now.bank) c.args.self.now.entry (given_of c.args.writes.now.contents) c.args.self.now.table c.form_rows.new.table
+    put_done spellings (g.B.Bank.honest c.args.self.now.bank) c.args.self.now.entry (given_of c.args.writes.now.contents) c.args.self.now.table
+    c.form_rows.new.table
     (g.B.Bank.panel c.args.self.now.bank) (g.B.Bank.panel c.form_rows.new.bank) (g.B.Bank.history c.args.self.now.bank) (g.B.Bank.history c.form_rows.new.bank)
     (λ fair. g.met.B.Bank.true_to _ fair) (λ fair. g.met.B.Bank.true_to _ (c.form_rows.ensures.honest.0 fair))
     (g.B.Bank.honest c.form_rows.new.bank) (λ fair. c.form_rows.ensures.honest.0 fair) c.next_seal-seal.result c.form_rows.new.entry

@@ -66,3 +66,9 @@ returns-in-Scrub-clause-honest g c = c.scrub.ensures.honest
 
 pub returns-in-Scrub-clause-applies : goal.returns-in-Scrub-clause-applies
 returns-in-Scrub-clause-applies g c = rw (c.in-Scrub.is, c.reply_to_scrub.ensures) c.scrub.ensures.scrubs
+
+pub returns-in-ScrubRows-clause-honest : goal.returns-in-ScrubRows-clause-honest
+returns-in-ScrubRows-clause-honest g c = c.scrub_rows.ensures.honest
+
+pub returns-in-ScrubRows-clause-applies : goal.returns-in-ScrubRows-clause-applies
+returns-in-ScrubRows-clause-applies g c = rw (c.in-ScrubRows.is, c.reply_to_scrub-in-ScrubRows.ensures) c.scrub_rows.ensures.scrubs

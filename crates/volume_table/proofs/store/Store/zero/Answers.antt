@@ -1,12 +1,12 @@
 -- It is refused as its admission says, or the range is made zero.
-use Rattle.std.proofs.Common.{◌≡◌, ◌+◌, ◌≤◌, ℕ, Err, Ok, sym, ◌∙◌, ap, subst, arith}
+use Rattle.std.proofs.Common.{sym, ◌∙◌, subst, arith}
 use Rattle.std.proofs.lemmas.Result.{err_from_is_err_and}
 use Rattle.layout_map.specs.declared.geometry.Geometry.{Geometry}
 use Rattle.array_io.specs.Believed.OpenArray.{array_view}
 use Rattle.extents.specs.SetExtents.{extents_in}
 use Rattle.volume_table.specs.Admission.{AreKept}
 use Rattle.volume_table.specs.OpenStore.{store_view}
-use Rattle.volume_table.proofs.KeptMaps.{blocks_are_placed, blocks_fit, blocks_least, kept_sized}
+use Rattle.volume_table.proofs.KeptMaps.{blocks_are_placed, blocks_fit, kept_sized}
 use Rattle.volume_table.proofs.ZeroedRanges.{zeroes_geometry}
 use Rattle.volume_table.proofs.ZeroedVolumes.{blocks_zeroed, zero_refused, zero_stays_ended}
 use Rattle.volume_table.proofs.store.Store.zero.Goals as goal
@@ -43,8 +43,8 @@ zero_range-answer-requires-clause-within g c =
 
 pub zero_range-answer-requires-clause-placed : goal.zero_range-answer-requires-clause-placed
 zero_range-answer-requires-clause-placed g c =
-    blocks_are_placed (extents_in c.args.self.now.array.table.geometry) c.args.self.now.table c.args.self.now.map c.args.name.now c.in_ok-volume.volume c.args.at
-    c.args.count c.args.self.now.kept c.in_ok-volume.ensures.found
+    blocks_are_placed (extents_in c.args.self.now.array.table.geometry) c.args.self.now.table c.args.self.now.map c.args.name.now c.in_ok-volume.volume
+    c.args.at c.args.count c.args.self.now.kept c.in_ok-volume.ensures.found
 
 pub returns-clause-zeroes : goal.returns-clause-zeroes
 returns-clause-zeroes g c =

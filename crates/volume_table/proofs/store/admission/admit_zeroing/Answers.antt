@@ -53,4 +53,5 @@ returns-in_err-found-clause-decides c = λ extents sectors volumes by.
     let p = err_from_is_err_and c.from_residual.result c.from_residual.ensures.1 in
     let f = none_found c.args.table.now.records c.args.name.now c.record_named.result c.in_err-found.field-0.0 p.0 c.in_err-found.ensures.value
     c.record_named.ensures p.2 in
-    rw (p.1, f.0) (no_volume_to_zero c.args.name.now c.args.at c.args.count volumes.volumes (absent_by extents c.args.table.now sectors volumes c.args.name.now by f.1))
+    rw (p.1, f.0) (no_volume_to_zero c.args.name.now c.args.at c.args.count volumes.volumes
+    (absent_by extents c.args.table.now sectors volumes c.args.name.now by f.1))

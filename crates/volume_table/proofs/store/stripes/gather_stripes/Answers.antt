@@ -1,4 +1,4 @@
-use Rattle.std.proofs.Common.{◌≡◌, ℕ, ◌+◌, ◌-◌, ◌*◌, ◌%◌, ◌<◌, ◌≤◌, Bool, false, true, List, inl, inr, sym, ◌∙◌, ap, ap₂, subst, subst₂, arith}
+use Rattle.std.proofs.Common.{◌≡◌, ℕ, ◌+◌, ◌-◌, ◌*◌, ◌%◌, ◌<◌, ◌≤◌, Bool, false, true, List, Option, inl, inr, length, sym, ◌∙◌, ap, ap₂, subst, subst₂, arith}
 use Rattle.std.proofs.lemmas.Bool.{cases_lt, true≢false}
 use Rattle.layout_map.specs.declared.geometry.Geometry.{Geometry}
 use Rattle.layout_map.specs.Placement.{stripe_blocks}
@@ -7,6 +7,7 @@ use Rattle.entry_runs.specs.declared.run.Run.{Run}
 use Rattle.batch.specs.ZeroRows.{HasMore}
 use Rattle.batch.specs.ZeroRuns.{zero_runs}
 use Rattle.extents.specs.declared.extent_layout.ExtentLayout.{ExtentLayout}
+use Rattle.extents.specs.declared.owned.Owned.{Owned}
 use Rattle.extents.specs.ExtentMaps.{HasPlace, place_of}
 use Rattle.extents.specs.SetExtents.{extents_in}
 use Rattle.volume_table.specs.WholeStripes.{FillStripe, GathersStripes}
@@ -29,6 +30,18 @@ stripe_more : (geometry : Geometry) (end last : ℕ) → end % stripe_blocks geo
     → last % stripe_blocks geometry.members geometry.chunk ≡ 0 → end < last → end + stripe_blocks geometry.members geometry.chunk ≤ last
 stripe_more geometry end last first whole less = stripe_before end last (stripe_blocks geometry.members geometry.chunk) (some_blocks geometry) first whole less
 
+-- the stripe, by where the extents of the set lie
+fill_in : (geometry : Geometry) (extents : ExtentLayout) (owners : List (Option Owned)) (number block stripe : ℕ) → extents ≡ extents_in geometry
+    → FillStripe geometry extents owners number block stripe → FillStripe geometry (extents_in geometry) owners number block stripe
+fill_in geometry extents owners number block stripe is fill = subst (λ (e : ExtentLayout). FillStripe geometry e owners number block stripe) is fill
+
+-- there is room for its rows
+rows_below : (geometry : Geometry) (extents : ExtentLayout) (owners : List (Option Owned)) (number block stripe : ℕ)
+    → length owners ≤ (extents_in geometry).count → extents ≡ extents_in geometry → HasPlace owners number (place_of (extents_in geometry) block)
+    → FillStripe geometry extents owners number block stripe → stripe * geometry.chunk + geometry.chunk < 4294967296
+rows_below geometry extents owners number block stripe sized is there fill =
+    rows_fit geometry stripe (stripe_fits geometry owners number block stripe sized there (fill_in geometry extents owners number block stripe is fill))
+
 pub loop-end-init : goal.loop-end-init
 loop-end-init c = record {
   least = omega arith;
@@ -47,32 +60,26 @@ stripe_at-number-requires-clause-placed c =
 
 pub overflow_mul-first : goal.overflow_mul-first
 overflow_mul-first c =
-    let fill = subst (λ (e : ExtentLayout). FillStripe c.args.geometry.now e c.args.map.now c.args.volume c.loop-end.end c.stripe_at-number.result) c.of-extents.ensures
-    c.stripe_at-number.ensures in
-    let fits = rows_fit c.args.geometry.now c.stripe_at-number.result (stripe_fits c.args.geometry.now c.args.map.now c.args.volume c.loop-end.end c.stripe_at-number.result
-    c.requires.sized (c.requires.placed c.loop-end.end c.loop-end.invariant.least c.loop-end-test.true) fill) in
+    let fits = rows_below c.args.geometry.now c.of-extents.result c.args.map.now c.args.volume c.loop-end.end c.stripe_at-number.result c.requires.sized
+    c.of-extents.ensures (c.requires.placed c.loop-end.end c.loop-end.invariant.least c.loop-end-test.true) c.stripe_at-number.ensures in
     omega (arith, fits, ap (λ (n : ℕ). c.stripe_at-number.result * n) c.from-in-loop-end.ensures)
 
 pub overflow_cast-first : goal.overflow_cast-first
 overflow_cast-first c =
-    let fill = subst (λ (e : ExtentLayout). FillStripe c.args.geometry.now e c.args.map.now c.args.volume c.loop-end.end c.stripe_at-number.result) c.of-extents.ensures
-    c.stripe_at-number.ensures in
-    let fits = rows_fit c.args.geometry.now c.stripe_at-number.result (stripe_fits c.args.geometry.now c.args.map.now c.args.volume c.loop-end.end c.stripe_at-number.result
-    c.requires.sized (c.requires.placed c.loop-end.end c.loop-end.invariant.least c.loop-end-test.true) fill) in
+    let fits = rows_below c.args.geometry.now c.of-extents.result c.args.map.now c.args.volume c.loop-end.end c.stripe_at-number.result c.requires.sized
+    c.of-extents.ensures (c.requires.placed c.loop-end.end c.loop-end.invariant.least c.loop-end-test.true) c.stripe_at-number.ensures in
     omega (arith, fits, ap (λ (n : ℕ). c.stripe_at-number.result * n) c.from-in-loop-end.ensures)
 
 pub add-requires-clause-below : goal.add-requires-clause-below
 add-requires-clause-below c =
-    let fill = subst (λ (e : ExtentLayout). FillStripe c.args.geometry.now e c.args.map.now c.args.volume c.loop-end.end c.stripe_at-number.result) c.of-extents.ensures
-    c.stripe_at-number.ensures in
-    let fits = rows_fit c.args.geometry.now c.stripe_at-number.result (stripe_fits c.args.geometry.now c.args.map.now c.args.volume c.loop-end.end c.stripe_at-number.result
-    c.requires.sized (c.requires.placed c.loop-end.end c.loop-end.invariant.least c.loop-end-test.true) fill) in
+    let fits = rows_below c.args.geometry.now c.of-extents.result c.args.map.now c.args.volume c.loop-end.end c.stripe_at-number.result c.requires.sized
+    c.of-extents.ensures (c.requires.placed c.loop-end.end c.loop-end.invariant.least c.loop-end-test.true) c.stripe_at-number.ensures in
     omega (arith, fits, ap (λ (n : ℕ). c.stripe_at-number.result * n) c.from-in-loop-end.ensures, c.from-in-loop-end-2.ensures)
 
 pub add-requires-clause-apart : goal.add-requires-clause-apart
 add-requires-clause-apart c = λ row least below has.
     let more = stripe_more c.args.geometry.now c.loop-end.end c.args.last c.loop-end.invariant.begins c.requires.whole c.loop-end-test.true in
-    let fill = subst (λ (e : ExtentLayout). FillStripe c.args.geometry.now e c.args.map.now c.args.volume c.loop-end.end c.stripe_at-number.result) c.of-extents.ensures
+    let fill = fill_in c.args.geometry.now c.of-extents.result c.args.map.now c.args.volume c.loop-end.end c.stripe_at-number.result c.of-extents.ensures
     c.stripe_at-number.ensures in
     let first = ap (λ (n : ℕ). c.stripe_at-number.result * n) c.from-in-loop-end.ensures in
     stripe_is_new c.args.geometry.now (extents_in c.args.geometry.now) c.args.map.now c.args.volume c.args.at c.loop-end.end c.stripe_at-number.result
@@ -96,7 +103,7 @@ loop-end-preserved c =
     let stripe = stripe_is c.args.geometry.now c.from.result c.from-2.result c.from.ensures c.from-2.ensures in
     let geometry = c.args.geometry.now in
     let more = stripe_more geometry c.loop-end.end c.args.last c.loop-end.invariant.begins c.requires.whole c.loop-end-test.true in
-    let fill = subst (λ (e : ExtentLayout). FillStripe geometry e c.args.map.now c.args.volume c.loop-end.end c.stripe_at-number.result) c.of-extents.ensures
+    let fill = fill_in geometry c.of-extents.result c.args.map.now c.args.volume c.loop-end.end c.stripe_at-number.result c.of-extents.ensures
     c.stripe_at-number.ensures in
     record {
       least = omega (arith, c.loop-end.invariant.least);

@@ -17,7 +17,7 @@ returns c =
     let there = subst (λ (e : ExtentLayout). HasPlace c.args.map.now c.args.volume (place_of e c.args.block)) c.requires.of_set c.requires.placed in
     let is_there = subst (λ (e : ExtentLayout). IsWhere e c.args.map.now c.args.volume c.args.block c.where_is.result) c.requires.of_set c.where_is.ensures in
     let fits = stripe_in_extent geometry c.requires.two c.args.block c.requires.first in
-    let begins = ap₂ (λ logical each. logical % each) (is_there there.0 there.1) same ∙ begins_stripe geometry c.requires.two c.args.block c.requires.first there.0
-    in
+    let begins = ap₂ (λ logical each. logical % each) (is_there there.0 there.1) same
+    ∙ begins_stripe geometry c.requires.two c.args.block c.requires.first there.0 in
     subst (λ (e : ExtentLayout). FillStripe geometry e c.args.map.now c.args.volume c.args.block (c.where_is.result / blocks)) (sym c.requires.of_set)
     (fills_stripe geometry extents c.args.map.now c.args.volume c.args.block c.where_is.result blocks same (omega (arith, fits, same)) begins is_there)

@@ -1,5 +1,5 @@
 -- Each commit makes more blocks zero.
-use Rattle.std.proofs.Common.{◌≡◌, ◌≤◌, ℕ, Err, Ok, sym, ◌∙◌, ap, subst, arith}
+use Rattle.std.proofs.Common.{Err, sym, ◌∙◌, ap, subst, arith}
 use Rattle.std.proofs.lemmas.Result.{err_from_is_err_and}
 use Rattle.layout_map.specs.declared.geometry.Geometry.{Geometry}
 use Rattle.array_io.specs.Believed.OpenArray.{array_view}

@@ -1,12 +1,12 @@
 -- The three parts, one after another.
-use Rattle.std.proofs.Common.{◌≡◌, ◌≤◌, ℕ, length, Err, Ok, sym, ◌∙◌, ap, subst, arith}
+use Rattle.std.proofs.Common.{◌≡◌, ◌≤◌, length, Err, Ok, sym, ◌∙◌, ap, subst, arith}
 use Rattle.std.proofs.lemmas.Result.{err_from_is_err_and}
 use Rattle.layout_map.specs.declared.geometry.Geometry.{Geometry}
 use Rattle.array_io.specs.Believed.OpenArray.{array_view}
 use Rattle.extents.specs.ExtentMaps.{HasPlace, place_of}
 use Rattle.extents.specs.SetExtents.{extents_in}
 use Rattle.volume_table.specs.ZeroedRanges.{AreWholeStripes, ZeroesInTurn}
-use Rattle.volume_table.proofs.ZeroedRanges.{IsZeroedUpTo, part_ends, part_goes_on, part_is_last, range_begins, zeroes_geometry}
+use Rattle.volume_table.proofs.ZeroedRanges.{part_ends, part_goes_on, part_is_last, range_begins, zeroes_geometry}
 use Rattle.volume_table.proofs.store.zero_ranges.zero_range.Goals as goal
 
 pub zero_part-requires-clause-placed : goal.zero_part-requires-clause-placed

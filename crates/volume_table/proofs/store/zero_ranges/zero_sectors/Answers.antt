@@ -1,5 +1,5 @@
 -- One commit makes the blocks zero.
-use Rattle.std.proofs.Common.{◌≡◌, ◌<◌, ◌≤◌, ℕ, length, arith, subst}
+use Rattle.std.proofs.Common.{arith, subst}
 use Rattle.layout_map.specs.declared.geometry.Geometry.{Geometry}
 use Rattle.array_io.specs.Believed.OpenArray.{array_view}
 use Rattle.batch.specs.Places.{AreOfSet}

@@ -1,0 +1,4 @@
+pub mod Arguments
+pub mod Demands
+pub mod Inputs
+pub mod Words

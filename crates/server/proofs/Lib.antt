@@ -1,0 +1,16 @@
+pub mod ReadRanges
+pub mod ServedRequests
+pub mod Writing
+pub mod Asked
+pub mod Coming
+pub mod WriteReplies
+pub mod Committing
+pub mod Staging
+pub mod Parts
+pub mod Taking
+pub mod Reading
+pub mod Together
+pub mod Fair
+pub mod Answered
+pub mod Limits
+pub mod Finished

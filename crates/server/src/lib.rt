@@ -1,0 +1,17 @@
+//! Requests are served over a store of volumes: blocks are bytes, and writes that are sent together are committed
+//! together.
+#![tactic(auto)]
+
+mod answering;
+mod counts;
+mod ending;
+mod kinds;
+mod law;
+mod serving;
+mod telling;
+mod waiting;
+
+pub use counts::{MOST_LINES_TOGETHER, MOST_WRITTEN_AT_ONCE};
+pub use ending::Ending;
+pub use law::law_of_serving;
+pub use serving::serve_requests;

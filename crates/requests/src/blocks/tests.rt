@@ -30,15 +30,17 @@ fn reads_three(rt: &impl Abort, input: &[u8], step: usize) {
     for (block, wanted) in blocks.iter().zip(input.chunks(512)) {
         same(rt, block.as_slice(), wanted);
     }
+    assert!(rt; input.len() >= 1_536);
     same(rt, reader.input, &input[1_536..]);
 }
 
 #[test]
 fn fills_blocks_in_parts(rt: HostRuntime) {
     let input = numbered(&rt, 1_538);
+    let three = numbered(&rt, 1_536);
     for step in STEPS {
         reads_three(&rt, &input, step);
-        reads_three(&rt, &input[..1_536], step);
+        reads_three(&rt, &three, step);
     }
 }
 
@@ -52,11 +54,12 @@ fn skips(rt: &impl Abort, input: &[u8], step: usize, count: u32, want: bool, lef
 #[test]
 fn skips_whole_blocks(rt: HostRuntime) {
     let input = numbered(&rt, 1_538);
+    let three = numbered(&rt, 1_536);
     for step in STEPS {
         skips(&rt, &input, step, 0, true, 1_538);
         skips(&rt, &input, step, 1, true, 1_026);
         skips(&rt, &input, step, 3, true, 2);
-        skips(&rt, &input[..1_536], step, 3, true, 0);
+        skips(&rt, &three, step, 3, true, 0);
         skips(&rt, &input, step, 4, false, 0);
         skips(&rt, &input, step, 4_294_967_295, false, 0);
     }
@@ -67,6 +70,7 @@ fn reads_no_block_that_the_input_cuts(rt: HostRuntime) {
     let input = numbered(&rt, 1_535);
     for step in STEPS {
         for length in [0, 1, 511, 512, 513, 1_024, 1_535] {
+            assert!(&rt; length <= input.len());
             let mut reader = Pieces::new(&input[..length], step, NEVER);
             let mut blocks = unread();
             same(&rt, read_blocks(&mut reader, &mut blocks), Ok(false));

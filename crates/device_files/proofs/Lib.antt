@@ -5,6 +5,7 @@ pub mod Held
 pub mod Lent
 pub mod MadeSafe
 pub mod PathsBySlot
+pub mod Reopened
 pub mod Shortest
 pub mod SlotBySlot
 pub mod Tables

@@ -158,6 +158,17 @@ IsStillOpen (Some old) None Holds = ⊥
 abbrev pub IsSince : {F : Type 0} → (tells : Bool) (told : F → List ℕ) (Holds : F → Type 0) → F → Type 0
 IsSince tells told Holds opened = (file : _) × Holds file × (IsTrue tells → told file ≡ told opened)
 
+-- a file is still open and holds what it did, or it was closed
+abbrev pub IsKeptOrClosed : {F : Type 0} → (tells : Bool) (told : F → List ℕ) → (old new : Option F) → Type 0
+IsKeptOrClosed tells told old None = Unit {0}
+IsKeptOrClosed tells told None (Some new) = ⊥
+IsKeptOrClosed tells told (Some old) (Some new) = IsTrue tells → told new ≡ told old
+
+-- the file of a slot, if there is one, is what opening its path came to
+abbrev pub IsReopened : {F : Type 0} → (tells : Bool) (told : F → List ℕ) (Opens : Result (Option F) OpenFault → Type 0) → Option F → Type 0
+IsReopened tells told Opens None = Unit {0}
+IsReopened tells told Opens (Some file) = (opened : _) × Opens (Ok (Some opened)) × (IsTrue tells → told file ≡ told opened)
+
 -- A file that was opened was made safe as it stands, or its sync failed: then there is none, and its slot is marked.
 abbrev pub IsMadeSafe : {F : Type 0} → (tells : Bool) (told : F → List ℕ) (IsSafe HasFailed : F → Type 0) → (old new : Option F) (unsynced : Bool) → Type 0
 IsMadeSafe tells told IsSafe HasFailed None new unsynced = (new ≡ None) × (unsynced ≡ false)

@@ -24,6 +24,7 @@ mod memory;
 mod opening;
 mod passing;
 mod paths;
+mod reopening;
 mod reserving;
 mod slot_files;
 
@@ -40,6 +41,7 @@ pub use memory::HeldFile;
 pub use opening::{open_folder, refuse_unsynced};
 pub use passing::{pass_over, refuse_barred};
 use report::replies::{Answer, write_reply, write_slot_line, write_text};
+pub use reopening::reopen_slot;
 pub use reserving::{SlotPaths, lengthen_slot, renew_slot, slot_paths, undo};
 use sector_model::Refusal;
 pub use slot_files::{CreateFault, OpenFault, SlotFiles};

@@ -161,8 +161,8 @@ fn make_slot_safe<G: Growing + Drop>(
     Ok(())
 }
 
-// Syncs a file, where there is one.
-fn sync_open<G: Growing>(file: &mut Option<G>) -> io::Result<()>
+/// Syncs a file, where there is one.
+pub(super) fn sync_open<G: Growing>(file: &mut Option<G>) -> io::Result<()>
     ensures kept { IsStillOpen file.old file.new
         (λ old new. (IsTrue G.tells → G.told new ≡ G.told old) × (G.is_locked old → G.is_locked new)) }
     ensures safe { OnOk result (IfSome file.new G.is_safe) }

@@ -14,3 +14,4 @@ pub mod Fair
 pub mod Answered
 pub mod Limits
 pub mod Finished
+pub mod Opened

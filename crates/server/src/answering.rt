@@ -95,8 +95,8 @@ pub(crate) fn ended_by(outcome: &Outcome) -> Result<(), Refusal>
     }
 }
 
-// What a call is that answers nothing but that it was done.
-fn outcome_of(answer: Result<(), Refusal>) -> Outcome
+/// What a call is that answers nothing but that it was done.
+pub(crate) fn outcome_of(answer: Result<(), Refusal>) -> Outcome
     ensures { (buffer : List Block) → told_in result buffer ≡ done_told answer }
 {
     match answer {

@@ -54,7 +54,8 @@ pub fn serve_requests<R: BufRead, W: Write, B: Bank>(
 ) -> Result<Ending, Refusal>
     requires going { store.old.ended ≡ None }
     ensures honest { IsHonest store.old.array ↔ IsHonest store.new.array }
-    ensures serves { HasServed (IsHonest store.old.array) (store_view store.old) (store_view store.new)
+    ensures serves { (first : B) → (B.honest first → IsHonest store.old.array)
+        → HasServed (B.honest first) (store_view store.old) (store_view store.new)
         (streams (R.remaining reader.old) (W.contents writer.old))
         (streams (R.remaining reader.new) (W.contents writer.new)) result }
 {

@@ -24,7 +24,7 @@ use Rattle.device_files.specs.declared.FolderFault.TheVariants.{Refused}
 use Rattle.set_commands.specs.Run.{StoppedByStore, Streams}
 use Rattle.set_commands.specs.Serving.{IsEnd, IsNotOpened, LosesOn, ServesOn}
 use Rattle.command_line.specs.declared.Invocation.{Invocation}
-use Rattle.command_line.specs.declared.Invocation.TheVariants.{Change, Examine, Fail, Make, MakeSized, Rebuild, Replace, Run, Scrub, Status, Upgrade}
+use Rattle.command_line.specs.declared.Invocation.TheVariants.{Change, Examine, Fail, Make, MakeSized, Rebuild, Replace, Run, Scrub, Serve, Status, Upgrade}
 use Rattle.command_line.specs.declared.Size.{Size}
 use Rattle.raidtool.specs.Begun.{BeginsOpened, BeginsOver, BeginsSafely, IsNoTableOver}
 use Rattle.raidtool.specs.Causes.{HasCause, IsCausedBy, IsCauseOfMake, IsCauseOfSized, IsCauseOver, IsPlainEnd}
@@ -113,16 +113,19 @@ module _ {F : Type 0} (growing : Ghosts F) (left : F → List ℕ) where
       → ⊥)
       → ((folder : Bor Text) (id : List ℕ) (slot : ℕ) → line ≡ Replace folder id slot → ⊥)
       → ((folder : Bor Text) (id : Option (List ℕ)) (json check : Bool) → line ≡ Examine folder id json check → ⊥)
+      → ((folder : Bor Text) (id : List ℕ) → line ≡ Serve folder id → ⊥)
       → IsCauseOver growing left Opens line refusal → HasCause growing left reading left_read Opens Inspects line refusal
-  served_cause reading left_read Opens Inspects (Make folder id members chunk stripes) refusal no_make no_sized no_replace no_inspection cause =
+  served_cause reading left_read Opens Inspects (Make folder id members chunk stripes) refusal no_make no_sized no_replace no_inspection no_serve cause =
       absurd (no_make folder id members chunk stripes refl)
   served_cause reading left_read Opens Inspects (MakeSized folder id members chunk size over reserve) refusal no_make no_sized no_replace no_inspection
-      cause = absurd (no_sized folder id members chunk size over reserve refl)
-  served_cause reading left_read Opens Inspects (Replace folder id slot) refusal no_make no_sized no_replace no_inspection cause =
+      no_serve cause = absurd (no_sized folder id members chunk size over reserve refl)
+  served_cause reading left_read Opens Inspects (Replace folder id slot) refusal no_make no_sized no_replace no_inspection no_serve cause =
       absurd (no_replace folder id slot refl)
-  served_cause reading left_read Opens Inspects (Examine folder id json check) refusal no_make no_sized no_replace no_inspection cause =
+  served_cause reading left_read Opens Inspects (Examine folder id json check) refusal no_make no_sized no_replace no_inspection no_serve cause =
       absurd (no_inspection folder id json check refl)
-  served_cause reading left_read Opens Inspects line refusal no_make no_sized no_replace no_inspection cause = cause
+  served_cause reading left_read Opens Inspects (Serve folder id) refusal no_make no_sized no_replace no_inspection no_serve cause =
+      absurd (no_serve folder id refl)
+  served_cause reading left_read Opens Inspects line refusal no_make no_sized no_replace no_inspection no_serve cause = cause
 
   -- a table that could not be sought over these files could not be over some that are safe
   pub no_table_safely : (id : List ℕ) (files : List (Option F)) (refusal : Refusal) → AreAllSafe growing.is_safe files

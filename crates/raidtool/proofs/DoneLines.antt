@@ -11,7 +11,7 @@ use Rattle.sector_model.specs.declared.refusal.Refusal.TheVariants.{WriteFault}
 use Rattle.layout_map.specs.declared.geometry.Geometry.{Geometry}
 use Rattle.recovery.specs.Making.{BankView}
 use Rattle.command_line.specs.declared.Invocation.{Invocation}
-use Rattle.command_line.specs.declared.Invocation.TheVariants.{Change, Examine, Fail, Make, MakeSized, Rebuild, Replace, Run, Scrub, Status, Upgrade}
+use Rattle.command_line.specs.declared.Invocation.TheVariants.{Change, Examine, Fail, Make, MakeSized, Rebuild, Replace, Run, Scrub, Serve, Status, Upgrade}
 use Rattle.command_line.specs.declared.Size.{Size}
 use Rattle.device_files.specs.declared.FolderFault.{FolderFault}
 use Rattle.device_files.specs.declared.slot_files.CreateFault.{CreateFault}
@@ -27,9 +27,11 @@ use Rattle.device_files.specs.Faults.{fault_line}
 use Rattle.raidtool.specs.Stops.{IsBlamed}
 use Rattle.set_commands.specs.Run.{Streams}
 use Rattle.report.specs.Written.{AppendsPart}
+use Rattle.raidtool.specs.ServedRuns.{ServesFolder}
 use Rattle.raidtool.specs.Sized.{IsFoundIn, IsSizeTold, sized_text}
 use Rattle.raidtool.specs.Texts.{made_text}
-use Rattle.raidtool.specs.Tool.{IsBlamedIn, IsChecked, IsCutOff, IsEndOfLine, IsFirst, IsMisshapen, IsNone, IsOfFiles, IsPartWritten, IsRefusalOf, IsStopOf}
+use Rattle.raidtool.specs.Tool.{ComesFirst, ComesFirstIn, IsBlamedIn, IsChecked, IsCutOff, IsEndOfLine, IsFirst, IsFirstIn, IsMisshapen, IsNone, IsOfFiles}
+use Rattle.raidtool.specs.Tool.{IsPartWritten, IsRefusalOf, IsStopOf}
 use Rattle.raidtool.specs.Tool.{IsWritten, PassesNone, WasRefused, WasStopped}
 use Rattle.raidtool.specs.Causes.{folder_text}
 use Rattle.raidtool.proofs.InspectionsTold.{inspections_written}
@@ -40,6 +42,7 @@ use Rattle.raidtool.proofs.Statuses.{told_status}
 written_by : (drawn : Bool) (line : Invocation) (honest : Type 0) (bank : BankView) (was is : Streams) → DoesOn line honest bank was is
     → IsWritten drawn line was.contents is.contents
 written_by drawn (Run folder id) honest bank was is does = tt
+written_by drawn (Serve folder id) honest bank was is does = absurd does
 written_by drawn (Make folder id members chunk stripes) honest bank was is does = absurd does
 written_by drawn (MakeSized folder id members chunk size over reserve) honest bank was is does = absurd does
 written_by drawn (Change folder id change) honest bank was is does = told_change honest id change bank _ does
@@ -69,6 +72,7 @@ module _ {F L : Type 0} (growing : Ghosts F) (left : F → List ℕ) (reading : 
   written_of drawn (Examine folder id json check) was is before after done =
       inspections_written (IsTrue reading.tells) id json done.bank was.contents is.contents done.examines
   written_of drawn (Run folder id) was is before after done = tt
+  written_of drawn (Serve folder id) was is before after done = tt
   written_of drawn (Status folder id json check) was is before after done = written_by drawn (Status folder id json check) _ done.over.bank was is
       done.over.does
   written_of drawn (Fail folder id slot) was is before after done = written_by drawn (Fail folder id slot) _ done.over.bank was is done.over.does
@@ -108,16 +112,18 @@ module _ {F L : Type 0} (growing : Ghosts F) (left : F → List ℕ) (reading : 
       → ⊥)
       → ((folder : Bor Text) (id : List ℕ) (slot : ℕ) → line ≡ Replace folder id slot → ⊥)
       → ((folder : Bor Text) (id : Option (List ℕ)) (json check : Bool) → line ≡ Examine folder id json check → ⊥)
+      → ((folder : Bor Text) (id : List ℕ) → line ≡ Serve folder id → ⊥)
       → OnOk done (IsServedOver growing left Opens line was is before after) → OnOk done (Does drawn line was is before after)
-  served_done drawn (Make folder id members chunk stripes) done was is before after no_make no_sized no_replace no_inspection served =
+  served_done drawn (Make folder id members chunk stripes) done was is before after no_make no_sized no_replace no_inspection no_serve served =
       absurd (no_make folder id members chunk stripes refl)
-  served_done drawn (MakeSized folder id members chunk size over reserve) done was is before after no_make no_sized no_replace no_inspection served =
+  served_done drawn (MakeSized folder id members chunk size over reserve) done was is before after no_make no_sized no_replace no_inspection no_serve served =
       absurd (no_sized folder id members chunk size over reserve refl)
-  served_done drawn (Replace folder id slot) done was is before after no_make no_sized no_replace no_inspection served =
+  served_done drawn (Replace folder id slot) done was is before after no_make no_sized no_replace no_inspection no_serve served =
       absurd (no_replace folder id slot refl)
-  served_done drawn (Examine folder id json check) done was is before after no_make no_sized no_replace no_inspection served =
+  served_done drawn (Examine folder id json check) done was is before after no_make no_sized no_replace no_inspection no_serve served =
       absurd (no_inspection folder id json check refl)
-  served_done drawn line done was is before after no_make no_sized no_replace no_inspection served = served
+  served_done drawn (Serve folder id) done was is before after no_make no_sized no_replace no_inspection no_serve served = absurd (no_serve folder id refl)
+  served_done drawn line done was is before after no_make no_sized no_replace no_inspection no_serve served = served
 
 -- a beginning of what the making of a set of a wished room writes was written
 pub sized_cut : {F : Type 0} (growing : Ghosts F) (left : F → List ℕ) (Creates : (path : List ℕ) → Result (F × Before) CreateFault → Type 0)
@@ -180,6 +186,7 @@ sized_blamed growing Opens Creates Inspects folder id members chunk size over re
 -- a refusal of a line is one of its own
 end_of_line : (line : Invocation) (refusal : Refusal) → IsStopOf line (Refused refusal) → IsEndOfLine line refusal
 end_of_line (Run folder id) refusal stops = stops
+end_of_line (Serve folder id) refusal stops = stops
 end_of_line (Make folder id members chunk stripes) refusal stops = stops
 end_of_line (Status folder id json check) refusal stops = stops
 end_of_line (Fail folder id slot) refusal stops = stops
@@ -192,18 +199,39 @@ end_of_line (MakeSized folder id members chunk size over reserve) refusal stops 
 end_of_line (Change folder id change) refusal stops = stops
 
 -- it is a refusal, or a fault of a file or a folder
-by_kind : (fault : FolderFault) → ((refusal : Refusal) × (fault ≡ Refused refusal)) ⊎ (IsOfFiles fault × IsFirst fault)
-by_kind (Refused refusal) = inl (refusal, refl)
-by_kind fault = inr (tt, tt)
+by_kind : (line : Invocation) (fault : FolderFault) → ((refusal : Refusal) × (fault ≡ Refused refusal)) ⊎ (IsOfFiles fault × IsFirstIn line fault)
+by_kind line (Refused refusal) = inl (refusal, refl)
+by_kind line fault = inr (tt, tt)
+
+-- what comes first for a line comes first
+first_refusal : (line : Invocation) (refusal : Refusal) → ComesFirstIn line refusal → ComesFirst refusal
+first_refusal (Serve folder id) refusal first = absurd first
+first_refusal line refusal first = first
+
+pub first_in : (line : Invocation) (fault : FolderFault) → IsFirstIn line fault → IsFirst fault
+first_in line (Refused refusal) first = first_refusal line refusal first
+first_in line fault first = tt
+
+-- for one that may have several runs that is a fault of a file or a folder
+pub first_of_files : (folder : Bor Text) (id : List ℕ) (fault : FolderFault) → IsFirstIn (Serve folder id) fault → IsOfFiles fault
+first_of_files folder id (Refused refusal) first = absurd first
+first_of_files folder id fault first = tt
+
+-- requests were served
+pub requests_served : {F : Type 0} (growing : Ghosts F) (left : F → List ℕ) (Opens : (path : List ℕ) → Result (Option F) OpenFault → Type 0)
+    (folder : List ℕ) (id : List ℕ) (done : Result (Unit {0}) FolderFault) (was is : Streams) (health : Health)
+    → OnOk done (ServesFolder growing left Opens folder id was is) → OnOk done (ServesFolder growing left Opens folder id was is × (health ≡ health))
+requests_served growing left Opens folder id (Ok value) was is health served = (served, refl)
+requests_served growing left Opens folder id (Err fault) was is health served = tt
 
 -- the program says what stopped a line
 pub was_stopped : (Caused : Refusal → Type 0) (Blamed : FolderFault → Type 0) (line : Invocation) (folder : List ℕ) (Told : List ℕ → Type 0) (Same : Type 0)
     (fault : FolderFault)
-    → folder ≡ folder_text line → IsStopOf line fault → Blamed fault → Told (fault_line folder fault) → (IsFirst fault → Same)
+    → folder ≡ folder_text line → IsStopOf line fault → Blamed fault → Told (fault_line folder fault) → (IsFirstIn line fault → Same)
     → ((refusal : Refusal) → fault ≡ Refused refusal → IsChecked line → ¬ IsNone refusal)
     → ((refusal : Refusal) → fault ≡ Refused refusal → Caused refusal)
-    → WasRefused (IsRefusalOf line Caused) Told Same ⊎ WasStopped line Blamed Told Same
-was_stopped Caused Blamed line folder Told Same fault is stops blamed told alone apart cause = elim (by_kind fault) [
+    → WasRefused (IsRefusalOf line Caused) (ComesFirstIn line) Told Same ⊎ WasStopped line Blamed Told Same
+was_stopped Caused Blamed line folder Told Same fault is stops blamed told alone apart cause = elim (by_kind line fault) [
   | inl (refusal, same) ↦ inl (record {
     refusal = refusal;
     ends = record {
@@ -212,7 +240,7 @@ was_stopped Caused Blamed line folder Told Same fault is stops blamed told alone
       caused = cause refusal same;
     };
     told = subst (λ (f : FolderFault). Told (fault_line folder f)) same told;
-    alone = λ first. alone (subst IsFirst (sym same) first);
+    alone = λ first. alone (subst (IsFirstIn line) (sym same) first);
   })
   | inr (of_files, first) ↦ inr (record {
     fault = fault;

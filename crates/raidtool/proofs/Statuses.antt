@@ -114,7 +114,7 @@ fresh_first refusal ends first = elim (end_of_fresh refusal ends) [ inl served �
 -- the same of a script over a set that is made for it
 pub fresh_refused : (Same : Type 0) (Told : List ℕ → Type 0) (done : Result (Unit {0}) Refusal) (status : ℕ) → status ≡ (if is_ok done then 0 else 1)
     → IfErr done IsFreshEnd → IfErr done (λ refusal. Told (refusal_line refusal)) → IfErr done (λ refusal. IsEarly refusal ⊎ (refusal ≡ NotUsable) → Same)
-    → (status ≡ 0) ⊎ ((status ≡ 1) × WasRefused IsFreshEnd Told Same)
+    → (status ≡ 0) ⊎ ((status ≡ 1) × WasRefused IsFreshEnd ComesFirst Told Same)
 fresh_refused Same Told (Ok value) status is ends told alone = inl is
 fresh_refused Same Told (Err refusal) status is ends told alone =
     inr (is, record { refusal = refusal; ends = ends; told = told; alone = λ first. alone (fresh_first refusal ends first) })

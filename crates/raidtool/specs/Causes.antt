@@ -9,7 +9,7 @@ use Rattle.recovery.specs.Making.{BankView}
 use Rattle.volume_table.specs.VolumeStep.{OnSet, OnVolumes}
 use Rattle.volume_table.specs.VolumeStep.{Fail as FailSlot, Replace as ReplaceDevice, Scrub as ScrubSet, Upgrade as UpgradeTable}
 use Rattle.command_line.specs.declared.Invocation.{Invocation}
-use Rattle.command_line.specs.declared.Invocation.TheVariants.{Change, Examine, Fail, Make, MakeSized, Rebuild, Replace, Run, Scrub, Status, Upgrade}
+use Rattle.command_line.specs.declared.Invocation.TheVariants.{Change, Examine, Fail, Make, MakeSized, Rebuild, Replace, Run, Scrub, Serve, Status, Upgrade}
 use Rattle.command_line.specs.declared.Size.{Size}
 use Rattle.device_files.specs.declared.growing.Growing.{Ghosts}
 use Rattle.device_files.specs.declared.FolderFault.{FolderFault}
@@ -19,6 +19,7 @@ use Rattle.device_files.specs.DeviceFiles.{IsNoTableIn, slot_path}
 use Rattle.raidtool.specs.Begun.{BeginsInspected, BeginsOpened, BeginsSafely, IsNoTableOver}
 use Rattle.raidtool.specs.Done.{HasSizes, command_for}
 use Rattle.raidtool.specs.FolderFiles.{HoldsOfTaken}
+use Rattle.raidtool.specs.ServedRuns.{IsCauseOfServing}
 use Rattle.raidtool.specs.Sized.{IsShapeless, IsSizedFor, IsTooShort}
 use Rattle.raidtool.specs.OtherSets.{IsRefusedMake}
 use Rattle.set_commands.specs.Examining.{RefusesInspecting}
@@ -28,6 +29,7 @@ use Rattle.set_commands.specs.Serving.{IsNotOpened, RefusesOn, ServesOn, StopsRe
 -- the folder of a line
 abbrev pub folder_text : Invocation → List ℕ
 folder_text (Run folder id) = folder.now
+folder_text (Serve folder id) = folder.now
 folder_text (Make folder id members chunk stripes) = folder.now
 folder_text (Status folder id json check) = folder.now
 folder_text (Fail folder id slot) = folder.now
@@ -42,6 +44,7 @@ folder_text (Change folder id change) = folder.now
 -- the id of the set of a line; of one that may look at each set, none
 abbrev pub id_text : Invocation → List ℕ
 id_text (Run folder id) = id
+id_text (Serve folder id) = id
 id_text (Make folder id members chunk stripes) = id
 id_text (Status folder id json check) = id
 id_text (Fail folder id slot) = id
@@ -72,6 +75,7 @@ RefusesReplace honest id slot bank refusal = IsNotOpened honest id bank refusal 
 abbrev pub IsCauseOn : Invocation → (honest : Type 0) (bank : BankView) → Refusal → Type 0
 IsCauseOn (Run folder id) honest bank refusal = IsNotOpened honest id bank refusal
     ⊎ ((was : Streams) × (is : Streams) × ServesOn honest id bank (λ first last. StoppedByStore honest refusal first last was is))
+IsCauseOn (Serve folder id) honest bank refusal = ⊥
 IsCauseOn (Make folder id members chunk stripes) honest bank refusal = ⊥
 IsCauseOn (MakeSized folder id members chunk size over reserve) honest bank refusal = ⊥
 IsCauseOn (Status folder id json check) honest bank refusal = IsNotOpened honest id bank refusal
@@ -137,6 +141,8 @@ HasCause growing left reading left_read Opens Inspects (MakeSized folder id memb
 HasCause growing left reading left_read Opens Inspects (Replace folder id slot) refusal = IsCauseOfReplace growing left id slot refusal
 HasCause growing left reading left_read Opens Inspects (Examine folder id json check) refusal =
     IsCauseOfExamine reading left_read Inspects folder.now id json refusal
+HasCause growing left reading left_read Opens Inspects (Serve folder id) refusal =
+    IsCauseOfServing growing left (λ slot. Opens (slot_path folder.now slot)) id refusal
 HasCause growing left reading left_read Opens Inspects line refusal = IsCauseOver growing left Opens line refusal
 
 -- a refusal has its cause, unless memory, a reader or a writer is cause enough

@@ -12,7 +12,7 @@ use Rattle.recovery.specs.Making.{BankView, Makes, Opened, Returned}
 use Rattle.volume_table.specs.VolumeStep.{Command, Create, Done, Extend, Names, OnVolumes, Remove, Rename}
 use Rattle.report.specs.Replies.{reply_text}
 use Rattle.command_line.specs.declared.Invocation.{Invocation}
-use Rattle.command_line.specs.declared.Invocation.TheVariants.{Change, Examine, Fail, Make, MakeSized, Rebuild, Replace, Run, Scrub, Status, Upgrade}
+use Rattle.command_line.specs.declared.Invocation.TheVariants.{Change, Examine, Fail, Make, MakeSized, Rebuild, Replace, Run, Scrub, Serve, Status, Upgrade}
 use Rattle.command_line.specs.declared.Change.{Change as VolumeChange}
 use Rattle.command_line.specs.declared.Change.TheVariants as change
 use Rattle.device_files.specs.declared.FolderFault.{FolderFault}
@@ -51,6 +51,7 @@ command_for change.List = Names
 -- what a line asks for was done on a bank, and what it writes was written
 abbrev pub DoesOn : Invocation → (honest : Type 0) (bank : BankView) (was is : Streams) → Type 0
 DoesOn (Run folder id) honest bank was is = RunsOn honest id bank was is
+DoesOn (Serve folder id) honest bank was is = ⊥
 DoesOn (Make folder id members chunk stripes) honest bank was is = ⊥
 DoesOn (MakeSized folder id members chunk size over reserve) honest bank was is = ⊥
 DoesOn (Status folder id json check) honest bank was is = TellsOn honest id bank json was.contents is.contents

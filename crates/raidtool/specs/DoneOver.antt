@@ -7,7 +7,7 @@ use Rattle.recovery.specs.Making.{BankView}
 use Rattle.volume_table.specs.VolumeStep.{Done}
 use Rattle.report.specs.Replies.{reply_text}
 use Rattle.command_line.specs.declared.Invocation.{Invocation}
-use Rattle.command_line.specs.declared.Invocation.TheVariants.{Examine, Make, MakeSized, Replace, Status}
+use Rattle.command_line.specs.declared.Invocation.TheVariants.{Examine, Make, MakeSized, Replace, Serve, Status}
 use Rattle.device_files.specs.declared.growing.Growing.{Ghosts}
 use Rattle.device_files.specs.declared.locked.Before.{Before}
 use Rattle.device_files.specs.declared.slot_files.CreateFault.{CreateFault}
@@ -25,6 +25,7 @@ use Rattle.raidtool.specs.Causes.{folder_text, id_text}
 use Rattle.raidtool.specs.Done.{DoesOn, HasSizes, IsNeedIn}
 use Rattle.raidtool.specs.FolderFiles.{MakesFiles, WereTaken}
 use Rattle.raidtool.specs.OtherSets.{IsMadeAlone}
+use Rattle.raidtool.specs.ServedRuns.{ServesFolder}
 use Rattle.raidtool.specs.Sized.{IsSizedFor, sized_text}
 use Rattle.raidtool.specs.Texts.{made_text}
 use Rattle.command_line.specs.declared.Size.{Size}
@@ -135,4 +136,6 @@ IsDone growing left reading left_read Opens Creates Inspects IsSynced drawn (Rep
     IsReplacedIn growing left Creates folder.now Opens id slot × IsSynced folder.now × Appends was.contents is.contents (reply_text Done) × (after ≡ before)
 IsDone growing left reading left_read Opens Creates Inspects IsSynced drawn (Examine folder id json check) was is before after =
     IsExaminedIn reading left_read Inspects folder.now id json was.contents is.contents before after
+IsDone growing left reading left_read Opens Creates Inspects IsSynced drawn (Serve folder id) was is before after =
+    ServesFolder growing left Opens folder.now id was is × (after ≡ before)
 IsDone growing left reading left_read Opens Creates Inspects IsSynced drawn line was is before after = IsServedOver growing left Opens line was is before after

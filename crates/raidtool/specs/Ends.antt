@@ -16,12 +16,12 @@ use Rattle.raidtool.specs.declared.choosing.Unchosen.{Unchosen}
 use Rattle.raidtool.specs.declared.choosing.Unchosen.TheVariants.{Fault, Several, Undrawn}
 use Rattle.raidtool.specs.Causes.{folder_text}
 use Rattle.raidtool.specs.Texts.{several_line, undrawn_line}
-use Rattle.raidtool.specs.Tool.{IsChecked, IsCutOff, IsMisshapen, IsRefusalOf, IsRun, IsWritten, PassesNone, WasRefused, WasStopped, WasUnassembled}
-use Rattle.raidtool.specs.Tool.{IsMemoryFault, checked_status}
+use Rattle.raidtool.specs.Tool.{ComesFirstIn, IsChecked, IsCutOff, IsMisshapen, IsRefusalOf, IsWritten, PassesNone, ReadsInput, WasRefused, WasStopped}
+use Rattle.raidtool.specs.Tool.{IsMemoryFault, WasUnassembled, checked_status}
 
 -- How a line ended whose set is known, with this exit status. What was done is told by how well the set is; `Told` says that standard error got a text after
 -- what was passed over, and `Alone` that it got nothing else; `Passed` that it got no fault, `Hushed` that it got nothing, `Unread` and `Unwritten` that
--- standard input and standard output are as they were, and `Whole` that a script was read to its end.
+-- standard input and standard output are as they were, and `Whole` that a script or requests were read to their end.
 pub record EndsLine (line : Invocation) (drawn : Bool) (status : ℕ) (Does : Health → Type 0) (Caused : Refusal → Type 0) (Blamed : FolderFault → Type 0)
     (Told Alone : List ℕ → Type 0) (Passed Hushed Unread Unwritten Whole : Type 0) (out new_out : Option (List ℕ)) : Type 0 where
   pub most : status ≤ 4
@@ -30,18 +30,18 @@ pub record EndsLine (line : Invocation) (drawn : Bool) (status : ℕ) (Does : He
   pub does : status ≡ 0 → (health : Health) × Does health
   pub complete : IsChecked line → status ≡ 0 → Does Complete
   pub written : status ≡ 0 → IsWritten drawn line out new_out
-  pub read : status ≡ 0 → IsRun line → Whole
+  pub read : status ≡ 0 → ReadsInput line → Whole
   pub quiet : (status ≡ 0) ⊎ (status ≡ 3) → Passed
   pub hushed : PassesNone line → (status ≡ 0) ⊎ (status ≡ 3) → Hushed
   -- 1: a refusal was told, or the fault of a device file
-  pub refused : status ≡ 1 → WasRefused (IsRefusalOf line Caused) Told (Unread × Unwritten) ⊎ WasStopped line Blamed Told (Unread × Unwritten)
-  pub unwritten : ¬ IsRun line → status ≡ 1 → Unwritten ⊎ IsCutOff drawn line out new_out Told
+  pub refused : status ≡ 1 → WasRefused (IsRefusalOf line Caused) (ComesFirstIn line) Told (Unread × Unwritten) ⊎ WasStopped line Blamed Told (Unread × Unwritten)
+  pub unwritten : ¬ ReadsInput line → status ≡ 1 → Unwritten ⊎ IsCutOff drawn line out new_out Told
   -- 3, 4: it was asked how well a set is, and done, or there was none that could be assembled
   pub checked : 3 ≤ status → IsChecked line
   pub incomplete : status ≡ 3 → Does Incomplete
   pub unassembled : status ≡ 4 → WasUnassembled (Does Unassembled) Caused Passed Told
-  -- but for a script, nothing is read
-  pub beside : ¬ IsRun line → Unread
+  -- but for a script and requests, nothing is read
+  pub beside : ¬ ReadsInput line → Unread
   pub misshapen : IsMisshapen line → (status ≡ 1) × Alone (refusal_line BadGeometry)
 
 -- what is told of a line over a folder that is of no set

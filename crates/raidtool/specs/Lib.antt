@@ -9,6 +9,7 @@ pub mod Needs
 pub mod OtherSets
 pub mod Replacing
 pub mod Sending
+pub mod ServedRuns
 pub mod Sized
 pub mod Stops
 pub mod Texts

@@ -32,7 +32,7 @@ use Rattle.raidtool.specs.Stops.{IsBlamed, IsInspectionBlamed, IsMakeEnd, IsMake
 use Rattle.set_commands.specs.Serving.{IsEnd, IsEventEnd, IsFailEnd, IsRebuildEnd, IsReplaceEnd, IsScrubEnd, IsTellEnd, told_text}
 use Rattle.report.specs.Written.{AppendsPart}
 use Rattle.command_line.specs.declared.Invocation.{Invocation}
-use Rattle.command_line.specs.declared.Invocation.TheVariants.{Change, Examine, Fail, Make, MakeSized, Rebuild, Replace, Run, Scrub, Status, Upgrade}
+use Rattle.command_line.specs.declared.Invocation.TheVariants.{Change, Examine, Fail, Make, MakeSized, Rebuild, Replace, Run, Scrub, Serve, Status, Upgrade}
 use Rattle.command_line.specs.declared.SetChoice.{SetChoice}
 use Rattle.command_line.specs.declared.SetChoice.TheVariants.{Given, New, Only}
 use Rattle.command_line.specs.declared.Asked.{Asked}
@@ -54,10 +54,11 @@ use Rattle.device_files.specs.declared.FolderFault.TheVariants.{Refused}
 abbrev pub IsAsked : List Text → Type 0
 IsAsked words = (words ≡ []) ⊎ ((asked : Asked) × AsksFor words asked)
 
--- the line is a `run`
-abbrev pub IsRun : Invocation → Type 0
-IsRun (Run folder id) = Unit {0}
-IsRun line = ⊥
+-- the line reads standard input, and answers as it goes: a `run`, or a `serve`
+abbrev pub ReadsInput : Invocation → Type 0
+ReadsInput (Run folder id) = Unit {0}
+ReadsInput (Serve folder id) = Unit {0}
+ReadsInput line = ⊥
 
 -- memory ran out while the words were read
 abbrev pub IsMemoryFault : InvocationFault → Type 0
@@ -71,6 +72,7 @@ IsMemoryFault (Usage error) = kind_of error ≡ OutOfMemory
 -- what a line can be refused with
 abbrev pub IsEndOfLine : Invocation → Refusal → Type 0
 IsEndOfLine (Run folder id) refusal = IsEnd refusal
+IsEndOfLine (Serve folder id) refusal = IsEnd refusal
 IsEndOfLine (Make folder id members chunk stripes) refusal = IsMakeEnd refusal
 IsEndOfLine (Status folder id json check) refusal = IsTellEnd refusal
 IsEndOfLine (Fail folder id slot) refusal = IsFailEnd refusal
@@ -96,8 +98,9 @@ IsNone TwoLost = Unit {0}
 IsNone Worn = Unit {0}
 IsNone refusal = ⊥
 
--- the line needs no file to be made
+-- the line is done by one call over the set on a bank, and needs no file to be made
 abbrev pub IsServed : Invocation → Type 0
+IsServed (Serve folder id) = ⊥
 IsServed (Make folder id members chunk stripes) = ⊥
 IsServed (MakeSized folder id members chunk size over reserve) = ⊥
 IsServed (Replace folder id slot) = ⊥
@@ -118,6 +121,11 @@ ComesFirst WriteFault = ⊥
 ComesFirst TwoLost = ⊥
 ComesFirst Worn = ⊥
 ComesFirst refusal = Unit {0}
+
+-- so it is for a line; one that may have several runs can find it before any of them
+abbrev pub ComesFirstIn : Invocation → Refusal → Type 0
+ComesFirstIn (Serve folder id) refusal = ⊥
+ComesFirstIn line refusal = ComesFirst refusal
 
 -- ---- what standard output gets
 
@@ -171,9 +179,10 @@ is_new Given = false
 is_new New = true
 is_new Only = false
 
--- what standard output gets where a line is done; what a script gets is not said here
+-- what standard output gets where a line is done; what a script or requests get is not said here
 abbrev pub IsWritten : (drawn : Bool) → Invocation → (old new : Option (List ℕ)) → Type 0
 IsWritten drawn (Run folder id) old new = Unit {0}
+IsWritten drawn (Serve folder id) old new = Unit {0}
 IsWritten drawn (Make folder id members chunk stripes) old new = IsGeometry One members chunk stripes × Appends old new (made_text drawn id)
 IsWritten drawn (MakeSized folder id members chunk size over reserve) old new = IsSizeTold drawn id members chunk size (Appends old new)
 IsWritten drawn (Status folder id json check) old new = IsStatusTold id json old new
@@ -188,6 +197,7 @@ IsWritten drawn (Change folder id change) old new = IsChangeTold change (Appends
 -- a beginning of that
 abbrev pub IsPartWritten : (drawn : Bool) → Invocation → (old new : Option (List ℕ)) → Type 0
 IsPartWritten drawn (Run folder id) old new = ⊥
+IsPartWritten drawn (Serve folder id) old new = ⊥
 IsPartWritten drawn (Make folder id members chunk stripes) old new = AppendsPart old new (made_text drawn id)
 IsPartWritten drawn (MakeSized folder id members chunk size over reserve) old new = IsSizeTold drawn id members chunk size (AppendsPart old new)
 IsPartWritten drawn (Status folder id json check) old new = IsStatusCut id json old new
@@ -202,11 +212,11 @@ IsPartWritten drawn (Change folder id change) old new = IsChangeTold change (App
 -- ---- what standard error gets
 
 -- one of these refusals was told; where it comes first, this is the same as before
-pub record WasRefused (End : Refusal → Type 0) (Told : List ℕ → Type 0) (Same : Type 0) : Type 0 where
+pub record WasRefused (End First : Refusal → Type 0) (Told : List ℕ → Type 0) (Same : Type 0) : Type 0 where
   pub refusal : Refusal
   pub ends : End refusal
   pub told : Told (refusal_line refusal)
-  pub alone : ComesFirst refusal → Same
+  pub alone : First refusal → Same
 
 -- what stops a making: its sizes are those of a set, but where it is refused
 abbrev pub IsStoppedMake : (members chunk stripes : ℕ) → FolderFault → Type 0
@@ -224,6 +234,10 @@ IsStopOf line fault = IsServeFault (IsEndOfLine line) fault
 abbrev pub IsFirst : FolderFault → Type 0
 IsFirst (Refused refusal) = ComesFirst refusal
 IsFirst fault = Unit {0}
+
+abbrev pub IsFirstIn : Invocation → FolderFault → Type 0
+IsFirstIn line (Refused refusal) = ComesFirstIn line refusal
+IsFirstIn line fault = Unit {0}
 
 -- a fault of a device file or of a folder, and no refusal
 abbrev pub IsOfFiles : FolderFault → Type 0

@@ -13,6 +13,7 @@ mod choosing;
 mod console;
 mod make;
 mod replacing;
+mod serving;
 mod telling;
 mod tool;
 mod undoing;

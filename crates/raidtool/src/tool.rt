@@ -20,9 +20,9 @@ ghost use Rattle.raidtool.specs.DoneOver.{HealthOf, IsDone, IsExaminedIn, IsServ
 ghost use Rattle.raidtool.specs.Ends.{EndsAsked, EndsLine, EndsWords, unchosen_line, unchosen_status};
 ghost use Rattle.raidtool.specs.Stops.{HasPassed, IsBlamed, IsInspectionBlamed, IsServeFault, IsTold, IsToldAfter};
 ghost use Rattle.raidtool.specs.Texts.{IsFaultLine};
-ghost use Rattle.raidtool.specs.Tool.{ComesFirst, IsAsked, IsBlamedIn, IsEndOfLine, IsFirst, IsMemoryFault};
+ghost use Rattle.raidtool.specs.Tool.{ComesFirst, IsAsked, IsBlamedIn, IsEndOfLine, IsFirst, IsFirstIn, IsMemoryFault};
 ghost use Rattle.raidtool.specs.Tool.{IsMisshapen};
-ghost use Rattle.raidtool.specs.Tool.{IsPartWritten, IsRun, IsServed, IsStopOf, PassesNone, WasRefused, checked_status};
+ghost use Rattle.raidtool.specs.Tool.{IsPartWritten, IsServed, IsStopOf, PassesNone, ReadsInput, WasRefused, checked_status};
 ghost use Rattle.raidtool.specs.Tool.{is_new};
 ghost use Rattle.set_commands.specs.DoneLaw.{CommandsMakeInvocations};
 ghost use Rattle.set_commands.specs.Examining.{IsExamineEnd};
@@ -33,6 +33,7 @@ ghost use Rattle.set_commands.specs.Run.{streams};
 use crate::choosing::{DrawIds, Unchosen, choose};
 use crate::make::{Wanted, make_set, make_sized};
 use crate::replacing::replace_in_folder;
+use crate::serving::serve_in_folder;
 use crate::telling::{tell_fault, tell_several};
 use clap::error::ErrorKind;
 use command_line::{Asked, Change, Invocation, InvocationFault, SetChoice, parse_invocation};
@@ -129,7 +130,7 @@ where
         → ∥ RunsFresh script (W.contents out.old) (W.contents out.new) ∥₁ }
     ensures read { words.now ≡ [] → result ≡ 0 → R.remaining reader.old ≢ None → R.remaining reader.new ≡ Some [] }
     ensures silent { words.now ≡ [] → result ≡ 0 → err.new ≡ err.old }
-    ensures refused { words.now ≡ [] → (result ≡ 0) ⊎ ((result ≡ 1) × WasRefused IsFreshEnd
+    ensures refused { words.now ≡ [] → (result ≡ 0) ⊎ ((result ≡ 1) × WasRefused IsFreshEnd ComesFirst
         (λ text. IsToldLine text (E.contents err.old) (E.contents err.new))
         ((reader.new ≡ reader.old) × (out.new ≡ out.old))) }
 {
@@ -280,18 +281,18 @@ where
         (λ folder. D.is_safe disk.now folder ⊎ D.is_never disk.now folder)
         drawn line.entry (streams (R.remaining reader.old) (W.contents out.old))
         (streams (R.remaining reader.new) (W.contents out.new)) health.old health.new) }
-    ensures read { IsRun line.entry → R.remaining reader.old ≢ None → OnOk result (R.remaining reader.new ≡ Some []) }
+    ensures read { ReadsInput line.entry → R.remaining reader.old ≢ None → OnOk result (R.remaining reader.new ≡ Some []) }
     ensures stopped { IfErr result (IsStopOf line.entry) }
     ensures cause { IfErr result (IsCausedBy (HasCause ⟦<D::File as Growing>⟧ D.File.left
         ⟦<D::InspectedFile as Growing>⟧ D.InspectedFile.left (D.opens disk.now) (D.inspects disk.now) line.entry)) }
     ensures named { IfErr result (IsBlamedIn ⟦<D::File as Growing>⟧ (D.opens disk.now) (D.creates disk.now)
         (D.inspects disk.now) line.entry) }
-    ensures alone { IfErr result (λ fault. IsFirst fault → (reader.new ≡ reader.old) × (out.new ≡ out.old)) }
-    ensures unwritten { ¬ IsRun line.entry
+    ensures alone { IfErr result (λ fault. IsFirstIn line.entry fault → (reader.new ≡ reader.old) × (out.new ≡ out.old)) }
+    ensures unwritten { ¬ ReadsInput line.entry
         → IfErr result (λ fault. fault ≢ FolderFault.Refused Refusal.WriteFault → out.new ≡ out.old) }
-    ensures cut { ¬ IsRun line.entry → IfErr result (λ fault. fault ≡ FolderFault.Refused Refusal.WriteFault
+    ensures cut { ¬ ReadsInput line.entry → IfErr result (λ fault. fault ≡ FolderFault.Refused Refusal.WriteFault
         → IsPartWritten drawn line.entry (W.contents out.old) (W.contents out.new)) }
-    ensures beside { ¬ IsRun line.entry → reader.new ≡ reader.old }
+    ensures beside { ¬ ReadsInput line.entry → reader.new ≡ reader.old }
     ensures misshapen { IsMisshapen line.entry → (result ≡ Err (FolderFault.Refused Refusal.BadGeometry))
         × (err.new ≡ err.old) }
     ensures passed { HasPassed E.contents err.old err.new }
@@ -335,6 +336,9 @@ where
             json,
             ..
         } => examine_folder(rt.alloc(), disk, folder, id, json, out, health),
+        Invocation::Serve { folder, id } => {
+            serve_in_folder(rt.alloc(), disk, folder, id, reader, out, err)
+        }
         served => serve_folder(rt, disk, served, reader, out, err, health),
     }
 }
@@ -345,6 +349,7 @@ pub(crate) fn folder_of<'a>(line: &Invocation<'a>) -> &'a str
 {
     match line {
         Invocation::Run { folder, .. }
+        | Invocation::Serve { folder, .. }
         | Invocation::Make { folder, .. }
         | Invocation::MakeSized { folder, .. }
         | Invocation::Change { folder, .. }
@@ -371,7 +376,8 @@ fn id_of(line: &Invocation<'_>) -> [u8; 16]
         | Invocation::Scrub { id, .. }
         | Invocation::Upgrade { id, .. }
         | Invocation::Change { id, .. } => *id,
-        Invocation::Make { .. }
+        Invocation::Serve { .. }
+        | Invocation::Make { .. }
         | Invocation::MakeSized { .. }
         | Invocation::Replace { .. }
         | Invocation::Examine { .. } => unreachable!(),
@@ -429,18 +435,18 @@ where
         (streams (R.remaining reader.old) (W.contents out.old))
         (streams (R.remaining reader.new) (W.contents out.new)) health.old health.new) }
     ensures passed { HasPassed E.contents err.old err.new }
-    ensures read { IsRun line.entry → R.remaining reader.old ≢ None → OnOk result (R.remaining reader.new ≡ Some []) }
+    ensures read { ReadsInput line.entry → R.remaining reader.old ≢ None → OnOk result (R.remaining reader.new ≡ Some []) }
     ensures stopped { IfErr result (IsStopOf line.entry) }
     ensures cause { IfErr result (IsCausedBy
         (IsCauseOver ⟦<D::File as Growing>⟧ D.File.left (D.opens disk.now) line.entry)) }
     ensures named { IfErr result (IsBlamed (D.opens disk.now) (D.creates disk.now)
         D.File.has_failed (folder_text line.entry)) }
     ensures alone { IfErr result (λ fault. IsFirst fault → (reader.new ≡ reader.old) × (out.new ≡ out.old)) }
-    ensures unwritten { ¬ IsRun line.entry
+    ensures unwritten { ¬ ReadsInput line.entry
         → IfErr result (λ fault. fault ≢ FolderFault.Refused Refusal.WriteFault → out.new ≡ out.old) }
-    ensures cut { ¬ IsRun line.entry → IfErr result (λ fault. fault ≡ FolderFault.Refused Refusal.WriteFault
+    ensures cut { ¬ ReadsInput line.entry → IfErr result (λ fault. fault ≡ FolderFault.Refused Refusal.WriteFault
         → (drawn : Bool) → IsPartWritten drawn line.entry (W.contents out.old) (W.contents out.new)) }
-    ensures beside { ¬ IsRun line.entry → reader.new ≡ reader.old }
+    ensures beside { ¬ ReadsInput line.entry → reader.new ≡ reader.old }
 {
     let entry = Entry::new(rt.alloc())?;
     let files = open_folder(rt.alloc(), disk, folder_of(&line))?;
@@ -469,16 +475,16 @@ where
     ensures does { OnOk result (DoesOn line.entry (B.honest bank) (bank_seen B.Bank bank)
         (streams (R.remaining reader.old) (W.contents out.old))
         (streams (R.remaining reader.new) (W.contents out.new))) }
-    ensures read { IsRun line.entry → R.remaining reader.old ≢ None → OnOk result (R.remaining reader.new ≡ Some []) }
+    ensures read { ReadsInput line.entry → R.remaining reader.old ≢ None → OnOk result (R.remaining reader.new ≡ Some []) }
     ensures end { IfErr result (IsEndOfLine line.entry) }
     ensures cause { IfErr result (λ refusal. ¬ IsPlainEnd refusal
         → IsCauseOn line.entry (B.honest bank) (bank_seen B.Bank bank) refusal) }
     ensures alone { IfErr result (λ refusal. ComesFirst refusal → (reader.new ≡ reader.old) × (out.new ≡ out.old)) }
-    ensures unwritten { ¬ IsRun line.entry
+    ensures unwritten { ¬ ReadsInput line.entry
         → IfErr result (λ refusal. refusal ≢ Refusal.WriteFault → out.new ≡ out.old) }
-    ensures cut { ¬ IsRun line.entry → IfErr result (λ refusal. refusal ≡ Refusal.WriteFault
+    ensures cut { ¬ ReadsInput line.entry → IfErr result (λ refusal. refusal ≡ Refusal.WriteFault
         → (drawn : Bool) → IsPartWritten drawn line.entry (W.contents out.old) (W.contents out.new)) }
-    ensures beside { ¬ IsRun line.entry → reader.new ≡ reader.old }
+    ensures beside { ¬ ReadsInput line.entry → reader.new ≡ reader.old }
 {
     law_of_invocations(&bank);
     match line {
@@ -505,7 +511,8 @@ where
         Invocation::Change { id, change, .. } => {
             apply_on(rt.alloc(), bank, entry, id, &event_for(change), out)
         }
-        Invocation::Make { .. }
+        Invocation::Serve { .. }
+        | Invocation::Make { .. }
         | Invocation::MakeSized { .. }
         | Invocation::Replace { .. }
         | Invocation::Examine { .. } => unreachable!(),

@@ -6,7 +6,7 @@ use Rattle.set_commands.specs.Run.{streams}
 use Rattle.raidtool.proofs.Causes.{by_refusal, caused_as, no_sizes, served_cause, sizes_make}
 use Rattle.raidtool.proofs.InspectionsTold.{inspections_cut}
 use Rattle.raidtool.proofs.DoneLines.{made_done, sized_cut, sized_done, no_make, passes_some, replaced_done, served_blamed, served_done}
-use Rattle.raidtool.proofs.DoneLines.{sized_blamed}
+use Rattle.raidtool.proofs.DoneLines.{first_in, first_of_files, requests_served, sized_blamed}
 use Rattle.raidtool.proofs.tool.do_line.Goals as goal
 
 pub returns-in_ok-geometry-in-Make-clause-does : goal.returns-in_ok-geometry-in-Make-clause-does
@@ -59,16 +59,16 @@ returns-in_default g c =
           (g.D.SlotFiles.creates c.args.disk.now) (g.D.InspectFiles.inspects c.args.disk.now)
           (λ folder. g.D.FolderSync.is_safe c.args.disk.now folder ⊎ g.D.FolderSync.is_never c.args.disk.now folder)
           c.args.drawn c.args.line c.serve_folder.result _ _ _ _ c.in_default.not-Make c.in_default.not-MakeSized c.in_default.not-Replace
-          c.in_default.not-Examine served.served;
+          c.in_default.not-Examine c.in_default.not-Serve served.served;
       read = served.read;
       stopped = served.stopped;
       cause = IfErr-weaker c.serve_folder.result _ _ (λ fault cause. caused_as _ _ fault (λ refusal. served_cause g.D.File.Growing g.D.File.BankFile.left
           g.D.InspectedFile.Growing g.D.InspectedFile.BankFile.left (g.D.SlotFiles.opens c.args.disk.now) (g.D.InspectFiles.inspects c.args.disk.now)
           c.args.line refusal c.in_default.not-Make c.in_default.not-MakeSized c.in_default.not-Replace
-          c.in_default.not-Examine) cause) served.cause;
+          c.in_default.not-Examine c.in_default.not-Serve) cause) served.cause;
       named = served_blamed g.D.File.Growing (g.D.SlotFiles.opens c.args.disk.now) (g.D.SlotFiles.creates c.args.disk.now)
           (g.D.InspectFiles.inspects c.args.disk.now) c.args.line c.serve_folder.result c.in_default.not-MakeSized c.in_default.not-Examine served.named;
-      alone = served.alone;
+      alone = IfErr-weaker c.serve_folder.result _ _ (λ fault alone first. alone (first_in c.args.line fault first)) served.alone;
       unwritten = served.unwritten;
       cut = λ beside. IfErr-weaker c.serve_folder.result _ _ (λ fault part same. part same c.args.drawn) (served.cut beside);
       beside = served.beside;
@@ -128,3 +128,16 @@ returns-in-MakeSized-clause-cut g c = λ _. IfErr-weaker c.make_sized.result _ _
 
 pub returns-in-MakeSized-clause-cause : goal.returns-in-MakeSized-clause-cause
 returns-in-MakeSized-clause-cause g c = rw c.in-MakeSized.is c.make_sized.ensures.cause
+
+-- ---- requests
+
+pub returns-in-Serve-clause-does : goal.returns-in-Serve-clause-does
+returns-in-Serve-clause-does g c = rw c.in-Serve.is (requests_served g.D.File.Growing g.D.File.BankFile.left (g.D.SlotFiles.opens c.args.disk.now) _ _
+    c.serve_in_folder.result _ _ c.args.health.now c.serve_in_folder.ensures.served)
+
+pub returns-in-Serve-clause-alone : goal.returns-in-Serve-clause-alone
+returns-in-Serve-clause-alone g c = rw c.in-Serve.is (IfErr-weaker c.serve_in_folder.result _ _ (λ fault alone first.
+    alone (first_of_files c.in-Serve.folder c.in-Serve.id fault first)) c.serve_in_folder.ensures.alone)
+
+pub returns-in-Serve-clause-cause : goal.returns-in-Serve-clause-cause
+returns-in-Serve-clause-cause g c = rw c.in-Serve.is c.serve_in_folder.ensures.cause

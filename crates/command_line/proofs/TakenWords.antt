@@ -492,11 +492,11 @@ abbrev met : (is_run is_serve is_make is_status is_fail is_replace is_rebuild is
     (is_create is_extend is_remove is_rename is_list : Bool) → Option Shape
 met is_run is_serve is_make is_status is_fail is_replace is_rebuild is_scrub is_upgrade is_examine is_create is_extend is_remove is_rename is_list =
     cond is_run (Some (built_set (codes "run"))) (cond is_serve (Some (built_set (codes "serve"))) (cond is_make (Some built_make)
-    (cond is_status (Some built_status)
-    (cond is_fail (Some (built_slotted (codes "fail"))) (cond is_replace (Some (built_slotted (codes "replace"))) (cond is_rebuild (Some built_rebuild)
-    (cond is_scrub (Some (built_set (codes "scrub"))) (cond is_upgrade (Some (built_set (codes "upgrade"))) (cond is_examine (Some built_examine)
-    (cond is_create (Some (built_sized (codes "create"))) (cond is_extend (Some (built_sized (codes "extend")))
-    (cond is_remove (Some (built_volume (codes "remove"))) (cond is_rename (Some built_rename) (cond is_list (Some (built_set (codes "list"))) None))))))))))))))
+    (cond is_status (Some built_status) (cond is_fail (Some (built_slotted (codes "fail"))) (cond is_replace (Some (built_slotted (codes "replace")))
+    (cond is_rebuild (Some built_rebuild) (cond is_scrub (Some (built_set (codes "scrub"))) (cond is_upgrade (Some (built_set (codes "upgrade")))
+    (cond is_examine (Some built_examine) (cond is_create (Some (built_sized (codes "create"))) (cond is_extend (Some (built_sized (codes "extend")))
+    (cond is_remove (Some (built_volume (codes "remove"))) (cond is_rename (Some built_rename)
+    (cond is_list (Some (built_set (codes "list"))) None))))))))))))))
 
 -- words that clap takes as the program's are those of a subcommand with all its values
 pub taken_words : (words : List Text) → IsTaken words → HasEntered (subcommand_of raidtool_app words)
@@ -518,11 +518,14 @@ taken_words words e =
     found : (p : Text × List Text) (is_run is_serve is_make is_status is_fail is_replace is_rebuild is_scrub is_upgrade is_examine : Bool)
         (is_create is_extend is_remove is_rename is_list : Bool)
         → option_map_or (λ s. level_fault s [] nothing_held p.1 false [])
-        (met is_run is_serve is_make is_status is_fail is_replace is_rebuild is_scrub is_upgrade is_examine is_create is_extend is_remove is_rename is_list) [] ≡ []
+        (met is_run is_serve is_make is_status is_fail is_replace is_rebuild is_scrub is_upgrade is_examine
+        is_create is_extend is_remove is_rename is_list) [] ≡ []
         → is_some (option_map (λ s. rows_at s p.1)
-        (met is_run is_serve is_make is_status is_fail is_replace is_rebuild is_scrub is_upgrade is_examine is_create is_extend is_remove is_rename is_list)) ≡ true
+        (met is_run is_serve is_make is_status is_fail is_replace is_rebuild is_scrub is_upgrade is_examine
+        is_create is_extend is_remove is_rename is_list)) ≡ true
         → HasEntered (option_map (λ s. rows_at s p.1)
-        (met is_run is_serve is_make is_status is_fail is_replace is_rebuild is_scrub is_upgrade is_examine is_create is_extend is_remove is_rename is_list))
+        (met is_run is_serve is_make is_status is_fail is_replace is_rebuild is_scrub is_upgrade is_examine
+        is_create is_extend is_remove is_rename is_list))
     found p true _ _ _ _ _ _ _ _ _ _ _ _ _ _ taken has =
         let set : HasSet _ = taken_set (codes "run") p.1 taken in
         record { folder = set.folder; set = λ other. set; others = of_run refl }

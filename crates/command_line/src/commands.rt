@@ -9,9 +9,9 @@ ghost use Rattle.command_line.specs.Commands.{examine_app, extend_app, fail_app,
 ghost use Rattle.command_line.specs.Commands.{json_rule, list_app, make_app, members_rule, name_rule, new_name_rule};
 ghost use Rattle.command_line.specs.Commands.{number_rule, over_rule, raidtool_app, rebuild_app, remove_app};
 ghost use Rattle.command_line.specs.Commands.{rename_app, replace_app, reserve_rule, run_app, scrub_app, serve_app};
-ghost use Rattle.command_line.specs.Commands.{set_app, size_rule, slot_rule, some_id_rule, some_number_rule, status_app};
-ghost use Rattle.command_line.specs.Commands.{steps_rule};
-ghost use Rattle.command_line.specs.Commands.{stripes_rule, upgrade_app, volume_app, word_rule};
+ghost use Rattle.command_line.specs.Commands.{set_app, size_rule, slot_rule, some_id_rule, some_number_rule};
+ghost use Rattle.command_line.specs.Commands.{status_app, steps_rule, stripes_rule, upgrade_app, volume_app};
+ghost use Rattle.command_line.specs.Commands.{word_rule};
 
 use clap::builder::ValueParser;
 use clap::error::ErrorKind;
@@ -185,7 +185,8 @@ fn serve_command<'a>(alloc: Global) -> Result<Command<'a>, AllocError>
     set_command(
         alloc,
         "serve",
-        "Serves requests on standard input over the device files of a folder: their blocks are bytes",
+        "Serves requests on standard input over the device files of a folder: \
+their blocks are bytes",
     )
 }
 

@@ -11,7 +11,7 @@ use Rattle.command_line.specs.declared.Asked.{Asked}
 use Rattle.command_line.specs.declared.InvocationFault.{InvocationFault}
 use Rattle.command_line.specs.Invocations.{AsksIn, IsFaultIn}
 use Rattle.command_line.specs.FoundRows.{HasEntered, HasMakeValues, HasValues, IsComplete, of_create, of_examine, of_extend, of_fail, of_list, of_make}
-use Rattle.command_line.specs.FoundRows.{of_rebuild, of_remove, of_rename, of_replace, of_run, of_scrub, of_status, of_upgrade}
+use Rattle.command_line.specs.FoundRows.{of_rebuild, of_remove, of_rename, of_replace, of_run, of_scrub, of_serve, of_status, of_upgrade}
 use Rattle.command_line.proofs.OneAsked.{two_names}
 
 abbrev Entered : Type 0
@@ -31,6 +31,7 @@ other name text differ is same = two_names text (codes "make") differ (sym is �
 values : (name : Text) (rows : List Row) → name ≡ codes "make" → HasValues name rows → HasMakeValues rows
 values name rows same (of_make is has) = has
 values name rows same (of_run is) = absurd (other name (codes "run") refl is same)
+values name rows same (of_serve is) = absurd (other name (codes "serve") refl is same)
 values name rows same (of_status is has) = absurd (other name (codes "status") refl is same)
 values name rows same (of_fail is has) = absurd (other name (codes "fail") refl is same)
 values name rows same (of_replace is has) = absurd (other name (codes "replace") refl is same)
@@ -54,9 +55,9 @@ make_values m sub name has is are make =
 -- the name of a subcommand of the program
 abbrev pub IsKnown : Text → Type 0
 IsKnown name =
-    (name ≡ codes "run") ⊎ ((name ≡ codes "make") ⊎ ((name ≡ codes "status") ⊎ ((name ≡ codes "fail") ⊎ ((name ≡ codes "replace")
-    ⊎ ((name ≡ codes "rebuild") ⊎ ((name ≡ codes "scrub") ⊎ ((name ≡ codes "upgrade") ⊎ ((name ≡ codes "examine") ⊎ ((name ≡ codes "create")
-    ⊎ ((name ≡ codes "extend") ⊎ ((name ≡ codes "remove") ⊎ ((name ≡ codes "rename") ⊎ ((name ≡ codes "list"))))))))))))))
+    (name ≡ codes "run") ⊎ ((name ≡ codes "serve") ⊎ ((name ≡ codes "make") ⊎ ((name ≡ codes "status") ⊎ ((name ≡ codes "fail")
+    ⊎ ((name ≡ codes "replace") ⊎ ((name ≡ codes "rebuild") ⊎ ((name ≡ codes "scrub") ⊎ ((name ≡ codes "upgrade") ⊎ ((name ≡ codes "examine")
+    ⊎ ((name ≡ codes "create") ⊎ ((name ≡ codes "extend") ⊎ ((name ≡ codes "remove") ⊎ ((name ≡ codes "rename") ⊎ ((name ≡ codes "list")))))))))))))))
 
 -- what is read of the rows of the subcommand that was entered
 module _ (m sub : ArgMatches) (name text : Text) (is : Some name ≡ subcommand_name_of m)
@@ -78,19 +79,20 @@ is_known m has name is = go (subcommand_rows_of m) has (is ∙ name_found m)
   where
     known : (n : Text) (rows : List Row) → HasValues n rows → IsKnown n
     known n rows (of_run e) = inl e
-    known n rows (of_make e v) = inr (inl e)
-    known n rows (of_status e v) = inr (inr (inl e))
-    known n rows (of_fail e v) = inr (inr (inr (inl e)))
-    known n rows (of_replace e v) = inr (inr (inr (inr (inl e))))
-    known n rows (of_rebuild e v) = inr (inr (inr (inr (inr (inl e)))))
-    known n rows (of_scrub e) = inr (inr (inr (inr (inr (inr (inl e))))))
-    known n rows (of_upgrade e) = inr (inr (inr (inr (inr (inr (inr (inl e)))))))
-    known n rows (of_examine e v) = inr (inr (inr (inr (inr (inr (inr (inr (inl e))))))))
-    known n rows (of_create e v w) = inr (inr (inr (inr (inr (inr (inr (inr (inr (inl e)))))))))
-    known n rows (of_extend e v w) = inr (inr (inr (inr (inr (inr (inr (inr (inr (inr (inl e))))))))))
-    known n rows (of_remove e v) = inr (inr (inr (inr (inr (inr (inr (inr (inr (inr (inr (inl e)))))))))))
-    known n rows (of_rename e v w) = inr (inr (inr (inr (inr (inr (inr (inr (inr (inr (inr (inr (inl e))))))))))))
-    known n rows (of_list e) = inr (inr (inr (inr (inr (inr (inr (inr (inr (inr (inr (inr (inr e))))))))))))
+    known n rows (of_serve e) = inr (inl e)
+    known n rows (of_make e v) = inr (inr (inl e))
+    known n rows (of_status e v) = inr (inr (inr (inl e)))
+    known n rows (of_fail e v) = inr (inr (inr (inr (inl e))))
+    known n rows (of_replace e v) = inr (inr (inr (inr (inr (inl e)))))
+    known n rows (of_rebuild e v) = inr (inr (inr (inr (inr (inr (inl e))))))
+    known n rows (of_scrub e) = inr (inr (inr (inr (inr (inr (inr (inl e)))))))
+    known n rows (of_upgrade e) = inr (inr (inr (inr (inr (inr (inr (inr (inl e))))))))
+    known n rows (of_examine e v) = inr (inr (inr (inr (inr (inr (inr (inr (inr (inl e)))))))))
+    known n rows (of_create e v w) = inr (inr (inr (inr (inr (inr (inr (inr (inr (inr (inl e))))))))))
+    known n rows (of_extend e v w) = inr (inr (inr (inr (inr (inr (inr (inr (inr (inr (inr (inl e)))))))))))
+    known n rows (of_remove e v) = inr (inr (inr (inr (inr (inr (inr (inr (inr (inr (inr (inr (inl e))))))))))))
+    known n rows (of_rename e v w) = inr (inr (inr (inr (inr (inr (inr (inr (inr (inr (inr (inr (inr (inl e)))))))))))))
+    known n rows (of_list e) = inr (inr (inr (inr (inr (inr (inr (inr (inr (inr (inr (inr (inr (inr e)))))))))))))
 
     go : (o : Entered) → HasEntered o → Some name ≡ option_map (λ e. e.0) o → IsKnown name
     go None has is = absurd has
@@ -101,6 +103,7 @@ is_known m has name is = go (subcommand_rows_of m) has (is ∙ name_found m)
 -- no other name is
 pub none_of : (name : Text) → IsKnown name
     → (name ≡ codes "run" → ⊥)
+    → (name ≡ codes "serve" → ⊥)
     → (name ≡ codes "make" → ⊥)
     → (name ≡ codes "status" → ⊥)
     → (name ≡ codes "fail" → ⊥)
@@ -114,17 +117,18 @@ pub none_of : (name : Text) → IsKnown name
     → (name ≡ codes "remove" → ⊥)
     → (name ≡ codes "rename" → ⊥)
     → (name ≡ codes "list" → ⊥) → ⊥
-none_of name (inl is) other _ _ _ _ _ _ _ _ _ _ _ _ _ = other is
-none_of name (inr (inl is)) _ other _ _ _ _ _ _ _ _ _ _ _ _ = other is
-none_of name (inr (inr (inl is))) _ _ other _ _ _ _ _ _ _ _ _ _ _ = other is
-none_of name (inr (inr (inr (inl is)))) _ _ _ other _ _ _ _ _ _ _ _ _ _ = other is
-none_of name (inr (inr (inr (inr (inl is))))) _ _ _ _ other _ _ _ _ _ _ _ _ _ = other is
-none_of name (inr (inr (inr (inr (inr (inl is)))))) _ _ _ _ _ other _ _ _ _ _ _ _ _ = other is
-none_of name (inr (inr (inr (inr (inr (inr (inl is))))))) _ _ _ _ _ _ other _ _ _ _ _ _ _ = other is
-none_of name (inr (inr (inr (inr (inr (inr (inr (inl is)))))))) _ _ _ _ _ _ _ other _ _ _ _ _ _ = other is
-none_of name (inr (inr (inr (inr (inr (inr (inr (inr (inl is))))))))) _ _ _ _ _ _ _ _ other _ _ _ _ _ = other is
-none_of name (inr (inr (inr (inr (inr (inr (inr (inr (inr (inl is)))))))))) _ _ _ _ _ _ _ _ _ other _ _ _ _ = other is
-none_of name (inr (inr (inr (inr (inr (inr (inr (inr (inr (inr (inl is))))))))))) _ _ _ _ _ _ _ _ _ _ other _ _ _ = other is
-none_of name (inr (inr (inr (inr (inr (inr (inr (inr (inr (inr (inr (inl is)))))))))))) _ _ _ _ _ _ _ _ _ _ _ other _ _ = other is
-none_of name (inr (inr (inr (inr (inr (inr (inr (inr (inr (inr (inr (inr (inl is))))))))))))) _ _ _ _ _ _ _ _ _ _ _ _ other _ = other is
-none_of name (inr (inr (inr (inr (inr (inr (inr (inr (inr (inr (inr (inr (inr is))))))))))))) _ _ _ _ _ _ _ _ _ _ _ _ _ other = other is
+none_of name (inl is) other _ _ _ _ _ _ _ _ _ _ _ _ _ _ = other is
+none_of name (inr (inl is)) _ other _ _ _ _ _ _ _ _ _ _ _ _ _ = other is
+none_of name (inr (inr (inl is))) _ _ other _ _ _ _ _ _ _ _ _ _ _ _ = other is
+none_of name (inr (inr (inr (inl is)))) _ _ _ other _ _ _ _ _ _ _ _ _ _ _ = other is
+none_of name (inr (inr (inr (inr (inl is))))) _ _ _ _ other _ _ _ _ _ _ _ _ _ _ = other is
+none_of name (inr (inr (inr (inr (inr (inl is)))))) _ _ _ _ _ other _ _ _ _ _ _ _ _ _ = other is
+none_of name (inr (inr (inr (inr (inr (inr (inl is))))))) _ _ _ _ _ _ other _ _ _ _ _ _ _ _ = other is
+none_of name (inr (inr (inr (inr (inr (inr (inr (inl is)))))))) _ _ _ _ _ _ _ other _ _ _ _ _ _ _ = other is
+none_of name (inr (inr (inr (inr (inr (inr (inr (inr (inl is))))))))) _ _ _ _ _ _ _ _ other _ _ _ _ _ _ = other is
+none_of name (inr (inr (inr (inr (inr (inr (inr (inr (inr (inl is)))))))))) _ _ _ _ _ _ _ _ _ other _ _ _ _ _ = other is
+none_of name (inr (inr (inr (inr (inr (inr (inr (inr (inr (inr (inl is))))))))))) _ _ _ _ _ _ _ _ _ _ other _ _ _ _ = other is
+none_of name (inr (inr (inr (inr (inr (inr (inr (inr (inr (inr (inr (inl is)))))))))))) _ _ _ _ _ _ _ _ _ _ _ other _ _ _ = other is
+none_of name (inr (inr (inr (inr (inr (inr (inr (inr (inr (inr (inr (inr (inl is))))))))))))) _ _ _ _ _ _ _ _ _ _ _ _ other _ _ = other is
+none_of name (inr (inr (inr (inr (inr (inr (inr (inr (inr (inr (inr (inr (inr (inl is)))))))))))))) _ _ _ _ _ _ _ _ _ _ _ _ _ other _ = other is
+none_of name (inr (inr (inr (inr (inr (inr (inr (inr (inr (inr (inr (inr (inr (inr is)))))))))))))) _ _ _ _ _ _ _ _ _ _ _ _ _ _ other = other is

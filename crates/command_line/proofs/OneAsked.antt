@@ -13,7 +13,7 @@ use Rattle.command_line.specs.declared.Change.{Change}
 use Rattle.command_line.specs.declared.Change.TheVariants.{Create, Extend, Remove, Rename}
 use Rattle.command_line.specs.declared.Change.TheVariants as change
 use Rattle.command_line.specs.declared.Invocation.{Invocation}
-use Rattle.command_line.specs.declared.Invocation.TheVariants.{Examine, Fail, Make, MakeSized, Rebuild, Replace, Run, Scrub, Status, Upgrade}
+use Rattle.command_line.specs.declared.Invocation.TheVariants.{Examine, Fail, Make, MakeSized, Rebuild, Replace, Run, Scrub, Serve, Status, Upgrade}
 use Rattle.command_line.specs.declared.Invocation.TheVariants.{Change as ChangeVolumes}
 use Rattle.command_line.specs.declared.InvocationFault.{InvocationFault}
 use Rattle.command_line.specs.declared.InvocationFault.TheVariants.{BadId, BadShape, BadSize, Usage}
@@ -239,6 +239,7 @@ change_name change.List = codes "list"
 
 abbrev pub invocation_name : Invocation → Text
 invocation_name (Run folder id) = codes "run"
+invocation_name (Serve folder id) = codes "serve"
 invocation_name (Make folder id members chunk stripes) = codes "make"
 invocation_name (MakeSized folder id members chunk size over reserve) = codes "make"
 invocation_name (Status folder id json check) = codes "status"
@@ -260,6 +261,7 @@ change_is name rows change.List h = h
 pub invocation_is : (name : Text) (rows : List Row) (choice : SetChoice) (line : Invocation) → SaysInvocation name rows choice line
     → name ≡ invocation_name line
 invocation_is name rows choice (Run folder id) h = h.0
+invocation_is name rows choice (Serve folder id) h = h.0
 invocation_is name rows choice (Make folder id members chunk stripes) h = h.0
 invocation_is name rows choice (MakeSized folder id members chunk size over reserve) h = h.0
 invocation_is name rows choice (Status folder id json check) h = h.0
@@ -274,6 +276,7 @@ invocation_is name rows choice (ChangeVolumes folder id change) h = change_is na
 -- no line has a bad id
 good_id : (name : Text) (rows : List Row) (choice : SetChoice) (line : Invocation) → SaysInvocation name rows choice line → ¬ HasBadId name rows
 good_id name rows choice (Run folder id) h = no_bad_id name rows folder.now choice id h.1
+good_id name rows choice (Serve folder id) h = no_bad_id name rows folder.now choice id h.1
 good_id name rows choice (Make folder id members chunk stripes) h = no_bad_id name rows folder.now choice id h.1
 good_id name rows choice (MakeSized folder id members chunk size over reserve) h = no_bad_id name rows folder.now choice id h.1
 good_id name rows choice (Status folder id json check) h = no_bad_id name rows folder.now choice id h.1
@@ -433,6 +436,7 @@ SameChange _ _ = ⊥
 -- the same line, whose texts may lie elsewhere in memory
 abbrev pub SameInvocation : Invocation → Invocation → Type 0
 SameInvocation (Run f i) (Run g j) = (f.now ≡ g.now) × (i ≡ j)
+SameInvocation (Serve f i) (Serve g j) = (f.now ≡ g.now) × (i ≡ j)
 SameInvocation (Make f i members chunk stripes) (Make g j m c s) = (f.now ≡ g.now) × (i ≡ j) × SameSizes members chunk stripes m c s
 SameInvocation (MakeSized f i members chunk size over reserve) (MakeSized g j m c s o r) =
     (f.now ≡ g.now) × (i ≡ j) × SameRoomValues members chunk size over reserve m c s o r
@@ -470,6 +474,9 @@ module _ (name : Text) (rows : List Row) (c d : SetChoice) where
   -- one subcommand with its rows says one line
   pub one_said : (a b : Invocation) → SaysInvocation name rows c a → SaysInvocation name rows d b → (c ≡ d) × SameInvocation a b
   one_said (Run f i) (Run g j) h k =
+      let set = of_set f.now g.now i j h.1 k.1 in
+      (set.0, (set.1, set.2))
+  one_said (Serve f i) (Serve g j) h k =
       let set = of_set f.now g.now i j h.1 k.1 in
       (set.0, (set.1, set.2))
   one_said (Make f i members chunk stripes) (Make g j m n s) h k =

@@ -1,6 +1,6 @@
 -- What clap makes of the plain words of each command.
 use Rattle.command_line.specs.Requests.{CreateOf, ExamineOf, ExtendOf, FailOf, IsPlain, ListOf, MakeOf, MakeSizedOf, RebuildOf, RemoveOf, RenameOf, ReplaceOf}
-use Rattle.command_line.specs.Requests.{Request, RunOf, ScrubOf, StatusOf, UpgradeOf}
+use Rattle.command_line.specs.Requests.{Request, RunOf, ScrubOf, ServeOf, StatusOf, UpgradeOf}
 use Rattle.command_line.proofs.Answering.{Reads}
 use Rattle.command_line.proofs.PlainExamine.{reads_examine}
 use Rattle.command_line.proofs.PlainMake.{reads_make}
@@ -9,10 +9,11 @@ use Rattle.command_line.proofs.PlainRoom.{reads_room}
 use Rattle.command_line.proofs.PlainSlot.{reads_fail, reads_replace}
 use Rattle.command_line.proofs.PlainStatus.{reads_status}
 use Rattle.command_line.proofs.PlainVolumes.{reads_create, reads_extend, reads_remove, reads_rename}
-use Rattle.command_line.proofs.PlainWords.{reads_list, reads_run, reads_scrub, reads_upgrade}
+use Rattle.command_line.proofs.PlainWords.{reads_list, reads_run, reads_scrub, reads_serve, reads_upgrade}
 
 pub reads_plain : (request : Request) → IsPlain request → Reads request
 reads_plain (RunOf folder id) is = reads_run folder id is
+reads_plain (ServeOf folder id) is = reads_serve folder id is
 reads_plain (MakeOf folder id members chunk stripes) is = reads_make folder id members chunk stripes is.0 is.1 is.2 is.3
 reads_plain (StatusOf folder id json check) is = reads_status folder id json check is
 reads_plain (FailOf folder id slot) is = reads_fail folder id slot is.0 is.1

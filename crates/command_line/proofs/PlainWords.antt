@@ -1,13 +1,13 @@
--- What clap makes of the words `run FOLDER --id H`, and of `scrub`, `upgrade` and `list` likewise.
+-- What clap makes of the words `run FOLDER --id H`, and of `serve`, `scrub`, `upgrade` and `list` likewise.
 use Rattle.std.proofs.Common.{◌≡◌, ◌∙◌, refl, sym, ℕ, List, [], ◌∷◌, Some, codes}
 use Rattle.clap.specs.Faults.{defaults_fault, walk_fault}
 use Rattle.clap.specs.Walk.{Row, Text, finished, first_of, nothing_held, walk_from, walked}
 use Rattle.command_line.specs.declared.Change.TheVariants as change
 use Rattle.command_line.specs.declared.Invocation.{Invocation}
-use Rattle.command_line.specs.declared.Invocation.TheVariants.{Run, Scrub, Upgrade, Change as ChangeVolumes}
+use Rattle.command_line.specs.declared.Invocation.TheVariants.{Run, Scrub, Serve, Upgrade, Change as ChangeVolumes}
 use Rattle.command_line.specs.declared.SetChoice.{SetChoice}
 use Rattle.command_line.specs.Invocations.{Chooses, Enters, NamesSet, SaysInvocation}
-use Rattle.command_line.specs.Requests.{IsLineOf, IsPlainSet, ListOf, RunOf, ScrubOf, UpgradeOf, words_of}
+use Rattle.command_line.specs.Requests.{IsLineOf, IsPlainSet, ListOf, RunOf, ScrubOf, ServeOf, UpgradeOf, words_of}
 use Rattle.command_line.proofs.Answering.{Reads, no_bad, no_fault_in}
 use Rattle.command_line.proofs.OneAsked.{no_change, other_change, other_invocation, same_text}
 use Rattle.command_line.proofs.PlainSteps.{IsValue, plain_choice, set_choice, value_from_first}
@@ -41,7 +41,7 @@ module _ (name folder text : Text) (is_folder : IsValue folder) (is_id : IsValue
   unfolding defaults_fault
   ends_well = record { settles = refl; defaults = refl; checks = refl }
 
--- ---- `run`, `scrub`, `upgrade` and `list`
+-- ---- `run`, `serve`, `scrub`, `upgrade` and `list`
 
 module _ (folder text : Text) (is_folder : IsValue folder) (is_id : IsValue text) where
   abbrev rows_of : Text → List Row
@@ -62,6 +62,22 @@ module _ (folder text : Text) (is_folder : IsValue folder) (is_id : IsValue text
   run_says choice (Run f id) h = set_values (codes "run") (rows_of (codes "run")) f.now folder text choice id h.1 refl refl
   run_says choice (ChangeVolumes f id change) h = absurd (no_change (codes "run") (rows_of (codes "run")) change refl refl refl refl refl h.1)
   run_says choice line h = absurd (other_invocation (codes "run") (rows_of (codes "run")) choice line refl h)
+
+  serve_stops : StopsAt (built_set (codes "serve")) (folder ∷ codes "--id" ∷ text ∷ [])
+  unfolding walked walk_fault
+  serve_stops = record { walk_is = refl; no_fault = refl; found = refl }
+
+  serve_enters : Enters (words_of (ServeOf folder text)) (codes "serve") (rows_of (codes "serve"))
+  serve_enters =
+      sub_enters (built_set (codes "serve")) _ (id_given folder text) serve_stops (goes (codes "serve") folder text is_folder is_id)
+      (ends_well (codes "serve") folder text is_folder is_id)
+
+  -- all that they say
+  serve_says : (choice : SetChoice) (line : Invocation) → SaysInvocation (codes "serve") (rows_of (codes "serve")) choice line
+      → IsLineOf (ServeOf folder text) choice line
+  serve_says choice (Serve f id) h = set_values (codes "serve") (rows_of (codes "serve")) f.now folder text choice id h.1 refl refl
+  serve_says choice (ChangeVolumes f id change) h = absurd (no_change (codes "serve") (rows_of (codes "serve")) change refl refl refl refl refl h.1)
+  serve_says choice line h = absurd (other_invocation (codes "serve") (rows_of (codes "serve")) choice line refl h)
 
   scrub_stops : StopsAt (built_set (codes "scrub")) (folder ∷ codes "--id" ∷ text ∷ [])
   unfolding walked walk_fault
@@ -123,6 +139,19 @@ reads_run folder text is =
       enters = run_enters folder text v t;
       good = no_fault_in (codes "run") rows refl refl refl (no_bad (codes "run") rows text refl (set_choice (codes "run") text refl is.1));
       says = run_says folder text v t;
+    }
+
+pub reads_serve : (folder text : Text) → IsPlainSet folder text → Reads (ServeOf folder text)
+reads_serve folder text is =
+    let v = value_from_first folder is.0 in
+    let t = value_from_first text (plain_choice text is.1) in
+    let rows = rows_of folder text v t (codes "serve") in
+    record {
+      name = codes "serve";
+      rows = rows;
+      enters = serve_enters folder text v t;
+      good = no_fault_in (codes "serve") rows refl refl refl (no_bad (codes "serve") rows text refl (set_choice (codes "serve") text refl is.1));
+      says = serve_says folder text v t;
     }
 
 pub reads_scrub : (folder text : Text) → IsPlainSet folder text → Reads (ScrubOf folder text)

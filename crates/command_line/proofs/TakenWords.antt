@@ -18,7 +18,7 @@ use Rattle.command_line.specs.Commands.{name_rule, new_name_rule, raidtool_app, 
 use Rattle.command_line.specs.Commands.{some_id_rule, some_number_rule, status_app, steps_rule, stripes_rule, up_to, volume_app}
 use Rattle.command_line.specs.FoundRows.{HasCountOrNone, HasEntered, HasFlagValue, HasFlags, HasFolder, HasMakeValues, HasNumberTo, HasNumberToOrNone, HasSet}
 use Rattle.command_line.specs.FoundRows.{HasWord, of_create, of_examine, of_extend, of_fail, of_list, of_make, of_rebuild, of_remove, of_rename, of_replace}
-use Rattle.command_line.specs.FoundRows.{of_run, of_scrub, of_status, of_upgrade}
+use Rattle.command_line.specs.FoundRows.{of_run, of_scrub, of_serve, of_status, of_upgrade}
 use Rattle.command_line.specs.Invocations.{IsTaken}
 use Rattle.command_line.proofs.TakenRows.{Ends, GivenBy, default_row, found_value, given_some, given_value, kept_row, level_ends, no_default, no_row}
 use Rattle.command_line.proofs.TakenRows.{number_given}
@@ -128,7 +128,7 @@ one_given : (a : Bool) → ((true && not a) || false) ≡ false → a ≡ true
 one_given true e = refl
 one_given false e = absurd (true≢false e)
 
--- ---- what `run`, `scrub`, `upgrade` and `list` find
+-- ---- what `run`, `serve`, `scrub`, `upgrade` and `list` find
 
 module _ (name : Text) where
   set_fills : Fills (built_set name).rules (built_set name).rules
@@ -488,14 +488,15 @@ taken_rename words e =
 -- ---- what the program's words find
 
 -- the subcommand whose name is met first
-abbrev met : (is_run is_make is_status is_fail is_replace is_rebuild is_scrub is_upgrade is_examine : Bool)
+abbrev met : (is_run is_serve is_make is_status is_fail is_replace is_rebuild is_scrub is_upgrade is_examine : Bool)
     (is_create is_extend is_remove is_rename is_list : Bool) → Option Shape
-met is_run is_make is_status is_fail is_replace is_rebuild is_scrub is_upgrade is_examine is_create is_extend is_remove is_rename is_list =
-    cond is_run (Some (built_set (codes "run"))) (cond is_make (Some built_make) (cond is_status (Some built_status)
-    (cond is_fail (Some (built_slotted (codes "fail"))) (cond is_replace (Some (built_slotted (codes "replace"))) (cond is_rebuild (Some built_rebuild)
-    (cond is_scrub (Some (built_set (codes "scrub"))) (cond is_upgrade (Some (built_set (codes "upgrade"))) (cond is_examine (Some built_examine)
-    (cond is_create (Some (built_sized (codes "create"))) (cond is_extend (Some (built_sized (codes "extend")))
-    (cond is_remove (Some (built_volume (codes "remove"))) (cond is_rename (Some built_rename) (cond is_list (Some (built_set (codes "list"))) None)))))))))))))
+met is_run is_serve is_make is_status is_fail is_replace is_rebuild is_scrub is_upgrade is_examine is_create is_extend is_remove is_rename is_list =
+    cond is_run (Some (built_set (codes "run"))) (cond is_serve (Some (built_set (codes "serve"))) (cond is_make (Some built_make)
+    (cond is_status (Some built_status) (cond is_fail (Some (built_slotted (codes "fail"))) (cond is_replace (Some (built_slotted (codes "replace")))
+    (cond is_rebuild (Some built_rebuild) (cond is_scrub (Some (built_set (codes "scrub"))) (cond is_upgrade (Some (built_set (codes "upgrade")))
+    (cond is_examine (Some built_examine) (cond is_create (Some (built_sized (codes "create"))) (cond is_extend (Some (built_sized (codes "extend")))
+    (cond is_remove (Some (built_volume (codes "remove"))) (cond is_rename (Some built_rename)
+    (cond is_list (Some (built_set (codes "list"))) None))))))))))))))
 
 -- words that clap takes as the program's are those of a subcommand with all its values
 pub taken_words : (words : List Text) → IsTaken words → HasEntered (subcommand_of raidtool_app words)
@@ -514,64 +515,70 @@ taken_words words e =
     there true e = refl
     there false e = cc
 
-    found : (p : Text × List Text) (is_run is_make is_status is_fail is_replace is_rebuild is_scrub is_upgrade is_examine : Bool)
+    found : (p : Text × List Text) (is_run is_serve is_make is_status is_fail is_replace is_rebuild is_scrub is_upgrade is_examine : Bool)
         (is_create is_extend is_remove is_rename is_list : Bool)
         → option_map_or (λ s. level_fault s [] nothing_held p.1 false [])
-        (met is_run is_make is_status is_fail is_replace is_rebuild is_scrub is_upgrade is_examine is_create is_extend is_remove is_rename is_list) [] ≡ []
+        (met is_run is_serve is_make is_status is_fail is_replace is_rebuild is_scrub is_upgrade is_examine
+        is_create is_extend is_remove is_rename is_list) [] ≡ []
         → is_some (option_map (λ s. rows_at s p.1)
-        (met is_run is_make is_status is_fail is_replace is_rebuild is_scrub is_upgrade is_examine is_create is_extend is_remove is_rename is_list)) ≡ true
+        (met is_run is_serve is_make is_status is_fail is_replace is_rebuild is_scrub is_upgrade is_examine
+        is_create is_extend is_remove is_rename is_list)) ≡ true
         → HasEntered (option_map (λ s. rows_at s p.1)
-        (met is_run is_make is_status is_fail is_replace is_rebuild is_scrub is_upgrade is_examine is_create is_extend is_remove is_rename is_list))
-    found p true is_make is_status is_fail is_replace is_rebuild is_scrub is_upgrade is_examine is_create is_extend is_remove is_rename is_list taken has =
+        (met is_run is_serve is_make is_status is_fail is_replace is_rebuild is_scrub is_upgrade is_examine
+        is_create is_extend is_remove is_rename is_list))
+    found p true _ _ _ _ _ _ _ _ _ _ _ _ _ _ taken has =
         let set : HasSet _ = taken_set (codes "run") p.1 taken in
         record { folder = set.folder; set = λ other. set; others = of_run refl }
-    found p false true is_status is_fail is_replace is_rebuild is_scrub is_upgrade is_examine is_create is_extend is_remove is_rename is_list taken has =
+    found p false true _ _ _ _ _ _ _ _ _ _ _ _ _ taken has =
+        let set : HasSet _ = taken_set (codes "serve") p.1 taken in
+        record { folder = set.folder; set = λ other. set; others = of_serve refl }
+    found p false false true _ _ _ _ _ _ _ _ _ _ _ _ taken has =
         let make = taken_make p.1 taken in
         record { folder = make.0.folder; set = λ other. make.0; others = of_make refl make.1 }
-    found p false false true is_fail is_replace is_rebuild is_scrub is_upgrade is_examine is_create is_extend is_remove is_rename is_list taken has =
+    found p false false false true _ _ _ _ _ _ _ _ _ _ _ taken has =
         let status = taken_status p.1 taken in
         record { folder = status.0.folder; set = λ other. status.0; others = of_status refl status.1 }
-    found p false false false true is_replace is_rebuild is_scrub is_upgrade is_examine is_create is_extend is_remove is_rename is_list taken has =
+    found p false false false false true _ _ _ _ _ _ _ _ _ _ taken has =
         let fail = taken_slot (codes "fail") p.1 taken in
         record { folder = fail.0.folder; set = λ other. fail.0; others = of_fail refl fail.1 }
-    found p false false false false true is_rebuild is_scrub is_upgrade is_examine is_create is_extend is_remove is_rename is_list taken has =
+    found p false false false false false true _ _ _ _ _ _ _ _ _ taken has =
         let replace = taken_slot (codes "replace") p.1 taken in
         record { folder = replace.0.folder; set = λ other. replace.0; others = of_replace refl replace.1 }
-    found p false false false false false true is_scrub is_upgrade is_examine is_create is_extend is_remove is_rename is_list taken has =
+    found p false false false false false false true _ _ _ _ _ _ _ _ taken has =
         let rebuild = taken_rebuild p.1 taken in
         record { folder = rebuild.0.folder; set = λ other. rebuild.0; others = of_rebuild refl rebuild.1 }
-    found p false false false false false false true is_upgrade is_examine is_create is_extend is_remove is_rename is_list taken has =
+    found p false false false false false false false true _ _ _ _ _ _ _ taken has =
         let set : HasSet _ = taken_set (codes "scrub") p.1 taken in
         record { folder = set.folder; set = λ other. set; others = of_scrub refl }
-    found p false false false false false false false true is_examine is_create is_extend is_remove is_rename is_list taken has =
+    found p false false false false false false false false true _ _ _ _ _ _ taken has =
         let set : HasSet _ = taken_set (codes "upgrade") p.1 taken in
         record { folder = set.folder; set = λ other. set; others = of_upgrade refl }
-    found p false false false false false false false false true is_create is_extend is_remove is_rename is_list taken has =
+    found p false false false false false false false false false true _ _ _ _ _ taken has =
         let examine = taken_examine p.1 taken in
         record { folder = examine.0; set = λ other. absurd (other refl); others = of_examine refl examine.1 }
-    found p false false false false false false false false false true is_extend is_remove is_rename is_list taken has =
+    found p false false false false false false false false false false true _ _ _ _ taken has =
         let create = taken_sized (codes "create") p.1 taken in
         record { folder = create.0.folder; set = λ other. create.0; others = of_create refl create.1 create.2 }
-    found p false false false false false false false false false false true is_remove is_rename is_list taken has =
+    found p false false false false false false false false false false false true _ _ _ taken has =
         let extend = taken_sized (codes "extend") p.1 taken in
         record { folder = extend.0.folder; set = λ other. extend.0; others = of_extend refl extend.1 extend.2 }
-    found p false false false false false false false false false false false true is_rename is_list taken has =
+    found p false false false false false false false false false false false false true _ _ taken has =
         let remove = taken_remove p.1 taken in
         record { folder = remove.0.folder; set = λ other. remove.0; others = of_remove refl remove.1 }
-    found p false false false false false false false false false false false false true is_list taken has =
+    found p false false false false false false false false false false false false false true _ taken has =
         let rename = taken_rename p.1 taken in
         record { folder = rename.0.folder; set = λ other. rename.0; others = of_rename refl rename.1 rename.2 }
-    found p false false false false false false false false false false false false false true taken has =
+    found p false false false false false false false false false false false false false false true taken has =
         let set : HasSet _ = taken_set (codes "list") p.1 taken in
         record { folder = set.folder; set = λ other. set; others = of_list refl }
-    found p false false false false false false false false false false false false false false taken has = absurd (true≢false (sym has))
+    found p false false false false false false false false false false false false false false false taken has = absurd (true≢false (sym has))
 
     go : (stop : Option (Text × List Text)) → entered_fault (built raidtool_app) stop ≡ [] → is_some (entered (built raidtool_app) stop) ≡ true
         → HasEntered (entered (built raidtool_app) stop)
     go None taken has = absurd (true≢false (sym has))
     go (Some p) taken has =
-        found p (answers_to p.0 (codes "run", [])) (answers_to p.0 (codes "make", [])) (answers_to p.0 (codes "status", []))
-        (answers_to p.0 (codes "fail", [])) (answers_to p.0 (codes "replace", [])) (answers_to p.0 (codes "rebuild", []))
-        (answers_to p.0 (codes "scrub", [])) (answers_to p.0 (codes "upgrade", [])) (answers_to p.0 (codes "examine", []))
-        (answers_to p.0 (codes "create", [])) (answers_to p.0 (codes "extend", [])) (answers_to p.0 (codes "remove", []))
-        (answers_to p.0 (codes "rename", [])) (answers_to p.0 (codes "list", [])) taken has
+        found p (answers_to p.0 (codes "run", [])) (answers_to p.0 (codes "serve", [])) (answers_to p.0 (codes "make", []))
+        (answers_to p.0 (codes "status", [])) (answers_to p.0 (codes "fail", [])) (answers_to p.0 (codes "replace", []))
+        (answers_to p.0 (codes "rebuild", [])) (answers_to p.0 (codes "scrub", [])) (answers_to p.0 (codes "upgrade", []))
+        (answers_to p.0 (codes "examine", [])) (answers_to p.0 (codes "create", [])) (answers_to p.0 (codes "extend", []))
+        (answers_to p.0 (codes "remove", [])) (answers_to p.0 (codes "rename", [])) (answers_to p.0 (codes "list", [])) taken has

@@ -34,6 +34,10 @@ set_app name = with_rule (with_rule (new_app name) folder_rule) id_rule
 abbrev pub run_app : App
 run_app = set_app (codes "run")
 
+-- the command `serve FOLDER --id H`
+abbrev pub serve_app : App
+serve_app = set_app (codes "serve")
+
 -- an option of this name, whose value passes this parser, and which may be left out
 abbrev pub some_number_rule : Text → ValueParser → Rule
 some_number_rule name parser = record (new_rule name) {
@@ -191,8 +195,8 @@ bare_app = on_top (λ s. record s {
 -- with the commands on a set
 abbrev pub set_apps : App → App
 set_apps app = with_subcommand (with_subcommand (with_subcommand (with_subcommand (with_subcommand (with_subcommand (with_subcommand
-    (with_subcommand (with_subcommand app run_app.top) make_app.top) status_app.top) fail_app.top) replace_app.top) rebuild_app.top)
-    scrub_app.top) upgrade_app.top) examine_app.top
+    (with_subcommand (with_subcommand (with_subcommand app run_app.top) serve_app.top) make_app.top) status_app.top) fail_app.top)
+    replace_app.top) rebuild_app.top) scrub_app.top) upgrade_app.top) examine_app.top
 
 -- the program's command: its words begin with the name of a subcommand
 abbrev pub raidtool_app : App

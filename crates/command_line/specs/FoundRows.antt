@@ -50,6 +50,7 @@ pub record HasMakeValues (rows : List Row) : Type 0 where
 -- the rows of a subcommand of this name have all its values beside FOLDER and the id
 pub data HasValues (name : Text) (rows : List Row) : Type 0 where
   of_run : name ≡ codes "run" → HasValues name rows
+  of_serve : name ≡ codes "serve" → HasValues name rows
   of_make : name ≡ codes "make" → HasMakeValues rows → HasValues name rows
   of_status : name ≡ codes "status" → HasFlags rows → HasValues name rows
   of_fail : name ≡ codes "fail" → HasNumberTo rows (codes "slot") 255 → HasValues name rows

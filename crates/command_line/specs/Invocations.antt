@@ -12,7 +12,7 @@ use Rattle.command_line.specs.declared.Asked.{Asked}
 use Rattle.command_line.specs.declared.Change.{Change}
 use Rattle.command_line.specs.declared.Change.TheVariants.{Create, Extend, Remove, Rename}
 use Rattle.command_line.specs.declared.Change.TheVariants as change
-use Rattle.command_line.specs.declared.Invocation.TheVariants.{Examine, Fail, Make, MakeSized, Rebuild, Replace, Run, Scrub, Status, Upgrade}
+use Rattle.command_line.specs.declared.Invocation.TheVariants.{Examine, Fail, Make, MakeSized, Rebuild, Replace, Run, Scrub, Serve, Status, Upgrade}
 use Rattle.command_line.specs.declared.Invocation.TheVariants.{Change as ChangeVolumes}
 use Rattle.command_line.specs.declared.InvocationFault.{InvocationFault}
 use Rattle.command_line.specs.declared.InvocationFault.TheVariants.{BadId, BadShape, BadSize, Usage}
@@ -145,6 +145,7 @@ SaysChange name rows change.List = name ≡ codes "list"
 -- the subcommand of this name with these rows asks for this line of the set that is chosen so
 abbrev pub SaysInvocation : Text → List Row → SetChoice → Invocation → Type 0
 SaysInvocation name rows choice (Run folder id) = (name ≡ codes "run") × NamesSet name rows folder.now choice id
+SaysInvocation name rows choice (Serve folder id) = (name ≡ codes "serve") × NamesSet name rows folder.now choice id
 SaysInvocation name rows choice (Make folder id members chunk stripes) = (name ≡ codes "make") × NamesSet name rows folder.now choice id
     × HasSizes rows members chunk stripes × IsByStripes rows
 SaysInvocation name rows choice (MakeSized folder id members chunk size over reserve) = (name ≡ codes "make") × NamesSet name rows folder.now choice id
@@ -198,6 +199,7 @@ IsFaultOf words fault = (name : Text) × (rows : List Row) × Enters words name 
 -- the line with this id in place of its own
 abbrev pub with_id : Invocation → List ℕ → Invocation
 with_id (Run folder old) id = Run folder id
+with_id (Serve folder old) id = Serve folder id
 with_id (Make folder old members chunk stripes) id = Make folder id members chunk stripes
 with_id (MakeSized folder old members chunk size over reserve) id = MakeSized folder id members chunk size over reserve
 with_id (Status folder old json check) id = Status folder id json check

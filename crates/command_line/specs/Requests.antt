@@ -9,7 +9,7 @@ use Rattle.command_line.specs.declared.Invocation.{Invocation}
 use Rattle.command_line.specs.declared.Asked.{Asked}
 use Rattle.command_line.specs.declared.Change.TheVariants.{Create, Extend, Remove, Rename}
 use Rattle.command_line.specs.declared.Change.TheVariants as change
-use Rattle.command_line.specs.declared.Invocation.TheVariants.{Examine, Fail, Make, MakeSized, Rebuild, Replace, Run, Scrub, Status, Upgrade}
+use Rattle.command_line.specs.declared.Invocation.TheVariants.{Examine, Fail, Make, MakeSized, Rebuild, Replace, Run, Scrub, Serve, Status, Upgrade}
 use Rattle.command_line.specs.declared.Invocation.TheVariants.{Change as ChangeVolumes}
 use Rattle.command_line.specs.declared.InvocationFault.{InvocationFault}
 use Rattle.command_line.specs.declared.InvocationFault.TheVariants.{Usage}
@@ -22,6 +22,7 @@ use Rattle.command_line.specs.Sizes.{IsExtent, IsRoom}
 -- each command, with the folder, the text of the id and the values that it is given; sizes are texts, and what may be left out is an Option, or a flag
 pub data Request : Type 0 where
   RunOf : (folder id : Text) → Request
+  ServeOf : (folder id : Text) → Request
   MakeOf : (folder id : Text) (members chunk stripes : ℕ) → Request
   StatusOf : (folder id : Text) (json check : Bool) → Request
   FailOf : (folder id : Text) (slot : ℕ) → Request
@@ -71,6 +72,7 @@ making_words false false = []
 -- the words of a command
 abbrev pub words_of : Request → List Text
 words_of (RunOf folder id) = codes "run" ∷ folder ∷ codes "--id" ∷ id ∷ []
+words_of (ServeOf folder id) = codes "serve" ∷ folder ∷ codes "--id" ∷ id ∷ []
 words_of (MakeOf folder id members chunk stripes) = codes "make" ∷ folder ∷ codes "--id" ∷ id ∷ codes "--members" ∷ decimal members
     ∷ codes "--chunk" ∷ decimal chunk ∷ codes "--stripes" ∷ decimal stripes ∷ []
 words_of (StatusOf folder id json check) = codes "status" ∷ folder ∷ codes "--id" ∷ id ∷ flag_words json check
@@ -117,6 +119,7 @@ AreSteps steps = IfSome steps (λ n. (1 ≤ n) × (n < 2 ^ 64))
 -- so it is, and each number is one of its type
 abbrev pub IsPlain : Request → Type 0
 IsPlain (RunOf folder id) = IsPlainSet folder id
+IsPlain (ServeOf folder id) = IsPlainSet folder id
 IsPlain (MakeOf folder id members chunk stripes) = IsPlainNewSet folder id × (members < 2 ^ 8) × (chunk < 2 ^ 16) × (stripes < 2 ^ 32)
 IsPlain (StatusOf folder id json check) = IsPlainSet folder id
 IsPlain (FailOf folder id slot) = IsPlainSet folder id × (slot < 2 ^ 8)
@@ -149,6 +152,7 @@ IsChunk (Some given) chunk = chunk ≡ given
 -- the line of this command, of the set that is chosen so, with the values that it is given
 abbrev pub IsLineOf : Request → SetChoice → Invocation → Type 0
 IsLineOf (RunOf folder text) choice (Run f id) = (f.now ≡ folder) × Chooses (codes "run") text choice id
+IsLineOf (ServeOf folder text) choice (Serve f id) = (f.now ≡ folder) × Chooses (codes "serve") text choice id
 IsLineOf (MakeOf folder text members chunk stripes) choice (Make f id m c s) =
     (f.now ≡ folder) × Chooses (codes "make") text choice id × (m ≡ members) × (c ≡ chunk) × (s ≡ stripes)
 IsLineOf (StatusOf folder text json check) choice (Status f id j c) = (f.now ≡ folder) × Chooses (codes "status") text choice id × (j ≡ json) × (c ≡ check)

@@ -8,10 +8,10 @@ ghost use Rattle.command_line.specs.Commands.{HasApp, bare_app, blocks_rule, che
 ghost use Rattle.command_line.specs.Commands.{examine_app, extend_app, fail_app, flag_rule, folder_rule, id_rule};
 ghost use Rattle.command_line.specs.Commands.{json_rule, list_app, make_app, members_rule, name_rule, new_name_rule};
 ghost use Rattle.command_line.specs.Commands.{number_rule, over_rule, raidtool_app, rebuild_app, remove_app};
-ghost use Rattle.command_line.specs.Commands.{rename_app, replace_app, reserve_rule, run_app, scrub_app, set_app};
-ghost use Rattle.command_line.specs.Commands.{size_rule, slot_rule, some_id_rule, some_number_rule, status_app};
-ghost use Rattle.command_line.specs.Commands.{steps_rule};
-ghost use Rattle.command_line.specs.Commands.{stripes_rule, upgrade_app, volume_app, word_rule};
+ghost use Rattle.command_line.specs.Commands.{rename_app, replace_app, reserve_rule, run_app, scrub_app, serve_app};
+ghost use Rattle.command_line.specs.Commands.{set_app, size_rule, slot_rule, some_id_rule, some_number_rule};
+ghost use Rattle.command_line.specs.Commands.{status_app, steps_rule, stripes_rule, upgrade_app, volume_app};
+ghost use Rattle.command_line.specs.Commands.{word_rule};
 
 use clap::builder::ValueParser;
 use clap::error::ErrorKind;
@@ -27,7 +27,8 @@ pub(crate) fn raidtool_command<'a>(alloc: Global) -> Result<Command<'a>, clap::E
     ensures err { IfErr result (λ error. kind_of error ≡ ErrorKind.OutOfMemory) }
 {
     let with_run = added(bare_command(alloc), run_command(alloc));
-    let with_make = added(with_run, make_command(alloc));
+    let with_serve = added(with_run, serve_command(alloc));
+    let with_make = added(with_serve, make_command(alloc));
     let with_status = added(with_make, status_command(alloc));
     let with_fail = added(with_status, fail_command(alloc));
     let with_replace = added(with_fail, replace_command(alloc));
@@ -174,6 +175,18 @@ fn run_command<'a>(alloc: Global) -> Result<Command<'a>, AllocError>
         alloc,
         "run",
         "Serves the script on standard input over the device files of a folder",
+    )
+}
+
+// The command `serve FOLDER --id H`.
+fn serve_command<'a>(alloc: Global) -> Result<Command<'a>, AllocError>
+    ensures { HasApp serve_app result }
+{
+    set_command(
+        alloc,
+        "serve",
+        "Serves requests on standard input over the device files of a folder: \
+their blocks are bytes",
     )
 }
 

@@ -75,6 +75,11 @@ pub enum Invocation<'a> {
         folder: &'a str,
         id: [u8; 16],
     },
+    /// Serve the requests on standard input, whose blocks are bytes, as the set of this id.
+    Serve {
+        folder: &'a str,
+        id: [u8; 16],
+    },
     /// Make a set of this id. The three numbers are the geometry that is asked for.
     Make {
         folder: &'a str,
@@ -157,6 +162,7 @@ impl<'a> Invocation<'a> {
         let mut line = self;
         match &mut line {
             Invocation::Run { id: place, .. } => *place = id,
+            Invocation::Serve { id: place, .. } => *place = id,
             Invocation::Make { id: place, .. } => *place = id,
             Invocation::MakeSized { id: place, .. } => *place = id,
             Invocation::Status { id: place, .. } => *place = id,
@@ -205,6 +211,7 @@ impl From<clap::Error> for InvocationFault {
 /// The words are those of one of these lines, each of which asks for the `Invocation` of its name:
 ///
 /// - `run FOLDER --id H`
+/// - `serve FOLDER --id H`
 /// - `make FOLDER --id H --members N --chunk C --stripes S`
 /// - `make FOLDER --id H --members N --size ROOM`, after which `--chunk C`, `--over` and
 ///   `--reserve` may stand, for `MakeSized`, whose chunk is 128 where it is left out

@@ -20,6 +20,7 @@ pub(crate) fn read_invocation<'a>(matches: &ArgMatches<'a>) -> Result<Asked<'a>,
 {
     match matches.subcommand() {
         Some(("run", run)) => read_run(run),
+        Some(("serve", serve)) => read_serve(serve),
         Some(("make", make)) => read_make(make),
         Some(("status", status)) => read_status(status),
         Some(("fail", fail)) => read_fail(fail),
@@ -119,6 +120,17 @@ fn read_run<'a>(matches: &ArgMatches<'a>) -> Result<Asked<'a>, InvocationFault>
     let set = read_set("run", matches)?;
     let (folder, id) = (set.folder, set.id);
     Ok(set.asks(Invocation::Run { folder, id }))
+}
+
+// Reads the matches of `serve`.
+fn read_serve<'a>(matches: &ArgMatches<'a>) -> Result<Asked<'a>, InvocationFault>
+    requires { HasSet (rows_of (found_of matches.now)) }
+    ensures ok { IfOk result (AsksIn (codes "serve") (rows_of (found_of matches.now))) }
+    ensures err { IfErr result (IsFaultIn (codes "serve") (rows_of (found_of matches.now))) }
+{
+    let set = read_set("serve", matches)?;
+    let (folder, id) = (set.folder, set.id);
+    Ok(set.asks(Invocation::Serve { folder, id }))
 }
 
 // Reads the matches of `make`.

@@ -65,6 +65,7 @@ fn change_text(alloc: Global, change: Change<'_>) -> Result<String, AllocError> 
 fn line_text(alloc: Global, line: Invocation<'_>) -> Result<String, AllocError> {
     match line {
         Invocation::Run { folder, id } => format!(in alloc; "run {folder} {}", id_text(id)),
+        Invocation::Serve { folder, id } => format!(in alloc; "serve {folder} {}", id_text(id)),
         Invocation::Make {
             folder,
             id,
@@ -152,6 +153,7 @@ fn tells(rt: &(impl Abort + AllocGlobal), cases: &[(&str, &str)]) {
 
 static EACH_COMMAND: &[(&str, &str)] = &[
     ("run|d|--id|H", "run d H"),
+    ("serve|d|--id|H", "serve d H"),
     (
         "make|d|--id|H|--members|3|--chunk|8|--stripes|32",
         "make d H 3 8 32",
@@ -196,6 +198,11 @@ static ANY_ORDER: &[(&str, &str)] = &[
     ("run|--id|H|d/e", "run d/e H"),
     ("run|run|--id|H", "run run H"),
     ("run|--id=000102030405060708090A0B0C0D0E0F|d", "run d H"),
+    (
+        "serve|--id=000102030405060708090a0b0c0d0e0f|serve",
+        "serve serve H",
+    ),
+    ("serve|--id|H|--|--json", "serve --json H"),
     ("scrub|--id|H|--|--id", "scrub --id H"),
     (
         "make|--stripes=32|--chunk=8|--members=3|d|--id|H",
@@ -215,6 +222,7 @@ fn reads_options_in_any_order(rt: HostRuntime) {
 
 static CHOICES: &[(&str, &str)] = &[
     ("run|d|--id|auto", "only run d 0"),
+    ("serve|d|--id|auto", "only serve d 0"),
     ("examine|d|--id=auto", "only examine d 0 false false"),
     ("list|--id|auto|d", "only d 0 list"),
     (
@@ -230,6 +238,7 @@ static CHOICES: &[(&str, &str)] = &[
         "BadId",
     ),
     ("make|d|--id|auto|--members|3", "BadId"),
+    ("serve|d|--id|new", "BadId"),
     ("status|d|--id|new", "BadId"),
     ("create|d|v|x|--id|new", "BadId"),
     ("run|d|--id|AUTO", "BadId"),
@@ -394,6 +403,9 @@ fn refuses_an_id(rt: HostRuntime) {
 static OTHER_WORDS: &[(&str, &str)] = &[
     ("", "MissingSubcommand"),
     ("walk|d", "InvalidSubcommand"),
+    ("serve|d", "MissingRequiredArgument"),
+    ("serve|d|e|--id|H", "UnknownArgument"),
+    ("serve|d|--id|H|--check", "UnknownArgument"),
     ("scrub|d", "MissingRequiredArgument"),
     ("upgrade|--id|H", "MissingRequiredArgument"),
     ("run|d|e|--id|H", "UnknownArgument"),
@@ -415,6 +427,7 @@ fn refuses_other_words(rt: HostRuntime) {
 
 static REQUESTS: &[(&str, &str)] = &[
     ("--help", "DisplayHelp"),
+    ("serve|-h", "DisplayHelp"),
     ("scrub|-h", "DisplayHelp"),
     ("--version", "DisplayVersion"),
     ("-V|--help", "DisplayVersion"),
@@ -434,7 +447,8 @@ static HELPS: &[(&str, &str)] = &[
         "A RAID 5 set with a stripe journal and linear logical volumes, over device files|\
 Usage: raidtool <COMMAND>|\
 Serves the script on standard input over the device files of a folder|\
-run|make|status|fail|replace|rebuild|scrub|upgrade|examine|\
+Serves requests on standard input over the device files of a folder: their blocks are bytes|\
+run|serve|make|status|fail|replace|rebuild|scrub|upgrade|examine|\
 create|extend|remove|rename|list|\
 -V, --version|Print version",
     ),
@@ -442,6 +456,14 @@ create|extend|remove|rename|list|\
         "run|--help",
         "Serves the script on standard input over the device files of a folder|\
 Usage: raidtool run --id <H> <FOLDER>|\
+The folder of dev0.img, dev1.img and so on|\
+The id of the set, 32 hexadecimal digits, or auto for the only one there",
+    ),
+    (
+        "serve|--help",
+        "Serves requests on standard input over the device files of a folder: \
+their blocks are bytes|\
+Usage: raidtool serve --id <H> <FOLDER>|\
 The folder of dev0.img, dev1.img and so on|\
 The id of the set, 32 hexadecimal digits, or auto for the only one there",
     ),
@@ -549,6 +571,11 @@ static FAULTS: &[(&str, &str)] = &[
         "scrub|d",
         "error: the following required arguments were not provided:|  --id <H>|\
 Usage: raidtool scrub --id <H> <FOLDER>",
+    ),
+    (
+        "serve|d",
+        "error: the following required arguments were not provided:|  --id <H>|\
+Usage: raidtool serve --id <H> <FOLDER>",
     ),
     ("walk|d", "error: unrecognized subcommand 'walk'"),
     ("run|d|--fast", "error: unexpected argument '--fast' found"),

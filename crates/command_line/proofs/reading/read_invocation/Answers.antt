@@ -15,8 +15,9 @@ unreachable-requires c = elim c.in_default.branch [
       let name = w.in_default.field-0.0.now in
       let named : Some name ≡ subcommand_name_of c.args.matches.now = rw w.in_default.is at c.subcommand.ensures.name in
       none_of name (is_known c.args.matches.now c.requires name named)
-      (search rules) (search rules) (search rules) (search rules) (search rules) (search rules) (search rules)
-      (search rules) (search rules) (search rules) (search rules) (search rules) (search rules) (search rules)
+      (search rules) (search rules) (search rules) (search rules) (search rules)
+      (search rules) (search rules) (search rules) (search rules) (search rules)
+      (search rules) (search rules) (search rules) (search rules) (search rules)
   | in_default-via-in_default w ↦ search rules
 ]
 
@@ -31,6 +32,18 @@ returns-in-Some-run-default-clause-err c =
     let arm = c.in-Some-run-default in
     fails_as c.args.matches.now arm.run'.now _ (codes "run") arm.ensures.name arm.ensures.rows arm.is-run
     c.read_run.result c.read_run.ensures.err
+
+pub returns-in-Some-serve-default-clause-ok : goal.returns-in-Some-serve-default-clause-ok
+returns-in-Some-serve-default-clause-ok c =
+    let arm = c.in-Some-serve-default in
+    asks_as c.args.matches.now arm.serve.now _ (codes "serve") arm.ensures.name arm.ensures.rows arm.is-serve
+    c.read_serve.result c.read_serve.ensures.ok
+
+pub returns-in-Some-serve-default-clause-err : goal.returns-in-Some-serve-default-clause-err
+returns-in-Some-serve-default-clause-err c =
+    let arm = c.in-Some-serve-default in
+    fails_as c.args.matches.now arm.serve.now _ (codes "serve") arm.ensures.name arm.ensures.rows arm.is-serve
+    c.read_serve.result c.read_serve.ensures.err
 
 pub returns-in-Some-make-default-clause-ok : goal.returns-in-Some-make-default-clause-ok
 returns-in-Some-make-default-clause-ok c =

@@ -32,14 +32,14 @@ pub data ServesSet (honest : Type 0) (id : List ℕ) (bank : BankView) (was : St
 
 -- A slot was given a device, or that was refused, and this was written. After that requests were served, unless the store was ended by it or the writer failed.
 pub data ReplacesAndServes (honest : Type 0) (slot : ℕ) (old : StoreView) (was : Streams) : (new : StoreView) (is : Streams) → Result Ending Refusal → Type 0
-    where
-  then_served : {new : StoreView} {is : Streams} {result : Result Ending Refusal} (answer : Answer) (mid : StoreView) (between : Streams)
-      → ReplacesDevice honest slot old mid answer → Writes was between (told_text (done_told answer)) → mid.ended ≡ None
-      → HasServed honest mid new between is result → ReplacesAndServes honest slot old was new is result
-  then_ended : {new : StoreView} {is : Streams} (refusal : Refusal) → ReplacesDevice honest slot old new (Err refusal) → EndsIt refusal
-      → Writes was is (refusal_line refusal) → ReplacesAndServes honest slot old was new is (Err refusal)
-  then_untold : {new : StoreView} {is : Streams} (answer : Answer) → ReplacesDevice honest slot old new answer
-      → WritesPart was is (told_text (done_told answer)) → ReplacesAndServes honest slot old was new is (Err WriteFault)
+  where
+    then_served : {new : StoreView} {is : Streams} {result : Result Ending Refusal} (answer : Answer) (mid : StoreView) (between : Streams)
+        → ReplacesDevice honest slot old mid answer → Writes was between (told_text (done_told answer)) → mid.ended ≡ None
+        → HasServed honest mid new between is result → ReplacesAndServes honest slot old was new is result
+    then_ended : {new : StoreView} {is : Streams} (refusal : Refusal) → ReplacesDevice honest slot old new (Err refusal) → EndsIt refusal
+        → Writes was is (refusal_line refusal) → ReplacesAndServes honest slot old was new is (Err refusal)
+    then_untold : {new : StoreView} {is : Streams} (answer : Answer) → ReplacesDevice honest slot old new answer
+        → WritesPart was is (told_text (done_told answer)) → ReplacesAndServes honest slot old was new is (Err WriteFault)
 
 -- so it was over the set on a bank; where that was not opened, this is the last line
 pub data ServesReplaced (honest : Type 0) (id : List ℕ) (slot : ℕ) (bank : BankView) (was : Streams) : (is : Streams) → Result Ending Refusal → Type 0 where

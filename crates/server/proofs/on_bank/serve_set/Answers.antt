@@ -5,8 +5,8 @@ use Rattle.server.proofs.Opened.{served_ends, served_set}
 use Rattle.server.specs.OnBanks.{not_opened}
 use Rattle.server.proofs.on_bank.serve_set.Goals as goal
 
-pub serve_requests-going : goal.serve_requests-going
-serve_requests-going g c = c.in_ok-store.ensures.opened.opens.going _ refl
+pub serve_requests-requires : goal.serve_requests-requires
+serve_requests-requires g c = record { going = c.in_ok-store.ensures.opened.opens.going _ refl }
 
 pub returns-clause-serves : goal.returns-clause-serves
 returns-clause-serves g c = served_set _ _ _ _ _ _ _ c.serve_requests.result c.in_ok-store.ensures.opened

@@ -9,6 +9,10 @@ mod kinds;
 mod law;
 mod serving;
 mod telling;
+#[cfg(test)]
+mod testing;
+#[cfg(test)]
+mod tests;
 mod waiting;
 
 pub use counts::{MOST_LINES_TOGETHER, MOST_WRITTEN_AT_ONCE};

@@ -97,7 +97,8 @@ fn ranges_that_are_refused(rt: HostRuntime) {
         &rt,
         &mut with_volume(&rt),
         &[(
-            b"read x 0 1\nzero x 0 1\nread v 63 2\nread v 4294967295 1\nread v 0 2048\nzero v 1 64\nzero v 0 65536\n",
+            b"read x 0 1\nzero x 0 1\nread v 63 2\nread v 4294967295 1\nread v 0 2048\n\
+zero v 1 64\nzero v 0 65536\n",
             1,
         )],
         &[(b"refused 6 NoVolume\n", 2), (b"refused 8 OutOfRange\n", 5)],

@@ -99,7 +99,8 @@ fn volumes_by_lines(rt: HostRuntime) {
         &rt,
         &mut fresh_store(&rt),
         &[(
-            b"list\ncreate b 5\ncreate a 70\nlist\nextend b 60\nrename a c\ncreate b 1\nlist\nremove b\nremove b\nlist\n",
+            b"list\ncreate b 5\ncreate a 70\nlist\nextend b 60\nrename a c\ncreate b 1\n\
+list\nremove b\nremove b\nlist\n",
             1,
         )],
         &[(

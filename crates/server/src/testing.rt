@@ -57,3 +57,13 @@ pub(crate) fn made_store(
     let array = make(bank, entry, ID, geometry).ok().expect(rt, "a set");
     Store::open(array).ok().expect(rt, "a store")
 }
+
+/// From the call of this number on the devices in these slots go down.
+pub(crate) fn fail_at(rt: &impl Abort, store: &mut Store<MemBank>, slots: &[usize], call: u64) {
+    let mut plan = Plan::NONE;
+    for slot in slots {
+        assert!(rt; *slot < 10);
+        plan.down[*slot] = Some(call);
+    }
+    store.array.bank.plan = plan;
+}

@@ -3,7 +3,7 @@ use crate::testing::streams::{Full, Script, WHOLE};
 use crate::testing::{fresh_store, made_store, same};
 use crate::{Ending, serve_requests};
 use layout_map::Geometry;
-use sector_model::{Bank, MemBank, Plan, Refusal};
+use sector_model::{Bank, MemBank, Refusal};
 use std::process::Abort;
 use volume_table::Store;
 
@@ -111,14 +111,4 @@ fn made(store: &Store<MemBank>) -> (u64, u64) {
 fn since(store: &Store<MemBank>, before: (u64, u64)) -> (u64, u64) {
     let now = made(store);
     (now.0.wrapping_sub(before.0), now.1.wrapping_sub(before.1))
-}
-
-/// From the call of this number on the devices in these slots go down.
-fn fail_at(rt: &impl Abort, store: &mut Store<MemBank>, slots: &[usize], call: u64) {
-    let mut plan = Plan::NONE;
-    for slot in slots {
-        assert!(rt; *slot < 10);
-        plan.down[*slot] = Some(call);
-    }
-    store.array.bank.plan = plan;
 }

@@ -6,7 +6,7 @@ ghost use Rattle.volume_table.specs.OpenStore.{store_view};
 use super::{Outcome, answer, ended_by, is_missing_slot};
 use crate::counts::MOST_WRITTEN_AT_ONCE;
 use crate::telling::write_told;
-use crate::testing::{STATUS, fresh_store, same};
+use crate::testing::{STATUS, fail_at, fresh_store, same};
 use requests::{Request, Stretch};
 use sector_model::{Bank, MemBank, Refusal, Sector};
 use std::process::Abort;
@@ -88,8 +88,7 @@ fn blocks_are_read_in_parts(rt: HostRuntime) {
 fn a_read_that_is_refused_on_the_way_tells_no_block(rt: HostRuntime) {
     let mut store = used_store(&rt);
     let call = store.bank().now().saturating_add(40);
-    store.array.bank.plan.down[0] = Some(call);
-    store.array.bank.plan.down[1] = Some(call);
+    fail_at(&rt, &mut store, &[0, 1], call);
     let stretch = Stretch {
         name: b"v",
         at: 0,

@@ -1,7 +1,7 @@
 //! Readers and writers that fail, and devices that go down.
-use super::{Part, cut, ends, fail_at, first, joined, made, serves, since, with_volume};
-use crate::testing::same;
+use super::{Part, cut, ends, first, joined, made, serves, since, with_volume};
 use crate::testing::streams::WHOLE;
+use crate::testing::{fail_at, same};
 use sector_model::{Bank, Refusal};
 use std::process::Abort;
 

@@ -104,8 +104,8 @@ list\nremove b\nremove b\nlist\n",
             1,
         )],
         &[(
-            b"volumes 0\nok\nok\nvolumes 2\na 70\nb 5\nok\nok\nrefused 3 Exists\nvolumes 2\nb 65\nc 70\n\
-ok\nrefused 6 NoVolume\nvolumes 1\nc 70\n",
+            b"volumes 0\nok\nok\nvolumes 2\na 70\nb 5\nok\nok\nrefused 3 Exists\n\
+volumes 2\nb 65\nc 70\nok\nrefused 6 NoVolume\nvolumes 1\nc 70\n",
             1,
         )],
     );

@@ -47,7 +47,8 @@ module _ (honest : Type 0) (start : StoreView) (was : Streams) (line : Line) (ol
     (last : (lines : List Line) (text : List ℕ) (refusal : Refusal) → Serves honest lines text [] [] [] 0 so_far start old → told ≡ TellsRefusal refusal
     → EndsStore honest start refusal (lines ++ line ∷ []) text new)
     (ready : NoneWaits honest start was [] 0 (spelled line) old (streams remaining contents) so_far) where
-  pub answered_on : ¬ EndsServing told → Appends contents contents' (told_text told) → NoneWaits honest start was [] 0 [] new (streams remaining contents') after
+  pub answered_on : ¬ EndsServing told → Appends contents contents' (told_text told)
+      → NoneWaits honest start was [] 0 [] new (streams remaining contents') after
   answered_on goes written = record {
     lines = ready.lines ++ line ∷ [];
     text = ready.text ++ told_text told;
@@ -59,7 +60,8 @@ module _ (honest : Type 0) (start : StoreView) (was : Streams) (line : Line) (ol
   pub answered_last : (refusal : Refusal) → EndsIt refusal → told ≡ TellsRefusal refusal → Appends contents contents' (told_text told)
       → StopsReady honest start was new (streams remaining contents') refusal
   answered_last refusal ends is written =
-      stops_ended honest start was new (streams remaining contents') (λ l a. (s : Report) × NoneWaits honest start was [] l a new (streams remaining contents') s)
+      stops_ended honest start was new (streams remaining contents')
+      (λ l a. (s : Report) × NoneWaits honest start was [] l a new (streams remaining contents') s)
       refusal ends record {
         lines = ready.lines ++ line ∷ [];
         text = ready.text;
@@ -97,7 +99,8 @@ module _ (honest : Type 0) (start : StoreView) (was : Streams) (line : Line) (ol
   ])
 
   -- by whether it ended the store
-  pub answered_by : (result : Result (Unit {0}) Refusal) → OnOk result (¬ EndsServing told) → IfErr result (λ refusal. EndsIt refusal × (told ≡ TellsRefusal refusal))
+  pub answered_by : (result : Result (Unit {0}) Refusal) → OnOk result (¬ EndsServing told)
+      → IfErr result (λ refusal. EndsIt refusal × (told ≡ TellsRefusal refusal))
       → Appends contents contents' (told_text told) → Commits honest start was [] 0 [] result new (streams remaining contents') after
   answered_by (Ok done) goes ends written = answered_on goes written
   answered_by (Err refusal) goes ends written = answered_last refusal ends.0 ends.1 written

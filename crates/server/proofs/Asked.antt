@@ -86,7 +86,8 @@ zeroes_first name at count old mid new (Err refusal) told same goes going zeroes
   | inr blocks ↦
       let ends : EndsCommitting (Unit {0}) blocks.writes old mid refusal = blocks.commits in
       let still : ends.mid.ended ≡ None = turns_go_on ends.done old ends.mid ends.before going in
-      let is : EndsIt refusal = end_is_one ends.mid.array mid.array (GREATEST_COUNT ≤ ends.mid.array.number) refusal ((ends.ends.going still).ends refusal refl).1 in
+      let is : EndsIt refusal = end_is_one ends.mid.array mid.array
+      (GREATEST_COUNT ≤ ends.mid.array.number) refusal ((ends.ends.going still).ends refusal refl).1 in
       absurd (subst (λ (t : Told). ¬ EndsServing t) same goes is)
 ]
 
@@ -146,13 +147,15 @@ serves_go_on lines text waiting replies parts left so_far old new going (then_to
     serves_go_on _ _ _ _ _ _ _ old new going before
 serves_go_on lines text waiting replies parts left so_far old new going (then_staged part before) = serves_go_on _ _ _ _ _ _ _ old new going before
 serves_go_on lines text waiting replies parts left so_far old new going (then_taken line before write) = serves_go_on _ _ _ _ _ _ _ old new going before
-serves_go_on lines text waiting replies parts left so_far old new going (then_refused line refusal before write) = serves_go_on _ _ _ _ _ _ _ old new going before
+serves_go_on lines text waiting replies parts left so_far old new going (then_refused line refusal before write) =
+    serves_go_on _ _ _ _ _ _ _ old new going before
 serves_go_on lines text waiting replies parts left so_far old new going (then_committed mid before commits) =
     (commits.going (serves_go_on _ _ _ _ _ _ _ old mid going before)).goes refl
 
 -- what was served so far, and then was asked
 pub serves_first : (lines : List Line) (text : List ℕ) (waiting : List Command) (replies : List Told) (parts : List Command) (left : ℕ)
-    (so_far : Report) (old mid new : StoreView) → old.ended ≡ None → Serves (Unit {0}) lines text waiting replies parts left so_far old mid → IsAsked mid new → IsAsked old new
+    (so_far : Report) (old mid new : StoreView) → old.ended ≡ None → Serves (Unit {0}) lines text waiting replies parts left so_far old mid
+    → IsAsked mid new → IsAsked old new
 serves_first lines text waiting replies parts left so_far old mid new going nothing_served rest = rest
 serves_first lines text waiting replies parts left so_far old mid new going (then_answered between line demand told before request served goes) rest =
     serves_first _ _ _ _ _ _ _ old between new going before
@@ -164,7 +167,8 @@ serves_first lines text waiting replies parts left so_far old mid new going (the
 serves_first lines text waiting replies parts left so_far old mid new going (then_alone before) rest = serves_first _ _ _ _ _ _ _ old mid new going before rest
 serves_first lines text waiting replies parts left so_far old mid new going (then_together line count before request least most) rest =
     serves_first _ _ _ _ _ _ _ old mid new going before rest
-serves_first lines text waiting replies parts left so_far old mid new going (then_staged part before) rest = serves_first _ _ _ _ _ _ _ old mid new going before rest
+serves_first lines text waiting replies parts left so_far old mid new going (then_staged part before) rest =
+    serves_first _ _ _ _ _ _ _ old mid new going before rest
 serves_first lines text waiting replies parts left so_far old mid new going (then_taken line before write) rest =
     serves_first _ _ _ _ _ _ _ old mid new going before rest
 serves_first lines text waiting replies parts left so_far old mid new going (then_refused line refusal before write) rest =
@@ -181,7 +185,8 @@ event_last : (old new : StoreView) (event : Event) (reply : Reply) → Applies (
 event_last old new event reply applies ends = (reply ∷ [], then_ended event reply applies ends)
 
 -- an event, whatever it came to
-event_or_last : (old new : StoreView) (event : Event) (refusal : Refusal) → Applies (Unit {0}) event old new (Refused refusal) → EndsIt refusal → IsAsked old new
+event_or_last : (old new : StoreView) (event : Event) (refusal : Refusal) → Applies (Unit {0}) event old new (Refused refusal)
+    → EndsIt refusal → IsAsked old new
 event_or_last old new event refusal applies ends = event_last old new event (Refused refusal) applies ends
 
 abbrev told_refusal : Refusal → Told
@@ -264,7 +269,8 @@ pub end_is_asking : EndIsAsking
 end_is_asking refusal lines text old new ends going (by_commit {waiting = waiting} mid serves commits) =
     serves_first _ _ _ _ _ _ _ old mid new going serves (map (λ write. Refused refusal) waiting, then_writes_ended waiting refusal commits)
 end_is_asking refusal lines text old new ends going (by_scrub mid line rows after serves request scrubs) =
-    serves_first _ _ _ _ _ _ _ old mid new going serves (scrub_last mid new _ scrubs.answer refusal ends (scrub_refusal _ scrubs.answer _ after refusal scrubs.is) scrubs.scrubs)
+    serves_first _ _ _ _ _ _ _ old mid new going serves
+    (scrub_last mid new _ scrubs.answer refusal ends (scrub_refusal _ scrubs.answer _ after refusal scrubs.is) scrubs.scrubs)
 end_is_asking refusal lines text old new ends going (by_request mid line demand serves request served) =
     serves_first _ _ _ _ _ _ _ old mid new going serves
     (answers_last demand mid new refusal ends (serves_go_on _ _ _ _ _ _ _ old mid going serves) served.answers)

@@ -45,7 +45,8 @@ commit_for_good then old new waits answer refusal going held commits lost =
 
 -- what a commit of the writes that wait answered
 abbrev pub CommitsAs : (then : Type 0) (old new : StoreView) (waits : Given) → Answer → Type 0
-CommitsAs then old new waits answer = (writes : List Command) → HoldsWrites (extents_for_store old) old.keeps writes waits → CommitsStaged then writes old new answer
+CommitsAs then old new waits answer = (writes : List Command) → HoldsWrites (extents_for_store old) old.keeps writes waits
+    → CommitsStaged then writes old new answer
 
 commits_as : (then : Type 0) (old new : StoreView) (waits : Given) (answer other : Answer) → answer ≡ other → CommitsAs then old new waits answer
     → CommitsAs then old new waits other
@@ -76,7 +77,8 @@ module _ (honest : Type 0) (start : StoreView) (was : Streams) (then : Type 0) (
       let ends : EndsIt refusal = commit_ends then come.waiting old new refusal going (lost_by come.waiting come.holds) in
       stops_ended honest start was new (streams remaining contents') (λ l a. ⊥)
       refusal ends
-      (come_lost honest start was then so parts left ahead old new remaining contents contents' waits (replies_of replies) so_far come refusal ends lost_by written)
+      (come_lost honest start was then so parts left ahead old new remaining contents contents' waits (replies_of replies) so_far come refusal
+      ends lost_by written)
 
   pub commit_lost_cut : (lost_with : Refusal) → answer ≡ Err lost_with → AppendsPart contents contents' (refusal_line lost_with) → (refusal : Refusal)
       → refusal ≡ WriteFault → StopsForGood honest start was new (streams remaining contents') refusal
@@ -84,4 +86,5 @@ module _ (honest : Type 0) (start : StoreView) (was : Streams) (then : Type 0) (
       let lost_by : CommitsAs then old new waits (Err lost_with) = commits_as then old new waits answer (Err lost_with) lost commits in
       let ends : EndsIt lost_with = commit_ends then come.waiting old new lost_with going (lost_by come.waiting come.holds) in
       subst (StopsForGood honest start was new (streams remaining contents')) (sym is)
-      (come_lost_cut honest start was then so parts left ahead old new remaining contents contents' waits (replies_of replies) so_far come lost_with ends lost_by cut)
+      (come_lost_cut honest start was then so parts left ahead old new remaining contents contents' waits (replies_of replies) so_far come lost_with
+      ends lost_by cut)

@@ -40,7 +40,8 @@ reads_nothing None new none = tt
 reads_nothing (Some script) new none = subst (λ (n : Option (List ℕ)). Consumes (Some script) n []) (sym none.left) none.none
 
 -- and where the input was known, it is at its end
-pub reads_all : (was old new : Option (List ℕ)) (bytes : List ℕ) → Consumes was old bytes → IfSome old (λ script. HasNoLine script new) → OnSome was (IsAtEnd new)
+pub reads_all : (was old new : Option (List ℕ)) (bytes : List ℕ) → Consumes was old bytes → IfSome old (λ script. HasNoLine script new)
+    → OnSome was (IsAtEnd new)
 reads_all None old new bytes read none = tt
 reads_all (Some input) None new bytes read none = absurd read
 reads_all (Some input) (Some script) new bytes read none = subst IsAtEnd (sym none.left) refl

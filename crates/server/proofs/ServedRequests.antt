@@ -59,7 +59,8 @@ record GoesAlike (old new : StoreView) : Type 0 where
 goes_same : (old new : StoreView) → old.ended ≡ None → new ≡ old → GoesAlike old new
 goes_same old new going same = record { going = ap (λ (s : StoreView). s.ended) same ∙ going; geometry = ap (λ (s : StoreView). s.array.table.geometry) same }
 
-goes_committing : (honest : Type 0) (writes : List Command) (old new : StoreView) → old.ended ≡ None → AreCommittedInTurn honest writes old new → GoesAlike old new
+goes_committing : (honest : Type 0) (writes : List Command) (old new : StoreView) → old.ended ≡ None
+    → AreCommittedInTurn honest writes old new → GoesAlike old new
 goes_committing honest writes old new going none_committed = record { going = going; geometry = refl }
 goes_committing honest writes old new going (commit_then mid first commits true_to more) =
     let step = commits.going going in
@@ -131,7 +132,8 @@ unreplaced honest number store there going = record {
 }
 
 -- nor where a status is told
-pub told_status : (honest : Type 0) (store : StoreView) (told : Told) → StatusIsTold store told → store.ended ≡ None → IsServed honest AsksStatus store store told
+pub told_status : (honest : Type 0) (store : StoreView) (told : Told) → StatusIsTold store told → store.ended ≡ None
+    → IsServed honest AsksStatus store store told
 told_status honest store told is going = record { answers = (is, refl); going = λ goes. going; geometry = refl }
 
 goes_stepping : (honest : Type 0) (made : ℕ) (old new : StoreView) → old.ended ≡ None → Steps honest made old new → GoesAlike old new

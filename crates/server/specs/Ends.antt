@@ -81,7 +81,8 @@ pub record NoneWaits (honest : Type 0) (start : StoreView) (was : Streams) (part
 -- The store was ended: by the commit of what waited, or by a request. The replies before are this text.
 pub data EndsStore (honest : Type 0) (start : StoreView) (refusal : Refusal) : (lines : List Line) (text : List ℕ) (new : StoreView) → Type 0 where
   by_commit : {lines : List Line} {text : List ℕ} {waiting : List Command} {replies : List Told} {parts : List Command} {left : ℕ} {so_far : Report}
-      {new : StoreView} (mid : StoreView) → Serves honest lines text waiting replies parts left so_far start mid → CommitsStaged honest waiting mid new (Err refusal)
+      {new : StoreView} (mid : StoreView) → Serves honest lines text waiting replies parts left so_far start mid
+      → CommitsStaged honest waiting mid new (Err refusal)
       → EndsStore honest start refusal lines text new
   by_scrub : {lines : List Line} {text : List ℕ} {so_far : Report} {new : StoreView} (mid : StoreView) (line : Line) (rows : ℕ) (after : Report)
       → Serves honest lines text [] [] [] 0 so_far start mid → IsRequest line (ScrubRows rows)

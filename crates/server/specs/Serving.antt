@@ -78,9 +78,8 @@ pub record IsRefusedWrite (store : StoreView) (line : Line) (refusal : Refusal) 
 abbrev pub texts_of : List Told → List ℕ
 texts_of replies = flat_map told_text replies
 
--- What was served so far: these lines were read, and this was written. These writes wait to be committed, and these replies for their commit; these parts of the
--- next line wait or are committed already, and so many lines are still to
--- come that are committed together. The scrub in parts has found this so far.
+-- What was served so far: these lines were read, and this was written. These writes wait to be committed, and these replies for their commit; these parts of
+-- the next line wait or are committed already, and so many lines are still to come that are committed together. The scrub in parts has found this so far.
 pub data Serves (honest : Type 0) : (lines : List Line) (text : List ℕ) (waiting : List Command) (replies : List Told) (parts : List Command) (left : ℕ)
     (so_far : Report) (old new : StoreView) → Type 0 where
   nothing_served : {store : StoreView} → Serves honest [] [] [] [] [] 0 none_scrubbed store store
@@ -100,16 +99,19 @@ pub data Serves (honest : Type 0) : (lines : List Line) (text : List ℕ) (waiti
       → Serves honest lines text [] [] [] 0 so_far old new → IsRequest line (Together count) → 1 ≤ count → count ≤ MOST_LINES_TOGETHER
       → Serves honest (lines ++ line ∷ []) text [] [] [] count so_far old new
   -- a part of a write waits; all of them do, or are committed; or the write is refused
-  then_staged : {lines : List Line} {text : List ℕ} {waiting : List Command} {replies : List Told} {parts : List Command} {left : ℕ} {so_far : Report} {old new : StoreView}
+  then_staged : {lines : List Line} {text : List ℕ} {waiting : List Command} {replies : List Told} {parts : List Command} {left : ℕ}
+      {so_far : Report} {old new : StoreView}
       (part : Command) → Serves honest lines text waiting replies parts left so_far old new
       → Serves honest lines text (waiting ++ part ∷ []) replies (parts ++ part ∷ []) left so_far old new
-  then_taken : {lines : List Line} {text : List ℕ} {waiting : List Command} {replies : List Told} {parts : List Command} {left : ℕ} {so_far : Report} {old new : StoreView}
+  then_taken : {lines : List Line} {text : List ℕ} {waiting : List Command} {replies : List Told} {parts : List Command} {left : ℕ}
+      {so_far : Report} {old new : StoreView}
       (line : Line) → Serves honest lines text waiting replies parts (left + 1) so_far old new → IsWrite new line parts
       → Serves honest (lines ++ line ∷ []) text waiting (replies ++ TellsDone ∷ []) [] left so_far old new
   then_refused : {lines : List Line} {text : List ℕ} {waiting : List Command} {replies : List Told} {left : ℕ} {so_far : Report} {old new : StoreView}
       (line : Line) (refusal : Refusal) → Serves honest lines text waiting replies [] (left + 1) so_far old new → IsRefusedWrite new line refusal
       → Serves honest (lines ++ line ∷ []) text waiting (replies ++ TellsRefusal refusal ∷ []) [] left so_far old new
   -- what waits is committed as one, and then the replies that wait for it are written
-  then_committed : {lines : List Line} {text : List ℕ} {waiting : List Command} {replies : List Told} {parts : List Command} {left : ℕ} {so_far : Report} {old new : StoreView}
+  then_committed : {lines : List Line} {text : List ℕ} {waiting : List Command} {replies : List Told} {parts : List Command} {left : ℕ}
+      {so_far : Report} {old new : StoreView}
       (mid : StoreView) → Serves honest lines text waiting replies parts left so_far old mid → CommitsStaged honest waiting mid new (Ok tt)
       → Serves honest lines (text ++ texts_of replies) [] [] parts left so_far old new

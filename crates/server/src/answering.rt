@@ -13,6 +13,8 @@ ghost use Rattle.server.specs.declared.counts.TheConstants.{MOST_WRITTEN_AT_ONCE
 mod of_set;
 mod of_volumes;
 mod reading;
+#[cfg(test)]
+mod tests;
 
 use layout_map::Format;
 pub(crate) use of_set::is_missing_slot;

@@ -10,6 +10,10 @@ mod law;
 mod on_bank;
 mod serving;
 mod telling;
+#[cfg(test)]
+mod testing;
+#[cfg(test)]
+mod tests;
 mod waiting;
 
 pub use counts::{MOST_LINES_TOGETHER, MOST_WRITTEN_AT_ONCE};

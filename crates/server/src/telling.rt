@@ -6,6 +6,9 @@ ghost use Rattle.server.specs.Answers.{TellsBlocks, TellsVolumes, told_text};
 ghost use Rattle.server.specs.Outcomes.{told_in};
 ghost use Rattle.volume_table.specs.Listing.{told};
 
+#[cfg(test)]
+mod tests;
+
 use crate::answering::Outcome;
 use arrayvec::ArrayVec;
 use itoa::Buffer;

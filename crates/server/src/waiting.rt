@@ -109,7 +109,8 @@ pub(crate) fn commit_waiting<W: Write, B: Bank>(
 
 // Writes replies to writes.
 fn write_replies<W: Write>(writer: &mut W, replies: &[Option<Refusal>]) -> Result<(), Refusal>
-    ensures { WritesText (W.contents writer.old) (W.contents writer.new) (flat_map reply_text_to_write replies.now) result }
+    ensures { WritesText (W.contents writer.old) (W.contents writer.new) (flat_map reply_text_to_write replies.now)
+        result }
 {
     for reply in replies {
         write_reply(writer, &answer_to(*reply))?;

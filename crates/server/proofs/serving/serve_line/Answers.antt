@@ -23,7 +23,8 @@ returns-in_err-serve_together-in-Together-clause-serves g c = λ first start was
     let p = err_from_is_err_and c.from_residual-in_err-serve_together-in-Together.result c.from_residual-in_err-serve_together-in-Together.ensures.1 in
     rw (p.1, p.2) (c.in_err-serve_together-in-Together.ensures.serves first start was (line_of bytes []) so
     (said_as bytes (demand_of c.in_ok-request.request) _ c.in-Together.ensures
-    (plain_request bytes c.deref.result.now (demand_of c.in_ok-request.request) first_kept said.0 unbroken said.1 (ap blocks_after c.in-Together.ensures))) ready)
+    (plain_request bytes c.deref.result.now (demand_of c.in_ok-request.request) first_kept said.0 unbroken said.1
+    (ap blocks_after c.in-Together.ensures))) ready)
 
 pub returns-in_ok-serve_together-in-Together-clause-serves : goal.returns-in_ok-serve_together-in-Together-clause-serves
 returns-in_ok-serve_together-in-Together-clause-serves g c = λ first start was bytes so unbroken first_of ready.
@@ -31,7 +32,8 @@ returns-in_ok-serve_together-in-Together-clause-serves g c = λ first start was 
     let first_kept : c.deref.result.now ≡ take (LONGEST_LINE + 1) bytes = c.deref.ensures.value ∙ first_of in
     c.in_ok-serve_together-in-Together.ensures.serves first start was (line_of bytes []) so
     (said_as bytes (demand_of c.in_ok-request.request) _ c.in-Together.ensures
-    (plain_request bytes c.deref.result.now (demand_of c.in_ok-request.request) first_kept said.0 unbroken said.1 (ap blocks_after c.in-Together.ensures))) ready
+    (plain_request bytes c.deref.result.now (demand_of c.in_ok-request.request) first_kept said.0 unbroken said.1
+    (ap blocks_after c.in-Together.ensures))) ready
 
 pub returns-in_err-scrub_on-in-Scrub-clause-serves : goal.returns-in_err-scrub_on-in-Scrub-clause-serves
 returns-in_err-scrub_on-in-Scrub-clause-serves g c = λ first start was bytes so unbroken first_of ready.

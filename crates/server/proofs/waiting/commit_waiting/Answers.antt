@@ -28,7 +28,8 @@ returns-in_err-write_replies-clause-comes g c = λ first start was parts left ah
     rw (p.1, p.2) (commit_cut (g.B.Bank.honest first) start was (IsHonest c.args.store.now.array) so parts left ahead (store_view c.args.store.now)
     (store_view c.commit_staged.new.self) remaining _ (g.W.Write.contents c.write_replies.new.writer) (waiting c.args.held.now.batch)
     c.args.held.now.replies.items (report_of c.args.held.now.scrubbed) c.requires.going c.commit_staged.result c.commit_staged.ensures.commits come
-    c.in_default.is (rw (sym c.as_slice.ensures.value) c.in_err-write_replies.ensures.part) c.in_err-write_replies.field-0.0 c.in_err-write_replies.ensures.kind)
+    c.in_default.is (rw (sym c.as_slice.ensures.value) c.in_err-write_replies.ensures.part) c.in_err-write_replies.field-0.0
+    c.in_err-write_replies.ensures.kind)
 
 pub returns-clause-comes : goal.returns-clause-comes
 returns-clause-comes g c = λ first start was parts left ahead remaining so come.

@@ -62,7 +62,8 @@ loop-staged-preserved g c =
       comes = λ first start was left ahead remaining name so has come.
           let before = inv.comes first start was left ahead remaining name so has come in (
             before.0 ++ Write name (c.args.at + staged) (part_of blocks staged end) ∷ [],
-            part_more name c.args.at staged (take staged blocks) (part_of blocks staged end) (take (staged + length (part_of blocks staged end)) blocks) before.0
+            part_more name c.args.at staged (take staged blocks) (part_of blocks staged end)
+                (take (staged + length (part_of blocks staged end)) blocks) before.0
                 before.1
                 (omega (arith, part_length blocks staged end c.loop-staged-test.true is, is, c.loop-staged-test.true))
                 (omega (arith, part_length blocks staged end c.loop-staged-test.true is, is, c.loop-staged-test.true))

@@ -14,7 +14,8 @@ pub returns-in-Err-clause-comes : goal.returns-in-Err-clause-comes
 returns-in-Err-clause-comes g c = λ first start was left line remaining so request same come.
     let whole = All-from_get_or IsBlock c.args.blocks.now [] c.told-blocks in
     write_refused (g.B.Bank.honest first) start was left line _ _ c.args.held.now.replies.items c.push-in-Err.new.self.items
-    (report_of c.args.held.now.scrubbed) c.args.stretch.now.name.now c.args.stretch.now.at c.args.stretch.now.count c.args.blocks.now (request whole) c.requires.least
+    (report_of c.args.held.now.scrubbed) c.args.stretch.now.name.now c.args.stretch.now.at c.args.stretch.now.count c.args.blocks.now
+    (request whole) c.requires.least
     c.requires.most (store_view c.args.store.now) c.in-Err.refusal c.push-in-Err.ensures.items
     (c.admit.ensures.refused c.requires.going c.in-Err.refusal c.in-Err.is) come
 

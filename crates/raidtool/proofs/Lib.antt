@@ -10,6 +10,7 @@ pub mod Needs
 pub mod OtherSets
 pub mod Renewed
 pub mod Repaired
+pub mod ServedRuns
 pub mod SizedMakes
 pub mod SentReplies
 pub mod SomeReplies

@@ -1,18 +1,15 @@
 -- Requests that are served over the device files of a folder: in one run over a bank of them, or in several, one after another. Another one begins where a
 -- slot is to be given a device.
 use Rattle.std.specs.Prelude.{◌≡◌, ◌≤◌, ◌+◌, ◌^◌, ◌⊎◌, ℕ, IsTrue, List, Option, Result, Ok, Err}
-use Rattle.std.specs.Io.KnownBytes.{Appends}
 use Rattle.sector_model.specs.declared.refusal.Refusal.{Refusal}
-use Rattle.sector_model.specs.declared.refusal.Refusal.TheVariants.{Memory, ReadFault, WriteFault}
+use Rattle.sector_model.specs.declared.refusal.Refusal.TheVariants.{Memory, ReadFault}
 use Rattle.recovery.specs.Making.{BankView}
-use Rattle.report.specs.Replies.{refusal_line}
-use Rattle.report.specs.Written.{AppendsPart}
 use Rattle.device_files.specs.declared.growing.Growing.{Ghosts}
 use Rattle.device_files.specs.declared.slot_files.OpenFault.{OpenFault}
 use Rattle.device_files.specs.BankFiles.{AreAllSafe}
 use Rattle.device_files.specs.DeviceFiles.{IsNoTableIn, IsReopened, file_in, slot_path}
-use Rattle.set_commands.specs.Run.{Streams}
-use Rattle.server.specs.OnBanks.{ServesReplaced, ServesSet, Writes, WritesPart}
+use Rattle.set_commands.specs.Run.{Streams, streams}
+use Rattle.server.specs.OnBanks.{ServesReplaced, ServesSet, TellsLast}
 use Rattle.server.specs.declared.ending.Ending.{Ending}
 use Rattle.server.specs.declared.ending.Ending.TheVariants.{Input, Replace}
 use Rattle.raidtool.specs.Begun.{BeginsOpened, BeginsOver, IsMissingOver}
@@ -21,15 +18,15 @@ use Rattle.raidtool.specs.FolderFiles.{WereTaken}
 -- the first run: there was no memory for a bank, and nothing was read or written; or the set on a bank was served whose run begins with these files
 pub data ServesFirst {F : Type 0} (growing : Ghosts F) (left : F → List ℕ) (id : List ℕ) (files : List (Option F)) (was : Streams)
     : (is : Streams) → Result Ending Refusal → Type 0 where
-  no_bank : ServesFirst growing left id files was was (Err Memory)
-  on_bank : {is : Streams} {result : Result Ending Refusal} (bank : BankView) → BeginsOver growing left files bank.history
+  no_memory : ServesFirst growing left id files was was (Err Memory)
+  on_first : {is : Streams} {result : Result Ending Refusal} (bank : BankView) → BeginsOver growing left files bank.history
       → ServesSet (IsTrue growing.tells) id bank was is result → ServesFirst growing left id files was is result
 
 -- a further run over some files: there was no memory for a bank, which is the last line; or a slot of the set on one was given a device, and the set was served
 pub data ServesReady {F : Type 0} (growing : Ghosts F) (left : F → List ℕ) (id : List ℕ) (slot : ℕ) (files : List (Option F)) (was : Streams)
     : (is : Streams) → Result Ending Refusal → Type 0 where
-  no_bank : {is : Streams} → Writes was is (refusal_line Memory) → ServesReady growing left id slot files was is (Err Memory)
-  not_told : {is : Streams} → WritesPart was is (refusal_line Memory) → ServesReady growing left id slot files was is (Err WriteFault)
+  no_bank : {contents : Option (List ℕ)} {result : Result Ending Refusal} → TellsLast was.contents contents Memory result
+      → ServesReady growing left id slot files was (streams was.remaining contents) result
   on_bank : {is : Streams} {result : Result Ending Refusal} (bank : BankView) → BeginsOver growing left files bank.history
       → ServesReplaced (IsTrue growing.tells) id slot bank was is result → ServesReady growing left id slot files was is result
 
@@ -58,11 +55,6 @@ abbrev pub IsLastOf : Result Ending Refusal → Result (Unit {0}) Refusal → Ty
 IsLastOf (Ok Input) result = result ≡ Ok tt
 IsLastOf (Ok (Replace slot)) result = result ≡ Err ReadFault
 IsLastOf (Err refusal) result = result ≡ Err refusal
-
--- a refusal was written as the last line, or a beginning of it
-pub data TellsLast (was is : Option (List ℕ)) (refusal : Refusal) : Result Ending Refusal → Type 0 where
-  told : Appends was is (refusal_line refusal) → TellsLast was is refusal (Err refusal)
-  cut : AppendsPart was is (refusal_line refusal) → TellsLast was is refusal (Err WriteFault)
 
 -- all runs
 pub record ServesRuns {F : Type 0} (growing : Ghosts F) (left : F → List ℕ) (Opens : (slot : ℕ) → Result (Option F) OpenFault → Type 0) (id : List ℕ)

@@ -8,7 +8,7 @@ ghost use Rattle.set_commands.specs.Run.{streams};
 ghost use Rattle.set_commands.specs.Serving.{IsEnd};
 ghost use Rattle.raidtool.specs.Causes.{IsCausedBy};
 ghost use Rattle.raidtool.specs.ServedRuns.{IsCauseOfServing, IsLastOf, ServesAgain, ServesFirst, ServesFolder};
-ghost use Rattle.raidtool.specs.ServedRuns.{ServesReady, ServesRuns, TellsLast};
+ghost use Rattle.raidtool.specs.ServedRuns.{ServesReady, ServesRuns};
 ghost use Rattle.raidtool.specs.Stops.{HasPassed, IsBlamed, IsServeFault};
 ghost use Rattle.raidtool.specs.Tool.{IsOfFiles};
 
@@ -16,9 +16,8 @@ use device_files::{
     BankFile, DeviceFiles, FolderFault, Growing, SlotFiles, bank_on, open_folder, pass_over,
     reopen_slot,
 };
-use report::replies::{Answer, write_reply};
 use sector_model::{Bank, Refusal};
-use server::{Ending, serve_replaced, serve_set};
+use server::{Ending, serve_replaced, serve_set, write_last};
 use std::alloc::Global;
 use std::io::{BufRead, Write};
 use stripe_journal::Entry;
@@ -144,7 +143,7 @@ where
 {
     match ready_again(alloc, disk, folder, slot, files) {
         Ok(entry) => serve_over(alloc, entry, id, slot, files, reader, out),
-        Err(refusal) => tell_refusal(out, refusal),
+        Err(refusal) => write_last(out, refusal),
     }
 }
 
@@ -186,14 +185,6 @@ fn serve_over<F: BankFile, R: BufRead, W: Write>(
 {
     match bank_on(alloc, &mut files.files) {
         Ok(bank) => serve_replaced(alloc, bank, entry, id, slot, reader, out),
-        Err(refusal) => tell_refusal(out, refusal),
+        Err(refusal) => write_last(out, refusal),
     }
-}
-
-// Writes the refusal with which the runs end.
-fn tell_refusal<W: Write>(out: &mut W, refusal: Refusal) -> Result<Ending, Refusal>
-    ensures told { TellsLast (W.contents out.old) (W.contents out.new) refusal result }
-{
-    write_reply(out, &Answer::Refused(refusal))?;
-    Err(refusal)
 }

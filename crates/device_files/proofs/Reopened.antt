@@ -1,5 +1,5 @@
 -- What becomes of the files of ten slots, as one of them is opened anew and all are made safe again.
-use Rattle.std.proofs.Common.{◌≡◌, ℕ, Bool, List, Option, None, Some, refl, sym, subst, Result, Ok}
+use Rattle.std.proofs.Common.{◌≡◌, ◌∙◌, ℕ, Bool, List, Option, None, Some, refl, sym, subst, Result, Ok}
 use Rattle.std.specs.Prelude.{IsTrue}
 use Rattle.device_files.specs.declared.slot_files.OpenFault.{OpenFault}
 use Rattle.device_files.specs.DeviceFiles.{IsKeptOrClosed, IsReopened, IsStillOpen}
@@ -28,3 +28,14 @@ module _ {F : Type 0} (tells : Bool) (told : F → List ℕ) where
   pub reopened_none : (Opens : Result (Option F) OpenFault → Type 0) (new : Option F) → IsKeptOrClosed tells told None new → IsReopened tells told Opens new
   reopened_none Opens None kept = tt
   reopened_none Opens (Some new) kept = absurd kept
+
+  -- the file of a slot that was opened, and then kept
+  pub reopened_still : (Opens : Result (Option F) OpenFault → Type 0) (opened new : Option F) → IsReopened tells told Opens opened
+      → IsKeptOrClosed tells told opened new → IsReopened tells told Opens new
+  reopened_still Opens opened None reopened kept = tt
+  reopened_still Opens None (Some new) reopened kept = absurd kept
+  reopened_still Opens (Some opened) (Some new) reopened kept = (reopened.0, reopened.1, λ tell. kept tell ∙ reopened.2 tell)
+
+  -- another file that was not touched, and then kept
+  pub other_kept : (old mid new : Option F) → mid ≡ old → IsKeptOrClosed tells told mid new → IsKeptOrClosed tells told old new
+  other_kept old mid new same kept = subst (λ (file : Option F). IsKeptOrClosed tells told file new) same kept

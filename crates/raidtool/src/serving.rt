@@ -1,5 +1,5 @@
 //! Requests are served over the device files of a folder.
-ghost use Rattle.std.specs.Prelude.{◌≡◌, ◌≢◌, ◌<◌, Some, [], None, IfErr, IfOk, OnOk};
+ghost use Rattle.std.specs.Prelude.{◌≡◌, ◌≢◌, ◌<◌, Some, [], None, IfErr, OnOk, length};
 ghost use Rattle.sector_model.specs.declared.refusal.Refusal.{Refusal};
 ghost use Rattle.device_files.specs.declared.FolderFault.{FolderFault};
 ghost use Rattle.device_files.specs.BankFiles.{AreAllSafe};
@@ -13,8 +13,7 @@ ghost use Rattle.raidtool.specs.Stops.{HasPassed, IsBlamed, IsServeFault};
 ghost use Rattle.raidtool.specs.Tool.{IsOfFiles};
 
 use device_files::{
-    BankFile, DeviceFiles, FolderFault, Growing, SlotFiles, bank_on, open_folder, pass_over,
-    reopen_slot,
+    BankFile, FolderFault, Growing, SlotFiles, bank_on, open_folder, pass_over, reopen_slot,
 };
 use sector_model::{Bank, Refusal};
 use server::{Ending, serve_replaced, serve_set, write_last};
@@ -56,8 +55,8 @@ where
     let entry = Entry::new(alloc)?;
     let files = open_folder(alloc, disk, folder)?;
     pass_over(alloc, &files, id, err)?;
-    let mut files = files;
-    serve_runs(alloc, disk, folder, entry, id, &mut files, reader, out)?;
+    let mut open = files.files;
+    serve_runs(alloc, disk, folder, entry, id, &mut open, reader, out)?;
     Ok(())
 }
 
@@ -68,17 +67,19 @@ fn serve_runs<D, R: BufRead, W: Write>(
     folder: &str,
     entry: Entry,
     id: [u8; 16],
-    files: &mut DeviceFiles<D::File>,
+    files: &mut [Option<D::File>],
     reader: &mut R,
     out: &mut W,
 ) -> Result<(), Refusal>
 where
     D: SlotFiles,
     D::File: BankFile,
-    requires safe { AreAllSafe D.File.is_safe files.old.files.items }
+    requires ten { length files.old ≡ 10 }
+    requires safe { AreAllSafe D.File.is_safe files.old }
     ensures runs { ServesRuns ⟦<D::File as Growing>⟧ D.File.left (λ slot. D.opens disk.now (slot_path folder.now slot))
-        id files.old.files.items (streams (R.remaining reader.old) (W.contents out.old))
+        id files.old (streams (R.remaining reader.old) (W.contents out.old))
         (streams (R.remaining reader.new) (W.contents out.new)) result }
+    ensures ten { length files.new ≡ 10 }
     ensures end { IfErr result IsEnd }
 {
     let mut ending = serve_first(alloc, entry, id, files, reader, out);
@@ -108,17 +109,19 @@ fn serve_first<F: BankFile, R: BufRead, W: Write>(
     alloc: Global,
     entry: Entry,
     id: [u8; 16],
-    files: &mut DeviceFiles<F>,
+    files: &mut [Option<F>],
     reader: &mut R,
     out: &mut W,
 ) -> Result<Ending, Refusal>
-    requires safe { AreAllSafe F.is_safe files.old.files.items }
-    ensures first { ServesFirst ⟦<F as Growing>⟧ F.left id files.old.files.items
+    requires ten { length files.old ≡ 10 }
+    requires safe { AreAllSafe F.is_safe files.old }
+    ensures first { ServesFirst ⟦<F as Growing>⟧ F.left id files.old
         (streams (R.remaining reader.old) (W.contents out.old))
         (streams (R.remaining reader.new) (W.contents out.new)) result }
+    ensures ten { length files.new ≡ 10 }
     ensures end { IfErr result IsEnd }
 {
-    let bank = bank_on(alloc, &mut files.files)?;
+    let bank = bank_on(alloc, files)?;
     serve_set(alloc, bank, entry, id, reader, out)
 }
 
@@ -129,16 +132,18 @@ fn serve_again<D, R: BufRead, W: Write>(
     folder: &str,
     id: [u8; 16],
     slot: u8,
-    files: &mut DeviceFiles<D::File>,
+    files: &mut [Option<D::File>],
     reader: &mut R,
     out: &mut W,
 ) -> Result<Ending, Refusal>
 where
     D: SlotFiles,
     D::File: BankFile,
+    requires ten { length files.old ≡ 10 }
     ensures again { ServesAgain ⟦<D::File as Growing>⟧ D.File.left (λ slot. D.opens disk.now (slot_path folder.now slot))
         id slot (streams (R.remaining reader.old) (W.contents out.old))
         (streams (R.remaining reader.new) (W.contents out.new)) result }
+    ensures ten { length files.new ≡ 10 }
     ensures end { IfErr result IsEnd }
 {
     match ready_again(alloc, disk, folder, slot, files) {
@@ -153,14 +158,16 @@ fn ready_again<D>(
     disk: &D,
     folder: &str,
     slot: u8,
-    files: &mut DeviceFiles<D::File>,
+    files: &mut [Option<D::File>],
 ) -> Result<Entry, Refusal>
 where
     D: SlotFiles,
     D::File: BankFile,
-    ensures safe { OnOk result (AreAllSafe D.File.is_safe files.new.files.items) }
+    requires ten { length files.old ≡ 10 }
+    ensures ten { length files.new ≡ 10 }
+    ensures safe { OnOk result (AreAllSafe D.File.is_safe files.new) }
     ensures opened { OnOk result (IsReopened D.File.tells D.File.told (D.opens disk.now (slot_path folder.now slot))
-        (file_in files.new.files.items slot)) }
+        (file_in files.new slot)) }
     ensures err { IfErr result (λ refusal. refusal ≡ Refusal.Memory) }
 {
     reopen_slot(alloc, disk, folder, slot, files)?;
@@ -173,17 +180,19 @@ fn serve_over<F: BankFile, R: BufRead, W: Write>(
     entry: Entry,
     id: [u8; 16],
     slot: u8,
-    files: &mut DeviceFiles<F>,
+    files: &mut [Option<F>],
     reader: &mut R,
     out: &mut W,
 ) -> Result<Ending, Refusal>
-    requires safe { AreAllSafe F.is_safe files.old.files.items }
-    ensures over { ServesReady ⟦<F as Growing>⟧ F.left id slot files.old.files.items
+    requires ten { length files.old ≡ 10 }
+    requires safe { AreAllSafe F.is_safe files.old }
+    ensures over { ServesReady ⟦<F as Growing>⟧ F.left id slot files.old
         (streams (R.remaining reader.old) (W.contents out.old))
         (streams (R.remaining reader.new) (W.contents out.new)) result }
+    ensures ten { length files.new ≡ 10 }
     ensures end { IfErr result IsEnd }
 {
-    match bank_on(alloc, &mut files.files) {
+    match bank_on(alloc, files) {
         Ok(bank) => serve_replaced(alloc, bank, entry, id, slot, reader, out),
         Err(refusal) => write_last(out, refusal),
     }

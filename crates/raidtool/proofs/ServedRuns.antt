@@ -1,5 +1,5 @@
 -- Requests that are served in one run or several, from what their calls do.
-use Rattle.std.proofs.Common.{◌≡◌, ◌≢◌, ◌≤◌, ◌+◌, ◌^◌, inl, inr, refl, sym, subst, ℕ, List, [], Option, Some, None, Result, Ok, Err}
+use Rattle.std.proofs.Common.{◌≡◌, ◌≢◌, ◌≤◌, ◌+◌, ◌^◌, inl, inr, ap, refl, sym, subst, ℕ, List, [], Option, Some, None, Result, Ok, Err}
 use Rattle.std.specs.Prelude.{IfErr, IsTrue, OnOk, OnSome}
 use Rattle.std.specs.Io.KnownBytes.{Appends, Consumes, IsAtEnd}
 use Rattle.sector_model.specs.declared.refusal.Refusal.{Refusal}
@@ -13,7 +13,10 @@ use Rattle.device_files.specs.BankFiles.{AreAllSafe}
 use Rattle.device_files.specs.DeviceFiles.{IsReopened, file_in}
 use Rattle.set_commands.specs.Run.{Streams, streams}
 use Rattle.set_commands.specs.Serving.{IsEnd}
-use Rattle.server.specs.OnBanks.{ReplacesAndServes, ServesReplaced, ServesSet, TellsLast}
+use Rattle.server.specs.Ends.{HasServed}
+use Rattle.server.specs.OnBanks.{ReplacesAndServes, ServesReplaced, ServesSet, TellsLast, last_cut, last_told, none_opened, not_opened, opened}
+use Rattle.server.specs.OnBanks.{set_opened, then_served, then_stopped}
+use Rattle.volume_table.specs.Stands.{StoreView}
 use Rattle.server.specs.declared.ending.Ending.{Ending}
 use Rattle.server.specs.declared.ending.Ending.TheVariants.{Input, Replace}
 use Rattle.server.proofs.Opened.{last_ends}
@@ -81,3 +84,82 @@ last_end (Err refusal) result ends is = subst (λ r. IfErr r IsEnd) (sym is) end
 
 pub memory_ends : (refusal : Refusal) → refusal ≡ Memory → IsEnd refusal
 memory_ends refusal memory = inl (inl memory)
+
+-- ---- what is read
+
+still_known : (old new : Option (List ℕ)) (bytes : List ℕ) → Consumes old new bytes → old ≢ None → new ≢ None
+still_known None new bytes consumes some = absurd (some refl)
+still_known (Some xs) None bytes consumes some = absurd consumes
+still_known (Some xs) (Some ys) bytes consumes some = λ none. cc
+
+at_end : (old new : Option (List ℕ)) (bytes : List ℕ) → Consumes old new bytes → OnSome old (IsAtEnd new) → old ≢ None → new ≡ Some []
+at_end None new bytes consumes ended some = absurd (some refl)
+at_end (Some xs) None bytes consumes ended some = absurd consumes
+at_end (Some xs) (Some ys) bytes consumes ended some = ap Some ended
+
+-- what is left to be read after a run: nothing where the input ended, and something known, be it nothing, where there is another run
+abbrev IsLeft : Result Ending Refusal → Option (List ℕ) → Type 0
+IsLeft (Ok Input) remaining = remaining ≡ Some []
+IsLeft (Ok (Replace slot)) remaining = remaining ≢ None
+IsLeft (Err refusal) remaining = Unit {0}
+
+served_reads : (honest : Type 0) (old new : StoreView) (was is : Streams) (result : Result Ending Refusal) → was.remaining ≢ None
+    → HasServed honest old new was is result → IsLeft result is.remaining
+served_reads honest old new was is (Ok Input) some served = at_end was.remaining is.remaining _ served.come.read served.read some
+served_reads honest old new was is (Ok (Replace slot)) some served = still_known was.remaining is.remaining _ served.come.read some
+served_reads honest old new was is (Err refusal) some served = tt
+
+set_reads : (honest : Type 0) (id : List ℕ) (bank : BankView) (was is : Streams) (result : Result Ending Refusal) → was.remaining ≢ None
+    → ServesSet honest id bank was is result → IsLeft result is.remaining
+set_reads honest id bank was is result some (not_opened refusal why) = tt
+set_reads honest id bank was is result some (opened serves) = served_reads honest serves.first serves.last was is result some serves.comes
+
+last_reads : (was is : Option (List ℕ)) (refusal : Refusal) (result : Result Ending Refusal) (remaining : Option (List ℕ)) → TellsLast was is refusal result
+    → IsLeft result remaining
+last_reads was is refusal result remaining (last_told written) = tt
+last_reads was is refusal result remaining (last_cut part) = tt
+
+after_reads : (honest : Type 0) (slot : ℕ) (old new : StoreView) (was is : Streams) (result : Result Ending Refusal) → was.remaining ≢ None
+    → ReplacesAndServes honest slot old was new is result → IsLeft result is.remaining
+after_reads honest slot old new was is result some (then_served mid between told served) =
+    served_reads honest mid new (streams was.remaining between) is result some served
+after_reads honest slot old new was is result some (then_stopped refusal told) = tt
+
+replaced_reads : (honest : Type 0) (id : List ℕ) (slot : ℕ) (bank : BankView) (was is : Streams) (result : Result Ending Refusal) → was.remaining ≢ None
+    → ServesReplaced honest id slot bank was is result → IsLeft result is.remaining
+replaced_reads honest id slot bank was is result some (none_opened {contents = contents} refusal why told) =
+    last_reads was.contents contents refusal result was.remaining told
+replaced_reads honest id slot bank was is result some (set_opened serves) =
+    after_reads honest slot serves.first serves.last was is result some serves.comes
+
+module _ {F : Type 0} (growing : Ghosts F) (left : F → List ℕ) (id : List ℕ) where
+  first_reads : (files : List (Option F)) (was is : Streams) (result : Result Ending Refusal) → was.remaining ≢ None
+      → ServesFirst growing left id files was is result → IsLeft result is.remaining
+  first_reads files was is result some no_memory = tt
+  first_reads files was is result some (on_first bank begins serves) = set_reads (IsTrue growing.tells) id bank was is result some serves
+
+  ready_reads : (slot : ℕ) (files : List (Option F)) (was is : Streams) (result : Result Ending Refusal) → was.remaining ≢ None
+      → ServesReady growing left id slot files was is result → IsLeft result is.remaining
+  ready_reads slot files was is result some (no_bank {contents = contents} told) = last_reads was.contents contents Memory result was.remaining told
+  ready_reads slot files was is result some (on_bank bank begins serves) =
+      replaced_reads (IsTrue growing.tells) id slot bank was is result some serves
+
+  module _ (Opens : (slot : ℕ) → Result (Option F) OpenFault → Type 0) where
+    onward_reads : (runs : ℕ) (was is : Streams) (ending : Result Ending Refusal) (result : Result (Unit {0}) Refusal) → IsLeft ending was.remaining
+        → ServesOnward growing left Opens id runs was is ending result → OnOk result (is.remaining ≡ Some [])
+    onward_reads runs was is ending result is_left input_ended = is_left
+    onward_reads runs was is ending result is_left (was_refused refusal) = tt
+    onward_reads runs was is ending result is_left (then_again slot between next again rest) =
+        onward_reads (runs + 1) between is next result (ready_reads slot again.files was between next is_left again.ready) rest
+    onward_reads runs was is ending result is_left (too_many slot many) = tt
+
+    pub runs_read : (files : List (Option F)) (was is : Streams) (result : Result (Unit {0}) Refusal) → was.remaining ≢ None
+        → ServesRuns growing left Opens id files was is result → OnOk result (is.remaining ≡ Some [])
+    runs_read files was is result some runs =
+        onward_reads 0 runs.between is runs.ending result (first_reads files was runs.between runs.ending some runs.first) runs.onward
+
+    -- one more run
+    pub one_more : (runs : ℕ) (slot : ℕ) (was between is : Streams) (ending : Result Ending Refusal) (result : Result (Unit {0}) Refusal)
+        → ServesAgain growing left Opens id slot was between ending → ServesOnward growing left Opens id (runs + 1) between is ending result
+        → ServesOnward growing left Opens id runs was is (Ok (Replace slot)) result
+    one_more runs slot was between is ending result again rest = then_again slot between ending again rest

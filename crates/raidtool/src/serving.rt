@@ -83,7 +83,7 @@ where
     ensures end { IfErr result IsEnd }
 {
     let mut ending = serve_first(alloc, entry, id, files, reader, out);
-    for _ in 0..u64::MAX {
+    for _runs in 0..u64::MAX {
         let Ok(Ending::Replace(slot)) = ending else {
             return last_of(ending);
         };

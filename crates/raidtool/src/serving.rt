@@ -1,11 +1,12 @@
 //! Requests are served over the device files of a folder.
-ghost use Rattle.std.specs.Prelude.{◌≡◌, ◌≢◌, ◌<◌, Some, [], None, IfErr, OnOk, length};
+ghost use Rattle.std.specs.Prelude.{◌≡◌, ◌≢◌, ◌<◌, Some, [], None, IfErr, IfSome, Ok, OnOk, length, ℕ};
 ghost use Rattle.sector_model.specs.declared.refusal.Refusal.{Refusal};
 ghost use Rattle.device_files.specs.declared.FolderFault.{FolderFault};
 ghost use Rattle.device_files.specs.BankFiles.{AreAllSafe};
 ghost use Rattle.device_files.specs.DeviceFiles.{IsReopened, file_in, slot_path};
 ghost use Rattle.set_commands.specs.Run.{streams};
 ghost use Rattle.set_commands.specs.Serving.{IsEnd};
+ghost use Rattle.server.specs.declared.ending.Ending.{Ending};
 ghost use Rattle.raidtool.specs.Causes.{IsCausedBy};
 ghost use Rattle.raidtool.specs.ServedRuns.{IsCauseOfServing, IsLastOf, ServesAgain, ServesFirst, ServesFolder};
 ghost use Rattle.raidtool.specs.ServedRuns.{ServesReady, ServesRuns};
@@ -84,13 +85,25 @@ where
 {
     let mut ending = serve_first(alloc, entry, id, files, reader, out);
     for _runs in 0..u64::MAX {
-        let Ok(Ending::Replace(slot)) = ending else {
+        let Some(slot) = slot_in(&ending) else {
             return last_of(ending);
         };
         ending = serve_again(alloc, disk, folder, id, slot, files, reader, out);
     }
     // Each line has a byte at least, so the input has more than 2^63 bytes.
     last_of(ending)
+}
+
+// The slot that is to be given a device, if a run ended so.
+fn slot_in(ending: &Result<Ending, Refusal>) -> Option<u8>
+    ensures some { IfSome result (λ slot. ending.now ≡ Ok (Ending.Replace slot)) }
+    ensures none { result ≡ None → (slot : ℕ) → ending.now ≢ Ok (Ending.Replace slot) }
+{
+    match ending {
+        Ok(Ending::Replace(slot)) => Some(*slot),
+        Ok(Ending::Input) => None,
+        Err(_) => None,
+    }
 }
 
 // What all runs came to, by the last.

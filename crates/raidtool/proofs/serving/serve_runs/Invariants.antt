@@ -7,13 +7,13 @@ use Rattle.raidtool.specs.ServedRuns.{ServesOnward}
 use Rattle.raidtool.proofs.serving.serve_runs.Given as goal
 
 -- what follows from here follows the first run
-abbrev pub invariant-loop-_runs : goal.invariant-loop-_runs
-invariant-loop-_runs g l = record {
+abbrev pub invariant-loop-runs : goal.invariant-loop-runs
+invariant-loop-runs g l = record {
   ten : length l.files ≡ 10;
   ends : IfErr l.ending IsEnd;
   onward : (is : Streams) (result : Result (Unit {0}) Refusal)
-      → ServesOnward g.D.File.Growing g.D.File.BankFile.left (λ slot. g.D.SlotFiles.opens l.fn.disk.now (slot_path l.fn.folder.now slot)) l.fn.id l._runs
+      → ServesOnward g.D.File.Growing g.D.File.BankFile.left (λ slot. g.D.SlotFiles.opens l.fn.disk (slot_path l.fn.folder slot)) l.fn.id l._runs
       (streams (g.R.Read.remaining l.reader) (g.W.Write.contents l.out)) is l.ending result
-      → ServesOnward g.D.File.Growing g.D.File.BankFile.left (λ slot. g.D.SlotFiles.opens l.fn.disk.now (slot_path l.fn.folder.now slot)) l.fn.id 0
+      → ServesOnward g.D.File.Growing g.D.File.BankFile.left (λ slot. g.D.SlotFiles.opens l.fn.disk (slot_path l.fn.folder slot)) l.fn.id 0
       (streams (g.R.Read.remaining l.initial.reader) (g.W.Write.contents l.initial.out)) is l.initial.ending result;
 }

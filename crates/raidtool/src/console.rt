@@ -20,7 +20,7 @@ use std::alloc::Global;
 use std::cell::{RefCell, RefMut};
 use std::io::{self, BufRead, BufReader, BufWriter, ErrorKind, Read, Write};
 
-// The bytes of replies that are buffered before they leave.
+// The bytes of replies that are buffered before they leave, and of the input that are asked for at once.
 const BUFFERED_BYTES: usize = 65_536;
 
 // How a line begins whose reply may wait.
@@ -202,7 +202,7 @@ impl<'a, R: Read + Drop, W: Write + Drop> Script<'a, R, W> {
         ensures replies { IfOk result (λ script. script.replies ≡ replies.entry) }
         ensures err { IfErr result (λ error. error_kind error ≡ ErrorKind.OutOfMemory) }
     {
-        let lines = BufReader::new(alloc, reader)?;
+        let lines = BufReader::with_capacity(alloc, BUFFERED_BYTES, reader)?;
         Ok(Script { lines, replies })
     }
 }

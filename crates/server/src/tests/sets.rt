@@ -2,10 +2,11 @@
 use super::{Part, ends, serves, with_volume};
 use crate::Ending;
 use crate::answering::is_missing_slot;
-use crate::testing::{STATUS, fresh_store, same};
-use layout_map::FIRST_ROW;
-use sector_model::{Bank, MemBank, write_sector};
+use crate::testing::{ID, STATUS, fresh_store, same};
+use sector_model::{Bank, Choice, Image, MemBank, Plan};
+use set_commands::open_on;
 use std::process::Abort;
+use stripe_journal::Entry;
 use volume_table::Store;
 
 // No line end follows the 484 bytes: the next reply does.
@@ -109,21 +110,30 @@ fn a_missing_slot_is_to_be_replaced(rt: HostRuntime) {
     asks_for(&rt, 4, b"list\nreplace 4\nlist\n");
 }
 
-// A row of a device is written by no store.
-fn spoil(rt: &impl Abort, store: &mut Store<MemBank>, slot: u8, row: u32) {
-    let bank = &mut store.array.bank;
-    let at = row.saturating_add(FIRST_ROW);
-    assert!(rt; slot < bank.devices());
-    assert!(rt; at < bank.sectors(slot));
-    assert!(rt; write_sector(bank, slot, at, &[1; 512]).is_ok());
+// The devices of a store, with all that was written.
+fn image_of(rt: &(impl Abort + AllocGlobal), store: &Store<MemBank>) -> Image {
+    let call = store.bank().now();
+    let image = store.bank().image_after(rt.alloc(), call, Choice::Newest);
+    image.expect(rt, "memory")
 }
 
-// A store over a set of which rows 100 and 150 are bad.
+// The first byte of a sector becomes another.
+fn spoil(rt: &impl Abort, image: &mut Image, slot: usize, at: usize) {
+    assert!(rt; slot < image.slots.len());
+    let disk = image.slots[slot].as_deref_mut().expect(rt, "a device");
+    assert!(rt; at < disk.len());
+    disk[at][0] ^= 1;
+}
+
+// A store over a set of which rows 100 and 150, sectors 108 and 158 of the members, are bad.
 fn spoiled(rt: &(impl Abort + AllocGlobal)) -> Store<MemBank> {
-    let mut store = with_volume(rt);
-    spoil(rt, &mut store, 0, 100);
-    spoil(rt, &mut store, 1, 150);
-    store
+    let mut image = image_of(rt, &with_volume(rt));
+    spoil(rt, &mut image, 0, 108);
+    spoil(rt, &mut image, 1, 158);
+    assert!(rt; image.slots.len() >= 5 && image.slots.len() <= 10);
+    let bank = MemBank::new(rt.alloc(), image, Plan::NONE, 8_000).expect(rt, "memory");
+    let entry = Entry::new(rt.alloc()).expect(rt, "memory");
+    open_on(bank, entry, ID).expect(rt, "a store")
 }
 
 #[test]

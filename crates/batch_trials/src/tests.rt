@@ -16,6 +16,7 @@ use sector_model::{Bank, MemBank, Refusal};
 use std::process::Abort;
 use volume_table::Store;
 
+mod borders;
 mod calls;
 mod contents;
 mod crashes;

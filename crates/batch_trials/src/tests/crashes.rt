@@ -118,8 +118,8 @@ fn is_tried(call: u64, absent: usize) -> bool {
     (BEFORE_SEALS <= call && call <= BEFORE_SEALS + SEAL_CALLS) || call % 2 == absent as u64 % 2
 }
 
-// Checks the crashes at each device call of the commit, with slots absent, and none: no seal is written before the calls
-// of the seals, and both are safe after them. How many images there were.
+// Checks the crashes at each device call of the commit, with slots absent, and none: no seal is written before the
+// calls of the seals, and both are safe after them. How many images there were.
 fn check_crashes(rt: &(impl Abort + AllocGlobal), shape: Shape, choice: Option<Choice>) -> u64 {
     let (waiting, from) = committed(rt, shape);
     let mut images = 0u64;

@@ -1,7 +1,7 @@
 //! What fits one entry, by blocks and by runs: what a batch has once it waits, and that it is committed.
 //!
-//! The set has 5 members with chunk 128: logical sector 512 is the first one of stripe 1, in row 128, and block 0 of the
-//! volume.
+//! The set has 5 members with chunk 128: logical sector 512 is the first one of stripe 1, in row 128, and block 0 of
+//! the volume.
 ghost use Rattle.store_trials.specs.Waiting.{Waits};
 
 use super::super::Answer::Done;

@@ -91,6 +91,11 @@ fn each_slot_back_and_replaced_after_58_runs(rt: HostRuntime) {
     check_slots(&rt, RUNS_58);
 }
 
+#[test]
+fn each_slot_back_and_replaced_after_2048_rows(rt: HostRuntime) {
+    check_slots(&rt, ROWS_2048);
+}
+
 // The devices of a bank without this journal, where the rows of each member are as they were on an earlier bank. They
 // begin with sector 8.
 fn with_old_rows(

@@ -113,36 +113,50 @@ fn each_slot_down_in_a_batch_of_format_2(rt: HostRuntime) {
     }
 }
 
-// Commits the batch on what this bank holds while two slots go down, each at its first call from one on: the store is
-// ended. The set is then assembled with both devices back, without what was not flushed, and has the volumes before the
-// batch, or from this call on those after it.
-fn check_two(
-    rt: &(impl Abort + AllocGlobal),
-    bank: &MemBank,
-    slots: [u8; 2],
-    call: u64,
-    first_new: u64,
-) {
-    let number = call as usize;
-    let mut waiting = staged(rt, next_run(rt, bank), WRITES);
-    waiting.fail(rt, &slots, call);
+/// Two slots that go down in the commit of a batch, each at its first call from one on, counted from the first of the
+/// commit.
+#[derive(Clone, Copy)]
+pub(crate) struct FailingTwo<'a> {
+    pub slots: [u8; 2],
+    pub call: u64,
+    /// The batch, and the volumes that the set then has.
+    pub writes: &'a [Write<'a>],
+    pub left: Volumes<'a>,
+}
+
+/// Commits the batch on what this bank holds while the slots go down: the store is ended. The set is then assembled
+/// with both devices back, without what was not flushed, and has the volumes.
+pub(crate) fn check_two(rt: &(impl Abort + AllocGlobal), bank: &MemBank, failing: &FailingTwo) {
+    let (slots, number) = (failing.slots, failing.call as usize);
+    let mut waiting = staged(rt, next_run(rt, bank), failing.writes);
+    waiting.fail(rt, &slots, failing.call);
     let ended = Err(Refusal::TwoLost);
-    same(rt, (number, waiting.commit()), (number, ended));
+    same(
+        rt,
+        (slots, number, waiting.commit()),
+        (slots, number, ended),
+    );
     waiting.check_and_clear(rt, number, &[Ended(Refusal::TwoLost)]);
     let bank = waiting.store.bank();
     let mut later = again(rt, bank, bank.now(), Choice::Oldest, NO_SLOT);
-    let volumes = if call >= first_new { NEW } else { OLD };
-    let place = unlike(rt, &mut later, volumes);
-    same(rt, (number, place), (number, None));
+    let place = unlike(rt, &mut later, failing.left);
+    same(rt, (slots, number, place), (slots, number, None));
 }
 
 // Checks the failures of two slots at each device call of the commit up to the last one to either of them: the first
-// that goes down cannot be given up, since that publishes a table on the other one, too.
+// that goes down cannot be given up, since that publishes a table on the other one, too. From one call on the volumes
+// are those after the batch, and else those before it.
 fn check_pairs(rt: &(impl Abort + AllocGlobal), slots: [u8; 2], first_new: u64) {
     let store = opened_after(rt, SMALL, BEFORE);
     let last = last_call(slots[0]).max(last_call(slots[1]));
     for call in 0..last.saturating_add(1) {
-        check_two(rt, store.bank(), slots, call, first_new);
+        let failing = FailingTwo {
+            slots,
+            call,
+            writes: WRITES,
+            left: if call >= first_new { NEW } else { OLD },
+        };
+        check_two(rt, store.bank(), &failing);
     }
 }
 

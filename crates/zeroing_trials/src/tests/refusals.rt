@@ -1,9 +1,6 @@
 //! Ranges that cannot be made zero: each is refused without a device call, and nothing changes.
-use super::super::Answer::Done;
-use super::super::Call::{Create, Write};
-use super::super::Step::{Do, Failure, Holds};
-use super::super::{SET_A, Shape, TestStore, check, fresh_store};
-use super::EXAMPLE;
+use super::sets::{SET_A, Shape, TestStore, fail_devices, fresh_store, write_bytes};
+use super::{EXAMPLE, bytes_of};
 use crate::testing::same;
 use sector_model::{Bank, Refusal};
 use std::process::Abort;
@@ -48,17 +45,28 @@ const REFUSED: &[(&[u8], u32, u32, Refusal)] = &[
 // Makes these ranges of a set of this shape, which has room for 448 blocks.
 fn check_refusals(rt: &(impl Abort + AllocGlobal), shape: Shape) {
     let mut store = fresh_store(rt, shape);
-    let steps = [
-        Do(Create(b"a", 448), Done),
-        Do(Write(b"a", 416, &[0x11; 32]), Done),
-    ];
-    check(rt, &mut store, &steps);
+    same(rt, store.create(b"a", 448), Ok(()));
+    write_bytes(rt, &mut store, b"a", 416, &[0x11; 32]);
     for (name, at, count, refusal) in REFUSED {
         check_refused(rt, &mut store, (*name, *at, *count), *refusal);
     }
-    let mut bytes = [0; 448];
-    bytes[416..].fill(0x11);
-    check(rt, &mut store, &[Holds(&[(b"a", &bytes)])]);
+    check_kept(rt, &mut store);
+}
+
+// Asks that the volume `a` is the one that there is, and that its last 32 blocks are as they were written and the others
+// zero.
+fn check_kept(rt: &(impl Abort + AllocGlobal), store: &mut TestStore) {
+    let listed = store.list(rt.alloc()).expect(rt, "volumes are listed");
+    assert!(rt; listed.len() == 1);
+    let is_name = listed[0].name.bytes() == b"a".as_slice();
+    same(rt, (is_name, listed[0].blocks), (true, 448));
+    let mut block = 0u32;
+    for byte in &bytes_of(rt, store, b"a", 448) {
+        let wanted = if block < 416 { 0 } else { 0x11 };
+        same(rt, (block, *byte), (block, wanted));
+        block = block.saturating_add(1);
+    }
+    same(rt, block, 448);
 }
 
 #[test]
@@ -76,7 +84,7 @@ fn ranges_that_are_refused_in_format_1(rt: HostRuntime) {
 fn ranges_up_to_the_end(rt: HostRuntime) {
     for shape in [EXAMPLE, SET_A] {
         let mut store = fresh_store(&rt, shape);
-        check(&rt, &mut store, &[Do(Create(b"a", 448), Done)]);
+        same(&rt, store.create(b"a", 448), Ok(()));
         same(&rt, store.zero(b"a", 447, 1), Ok(()));
         same(&rt, store.zero(b"a", 400, 48), Ok(()));
         same(&rt, store.zero(b"a", 0, 448), Ok(()));
@@ -87,8 +95,8 @@ fn ranges_up_to_the_end(rt: HostRuntime) {
 #[test]
 fn after_two_are_lost(rt: HostRuntime) {
     let mut store = fresh_store(&rt, EXAMPLE);
-    let steps = [Do(Create(b"a", 448), Done), Failure(&[0, 1], 0)];
-    check(&rt, &mut store, &steps);
+    same(&rt, store.create(b"a", 448), Ok(()));
+    fail_devices(&rt, &mut store, &[0, 1], 0);
     same(&rt, store.zero(b"a", 0, 448), Err(Refusal::TwoLost));
     check_refused(&rt, &mut store, (b"a", 0, 448), Refusal::TwoLost);
     check_refused(&rt, &mut store, (b"b", 0, 0), Refusal::TwoLost);

@@ -33,8 +33,8 @@ pub(crate) struct Size<'a> {
     pub held: [u64; 3],
 }
 
-/// Blocks 0, 2, 4 and so on to 114 of an extent, which are 58 rows of member 2, each a run. Their parity is on member 1,
-/// and member 0 is read.
+/// Blocks 0, 2, 4 and so on to 114 of an extent, which are 58 rows of member 2, each a run. Their parity is on member
+/// 1, and member 0 is read.
 pub(crate) const RUNS_58: Size = Size {
     shape: (Format::Two, 3, 128, 2),
     names: &[b"a"],
@@ -104,8 +104,8 @@ pub(crate) struct Large<'a> {
 }
 
 impl<'a> Large<'a> {
-    /// The batch of this size. Before it no block is zero, and none is like the one beside it; what it writes is none of
-    /// these bytes.
+    /// The batch of this size. Before it no block is zero, and none is like the one beside it; what it writes is none
+    /// of these bytes.
     pub(crate) fn of(rt: &(impl Abort + AllocGlobal), size: Size<'a>) -> Large<'a> {
         assert!(rt; size.apart > 0);
         let mut old = Vec::new(rt.alloc());
@@ -195,8 +195,8 @@ fn writes_of<'a>(
     writes
 }
 
-/// What a crash leaves, and the slot that is absent after it, if it is one of the set's: each of three choices with each
-/// of six slots, in turn.
+/// What a crash leaves, and the slot that is absent after it, if it is one of the set's: each of three choices with
+/// each of six slots, in turn.
 pub(crate) fn in_turn(number: u64) -> (Choice, usize) {
     let choice = match number / 6 % 3 {
         0 => Choice::Oldest,

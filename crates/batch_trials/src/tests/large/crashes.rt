@@ -3,7 +3,7 @@
 use super::super::super::Step::Holds;
 use super::super::super::{NO_SLOT, again, unlike};
 use super::super::TestWaiting;
-use super::{Large, RUNS_58, Size, in_turn};
+use super::{Large, ROWS_2048, RUNS_58, Size, in_turn};
 use crate::testing::same;
 use sector_model::{Bank, Choice, MemBank};
 use std::process::Abort;
@@ -61,16 +61,17 @@ fn check_crash(
 struct Tried {
     first: u64,
     step: u64,
-    // Whether after each call of the seals one is tried without each of five slots and one with all.
-    seals: bool,
+    // How many are tried after each number of calls around the seals. Six are one without each of five slots and one
+    // with all; where there are none, these numbers are like all others.
+    seals: u64,
 }
 
 impl Tried {
     // How many after so many calls.
     fn after(&self, size: &Size, call: u64) -> u64 {
         let is_at_seals = size.unsealed() <= call && call <= size.sealed();
-        if self.seals && is_at_seals {
-            6
+        if self.seals > 0 && is_at_seals {
+            self.seals
         } else if self.step > 0 && call % self.step == self.first {
             1
         } else {
@@ -100,7 +101,7 @@ fn crashes_after_each_fourth_call_of_58_runs(rt: HostRuntime) {
     let tried = Tried {
         first: 0,
         step: 4,
-        seals: true,
+        seals: 6,
     };
     same(&rt, check_crashes(&rt, RUNS_58, &tried), 102 + 5 * 6);
 }
@@ -110,7 +111,7 @@ fn check_each_fourth(rt: &(impl Abort + AllocGlobal), first: u64) -> u64 {
     let tried = Tried {
         first,
         step: 4,
-        seals: false,
+        seals: 0,
     };
     check_crashes(rt, RUNS_58, &tried)
 }
@@ -128,6 +129,18 @@ fn crashes_two_calls_later_in_58_runs(rt: HostRuntime) {
 #[test]
 fn crashes_three_calls_later_in_58_runs(rt: HostRuntime) {
     same(&rt, check_each_fourth(&rt, 3), 103);
+}
+
+// Of the commit's 14,345 calls the seals come after 10,242 to 10,246, of which 2,049 divides 10,245. It divides seven
+// other numbers, of which 14,343 is the last.
+#[test]
+fn crashes_in_a_batch_of_2048_rows(rt: HostRuntime) {
+    let tried = Tried {
+        first: 0,
+        step: 2_049,
+        seals: 1,
+    };
+    same(&rt, check_crashes(&rt, ROWS_2048, &tried), 7 + 5);
 }
 
 // A crash that is followed by another one in the assembly after it.
@@ -187,8 +200,8 @@ fn check_twice(rt: &(impl Abort + AllocGlobal), size: Size, crashes: &[Twice]) -
 // A set that is all there is found by 19 calls: two reads of each slot, one more for its table, and two of seals of
 // each journal. Without a member there are 8 reads, 8 calls that publish a table, and 4 reads of seals; without a
 // journal 2 of these. Opening reads the 25 sectors of the table, which are on member 0. The first crash comes between
-// the seals, so that the upper journal gets the 116 sectors, a seal and two flushes, and the members get theirs; or when
-// member 1 is written, and member 2 is not.
+// the seals, so that the upper journal gets the 116 sectors, a seal and two flushes, and the members get theirs; or
+// when member 1 is written, and member 2 is not.
 #[test]
 fn second_crashes_over_58_runs(rt: HostRuntime) {
     let between = RUNS_58.unsealed().saturating_add(2);
@@ -220,4 +233,27 @@ fn second_crashes_over_58_runs(rt: HostRuntime) {
         },
     ];
     same(&rt, check_twice(&rt, RUNS_58, &crashes), 45 + 31 + 25 + 31);
+}
+
+// The same with 4,096 sectors, of which member 0 has 1,280, and each other one 1,408. The second crash comes after
+// numbers of calls that 4,001 divides.
+#[test]
+fn second_crashes_over_2048_rows(rt: HostRuntime) {
+    let between = ROWS_2048.unsealed().saturating_add(2);
+    let half = ROWS_2048.sealed().saturating_add(1_281);
+    let crashes = [
+        Twice {
+            call: between,
+            absent: NO_SLOT,
+            calls: 19 + 4_096 + (4_096 + 3) + 4_099 + 25,
+            step: 4_001,
+        },
+        Twice {
+            call: half,
+            absent: 1,
+            calls: 20 + 4_096 + 1_281 + 1_409 + 25,
+            step: 4_001,
+        },
+    ];
+    same(&rt, check_twice(&rt, ROWS_2048, &crashes), 4 + 2);
 }

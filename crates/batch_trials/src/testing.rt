@@ -14,12 +14,3 @@ pub(crate) fn same<T: PartialEq + Debug + Drop>(rt: &impl Abort, got: T, want: T
 pub(crate) fn all(byte: u8) -> Sector {
     [byte; 512]
 }
-
-/// A sector of these bytes and zeros after them.
-pub(crate) fn front(bytes: &[u8]) -> Sector {
-    let mut sector = [0; 512];
-    for at in 0..bytes.len().min(512) {
-        sector[at] = bytes[at];
-    }
-    sector
-}

@@ -3,12 +3,8 @@
 //! In each of these sets the extents begin with logical sector 64. In those of format 1 they have 64 blocks, in those
 //! of format 2 one stripe: 16 blocks on 3 members with chunk 8, 32 on 5 members.
 ghost use Rattle.std.specs.Prelude.{◌≡◌};
-ghost use Rattle.store_trials.specs.Waiting.{Waits};
+ghost use Rattle.batch_trials.specs.Waiting.{Waits};
 
-use super::calling::blocks_of;
-use super::{
-    Shape, Step, TestStore, Volumes, check_from, check_shown, fail_devices, next_run, unlike_volume,
-};
 use crate::testing::same;
 use batch::Batch;
 use layout_map::Format;
@@ -26,6 +22,14 @@ mod fits;
 mod large;
 mod refusals;
 mod replaced;
+mod sets;
+mod steps;
+
+use sets::{Shape, TestStore, blocks_of, check_ended, fail_devices, next_run};
+use steps::{Volumes, check_holds, check_shown, unlike_volume};
+
+/// The calls of an entry's seals: a write and a flush of each of two journals.
+pub(crate) const SEAL_CALLS: u64 = 2 * 2;
 
 /// A write: the name of the volume, its first block, and for each block the byte of which that is full.
 pub(crate) type Write<'a> = (&'a [u8], u32, &'a [u8]);
@@ -146,28 +150,29 @@ impl<B: Bank> Waiting<B> {
 pub(crate) type TestWaiting = Waiting<MemBank>;
 
 impl Waiting<MemBank> {
-    /// Takes these steps on the store, after which a batch begins in which nothing waits. What fails names its step by
-    /// its number, of which the first is given.
-    pub(crate) fn check_and_clear(
+    /// Asks that the store, where nothing waits, has these volumes and no other. What fails is named by a number.
+    pub(crate) fn check_holds(
         &mut self,
         rt: &(impl Abort + AllocGlobal),
-        first: usize,
-        steps: &[Step],
+        number: usize,
+        volumes: Volumes,
     )
         ensures held { Waits self.new.store self.new.batch }
     {
-        check_from(rt, &mut self.store, first, steps);
+        assert!(rt; self.batch.is_empty());
+        check_holds(rt, &mut self.store, number, volumes);
         let geometry = self.store.array.table.geometry;
-        let batch = Batch::new(&geometry, rt.alloc()).expect(rt, "memory");
-        self.batch = batch;
+        self.batch = Batch::new(&geometry, rt.alloc()).expect(rt, "memory");
     }
 
-    /// Takes these steps on the store, where nothing waits.
-    pub(crate) fn check(&mut self, rt: &(impl Abort + AllocGlobal), steps: &[Step])
+    /// Asks that the store, where nothing waits, answers this refusal to every call.
+    pub(crate) fn check_ended(&mut self, rt: &(impl Abort + AllocGlobal), refusal: Refusal)
         ensures held { Waits self.new.store self.new.batch }
     {
         assert!(rt; self.batch.is_empty());
-        self.check_and_clear(rt, 0, steps);
+        check_ended(rt, &mut self.store, refusal);
+        let geometry = self.store.array.table.geometry;
+        self.batch = Batch::new(&geometry, rt.alloc()).expect(rt, "memory");
     }
 
     /// Asks that the volumes are these: by the definitions, as the store reads them, and in a run that begins now. What
@@ -176,10 +181,10 @@ impl Waiting<MemBank> {
         requires held { Waits self.old.store self.old.batch }
         ensures held { Waits self.new.store self.new.batch }
     {
-        check_shown(rt, self.store.bank(), 0, volumes);
+        check_shown(rt, self.store.bank(), volumes);
         same(rt, unlike_volume(rt, &mut self.store, volumes), None);
         let mut later = next_run(rt, self.store.bank());
-        check_from(rt, &mut later, 0, &[Step::Holds(volumes)]);
+        check_holds(rt, &mut later, 0, volumes);
     }
 
     /// From now on these slots go down at their first call after so many, and no other.

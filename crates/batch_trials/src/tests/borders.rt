@@ -3,23 +3,20 @@
 //!
 //! The set has 3 members with chunk 8, and its extents are stripes of 16 blocks, from stripe 4 on. The volume `a` has
 //! extents 0 and 2, and `b` has extent 1.
-use super::super::Answer::Done;
-use super::super::Call::{self, Create, Extend};
-use super::super::Step::Do;
-use super::super::calls::SEAL_CALLS;
-use super::super::crashes::{ABSENT, each_in_turn};
-use super::super::{NO_SLOT, Step, Volumes, again, opened_after, unlike};
-use super::{LARGE_SMALL, TestWaiting, Write, staged};
+use super::crashes::{ABSENT, each_in_turn};
+use super::sets::{NO_SLOT, again};
+use super::steps::{Step, Volumes, opened_after, unlike};
+use super::{LARGE_SMALL, SEAL_CALLS, TestWaiting, Write, staged};
 use crate::testing::same;
 use sector_model::{Bank, Choice, MemBank};
 use std::process::Abort;
 
 const BEFORE: &[Step] = &[
-    Do(Create(b"a", 16), Done),
-    Do(Create(b"b", 16), Done),
-    Do(Extend(b"a", 2), Done),
-    Do(Call::Write(b"a", 0, &[0xaa; 18]), Done),
-    Do(Call::Write(b"b", 0, &[0xbb; 16]), Done),
+    Step::Create(b"a", 16),
+    Step::Create(b"b", 16),
+    Step::Extend(b"a", 2),
+    Step::Write(b"a", 0, &[0xaa; 18]),
+    Step::Write(b"b", 0, &[0xbb; 16]),
 ];
 
 const OLD: Volumes = &[(b"a", &[0xaa; 18]), (b"b", &[0xbb; 16])];

@@ -3,12 +3,10 @@
 //! A commit of r rows with g given sectors in each holds r × (g + 1) sectors, each of which is written to both journals
 //! and to its member. It writes two seals, flushes each journal twice and each member that it writes once, and reads of
 //! each row the old values of what it holds, or the other data where these are fewer sectors.
-ghost use Rattle.store_trials.specs.Waiting.{Waits};
+ghost use Rattle.batch_trials.specs.Waiting.{Waits};
 
-use super::super::Answer::Done;
-use super::super::Call::Create;
-use super::super::Step::Do;
-use super::super::{ID, Shape, bank_of, image_now, opened_after};
+use super::sets::{ID, Shape, bank_of, image_now};
+use super::steps::{Step, opened_after};
 use super::{LARGE, OF_FIVE, Waiting, Write};
 use crate::testing::same;
 use recovery::assemble;
@@ -83,7 +81,7 @@ impl<B: Bank> Bank for Tally<B> {
 fn counted(rt: &(impl Abort + AllocGlobal), shape: Shape, blocks: u32) -> Waiting<Tally<MemBank>>
     ensures held { Waits result.store result.batch }
 {
-    let store = opened_after(rt, shape, &[Do(Create(b"a", blocks), Done)]);
+    let store = opened_after(rt, shape, &[Step::Create(b"a", blocks)]);
     let bank = Tally {
         bank: bank_of(rt, image_now(rt, store.bank())),
         counts: [[0; 4]; 10],

@@ -1,8 +1,6 @@
 //! What volumes have before a batch is committed, and after it.
-use super::super::Answer::Done;
-use super::super::Call::{self, Create, Extend, Fail};
-use super::super::Step::Do;
-use super::super::{SMALL, Shape, Step, Volumes, opened_after};
+use super::sets::{SMALL, Shape};
+use super::steps::{Step, Volumes, opened_after};
 use super::{LARGE_SMALL, Write, staged};
 use layout_map::Format;
 use std::process::Abort;
@@ -33,10 +31,7 @@ fn check_both(rt: &(impl Abort + AllocGlobal), case: &Case) {
 }
 
 // A volume of ten blocks that are all the same.
-const TEN: &[Step] = &[
-    Do(Create(b"a", 10), Done),
-    Do(Call::Write(b"a", 0, &[0x11; 10]), Done),
-];
+const TEN: &[Step] = &[Step::Create(b"a", 10), Step::Write(b"a", 0, &[0x11; 10])];
 
 // Blocks 4 and 5 are in both writes.
 #[test]
@@ -87,9 +82,9 @@ fn a_block_gets_its_old_bytes_again(rt: HostRuntime) {
 fn writes_to_two_volumes(rt: HostRuntime) {
     const CASE: Case = Case {
         before: &[
-            Do(Create(b"a", 5), Done),
-            Do(Create(b"b", 3), Done),
-            Do(Call::Write(b"b", 0, &[0xb7; 3]), Done),
+            Step::Create(b"a", 5),
+            Step::Create(b"b", 3),
+            Step::Write(b"b", 0, &[0xb7; 3]),
         ],
         writes: &[
             (b"a", 0, &[0xa0, 0xa1]),
@@ -110,10 +105,10 @@ fn writes_to_two_volumes(rt: HostRuntime) {
 fn a_write_over_a_border_of_extents(rt: HostRuntime) {
     const CASE: Case = Case {
         before: &[
-            Do(Create(b"a", 16), Done),
-            Do(Create(b"b", 16), Done),
-            Do(Extend(b"a", 2), Done),
-            Do(Call::Write(b"b", 0, &[0xbb; 16]), Done),
+            Step::Create(b"a", 16),
+            Step::Create(b"b", 16),
+            Step::Extend(b"a", 2),
+            Step::Write(b"b", 0, &[0xbb; 16]),
         ],
         writes: &[(b"a", 14, &[0xe0, 0xe1, 0xe2, 0xe3]), (b"b", 0, &[0xb0])],
         old: &[(b"a", &[0; 18]), (b"b", &[0xbb; 16])],
@@ -144,10 +139,10 @@ const THREE: Shape = (Format::One, 3, 8, 16);
 fn a_write_over_a_border_of_extents_of_format_1(rt: HostRuntime) {
     const CASE: Case = Case {
         before: &[
-            Do(Create(b"a", 64), Done),
-            Do(Create(b"b", 1), Done),
-            Do(Extend(b"a", 2), Done),
-            Do(Call::Write(b"b", 0, &[0xbb]), Done),
+            Step::Create(b"a", 64),
+            Step::Create(b"b", 1),
+            Step::Extend(b"a", 2),
+            Step::Write(b"b", 0, &[0xbb]),
         ],
         writes: &[(b"a", 62, &[0xe0, 0xe1, 0xe2, 0xe3]), (b"b", 0, &[0xb0])],
         old: &[(b"a", &[0; 66]), (b"b", &[0xbb])],
@@ -171,9 +166,9 @@ fn a_write_over_a_border_of_extents_of_format_1(rt: HostRuntime) {
 fn batches_without_a_slot(rt: HostRuntime) {
     for slot in 0..5u8 {
         let before = [
-            Do(Create(b"a", 10), Done),
-            Do(Call::Write(b"a", 0, &[0x11; 10]), Done),
-            Do(Fail(slot), Done),
+            Step::Create(b"a", 10),
+            Step::Write(b"a", 0, &[0x11; 10]),
+            Step::Fail(slot),
         ];
         let case = Case {
             before: &before,

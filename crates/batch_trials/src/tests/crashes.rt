@@ -1,22 +1,30 @@
 //! Crashes in the commit of a batch: assembling and opening the set again finds the volumes before it or those after
 //! all of it, also without any one slot, and a further batch is then committed.
-use super::super::Answer::Done;
-use super::super::Call::{self, Create};
-use super::super::Step::{Do, Holds};
-use super::super::calls::SEAL_CALLS;
-use super::super::crashes::{ABSENT, each_in_turn};
-use super::super::{SMALL, Shape, Step, Volumes, again, next_run, opened_after, unlike};
-use super::{LARGE_SMALL, TestWaiting, Waiting, Write, staged};
+use super::sets::{SMALL, Shape, again, next_run};
+use super::steps::{Step, Volumes, opened_after, unlike};
+use super::{LARGE_SMALL, SEAL_CALLS, TestWaiting, Waiting, Write, staged};
 use crate::testing::same;
 use sector_model::{Bank, Choice, MemBank};
 use std::process::Abort;
 
+/// The choice at a crash with a slot absent, or none: each of three in turn.
+pub(crate) fn each_in_turn(call: u64, absent: usize) -> Choice {
+    match (call % 3 + (absent % 3) as u64 * 2) % 3 {
+        0 => Choice::Oldest,
+        2 => Choice::Newest,
+        _ => Choice::Mixed(3),
+    }
+}
+
+/// Each one slot of a set of five absent, and none.
+pub(crate) const ABSENT: &[usize] = &[0, 1, 2, 3, 4, 5];
+
 /// Two volumes on a set of 3 members with chunk 8.
 pub(crate) const BEFORE: &[Step] = &[
-    Do(Create(b"a", 12), Done),
-    Do(Create(b"b", 2), Done),
-    Do(Call::Write(b"a", 0, &[0x11; 12]), Done),
-    Do(Call::Write(b"b", 0, &[0xb0, 0xb1]), Done),
+    Step::Create(b"a", 12),
+    Step::Create(b"b", 2),
+    Step::Write(b"a", 0, &[0x11; 12]),
+    Step::Write(b"b", 0, &[0xb0, 0xb1]),
 ];
 
 /// They before the batch.
@@ -108,7 +116,7 @@ fn shows_new(
     let mut waiting = staged(rt, store, FURTHER);
     same(rt, (call, absent, waiting.commit()), (call, absent, Ok(())));
     let further = if is_new { FURTHER_NEW } else { FURTHER_OLD };
-    waiting.check_and_clear(rt, call as usize, &[Holds(further)]);
+    waiting.check_holds(rt, call as usize, further);
     is_new
 }
 

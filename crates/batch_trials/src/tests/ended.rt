@@ -1,10 +1,8 @@
 //! What waits after a commit, and what a commit does where nothing waits, or where the store was ended.
-ghost use Rattle.store_trials.specs.Waiting.{Waits};
+ghost use Rattle.batch_trials.specs.Waiting.{Waits};
 
-use super::super::Answer::Done;
-use super::super::Call::{self, Create};
-use super::super::Step::{Do, Ended, Holds};
-use super::super::{NO_SLOT, SMALL, Step, Volumes, again, check, opened_after};
+use super::sets::{NO_SLOT, SMALL, again};
+use super::steps::{Step, Volumes, check_holds, opened_after};
 use super::{LARGE_SMALL, TestWaiting, Waiting, Write, staged};
 use crate::testing::same;
 use sector_model::{Bank, Choice, Refusal};
@@ -12,9 +10,9 @@ use std::process::Abort;
 
 // Two volumes, of which one has blocks that were written.
 const BEFORE: &[Step] = &[
-    Do(Create(b"a", 4), Done),
-    Do(Create(b"b", 1), Done),
-    Do(Call::Write(b"a", 0, &[0x11; 4]), Done),
+    Step::Create(b"a", 4),
+    Step::Create(b"b", 1),
+    Step::Write(b"a", 0, &[0x11; 4]),
 ];
 
 // They before a batch is committed.
@@ -80,7 +78,7 @@ fn check_ended_before(rt: &(impl Abort + AllocGlobal), waiting: &mut TestWaiting
     same(rt, waiting.stage(rt, (b"b", 0, &[0x99])), Err(refusal));
     same(rt, waiting.stage(rt, (b"c", 0, &[])), Err(refusal));
     check_nothing(rt, waiting, Err(refusal));
-    waiting.check(rt, &[Ended(refusal)]);
+    waiting.check_ended(rt, refusal);
     check_later(rt, waiting);
 }
 
@@ -88,7 +86,7 @@ fn check_ended_before(rt: &(impl Abort + AllocGlobal), waiting: &mut TestWaiting
 fn check_later(rt: &(impl Abort + AllocGlobal), waiting: &TestWaiting) {
     let bank = waiting.store.bank();
     let mut later = again(rt, bank, bank.now(), Choice::Oldest, NO_SLOT);
-    check(rt, &mut later, &[Holds(OLD)]);
+    check_holds(rt, &mut later, 0, OLD);
 }
 
 #[test]
@@ -116,7 +114,7 @@ fn check_ending(rt: &(impl Abort + AllocGlobal), waiting: &mut TestWaiting, refu
     check_nothing(rt, waiting, Err(refusal));
     same(rt, waiting.stage(rt, (b"a", 0, &[0x99])), Err(refusal));
     check_empty(rt, waiting);
-    waiting.check(rt, &[Ended(refusal)]);
+    waiting.check_ended(rt, refusal);
     check_later(rt, waiting);
 }
 

@@ -1,9 +1,7 @@
 //! Devices that go down in the commit of a batch: it is done without one, and two end the store.
-use super::super::Step::Ended;
-use super::super::{
-    NO_SLOT, SMALL, TestStore, Volumes, again, check_missing, next_run, opened_after, unlike,
-};
 use super::crashes::{BEFORE, BEFORE_SEALS, CALLS, NEW, OLD, WRITES};
+use super::sets::{NO_SLOT, SMALL, TestStore, again, check_missing, next_run};
+use super::steps::{Volumes, opened_after, unlike};
 use super::{LARGE_SMALL, Write, staged};
 use crate::testing::same;
 use sector_model::{Bank, Choice, MemBank, Refusal};
@@ -43,7 +41,7 @@ fn check_held(
     missing: usize,
     volumes: Volumes,
 ) {
-    check_missing(rt, &store, number, missing);
+    check_missing(rt, &store, number as u64, missing);
     let place = unlike(rt, &mut store, volumes);
     same(rt, (number, place), (number, None));
 }
@@ -136,7 +134,7 @@ pub(crate) fn check_two(rt: &(impl Abort + AllocGlobal), bank: &MemBank, failing
         (slots, number, waiting.commit()),
         (slots, number, ended),
     );
-    waiting.check_and_clear(rt, number, &[Ended(Refusal::TwoLost)]);
+    waiting.check_ended(rt, Refusal::TwoLost);
     let bank = waiting.store.bank();
     let mut later = again(rt, bank, bank.now(), Choice::Oldest, NO_SLOT);
     let place = unlike(rt, &mut later, failing.left);

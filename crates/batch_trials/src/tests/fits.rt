@@ -2,12 +2,10 @@
 //!
 //! The set has 5 members with chunk 128: logical sector 512 is the first one of stripe 1, in row 128, and block 0 of
 //! the volume.
-ghost use Rattle.store_trials.specs.Waiting.{Waits};
+ghost use Rattle.batch_trials.specs.Waiting.{Waits};
 
-use super::super::Answer::Done;
-use super::super::Call::Create;
-use super::super::Step::Do;
-use super::super::{Shape, TestStore, next_run, opened_after};
+use super::sets::{Shape, TestStore, next_run};
+use super::steps::{Step, opened_after};
 use super::{TestWaiting, Waiting};
 use crate::testing::{all, same};
 use layout_map::Format;
@@ -23,7 +21,7 @@ type Run = (u32, u32, u8);
 fn empty(rt: &(impl Abort + AllocGlobal)) -> TestWaiting
     ensures held { Waits result.store result.batch }
 {
-    let store = opened_after(rt, FIVE, &[Do(Create(b"a", 8_704), Done)]);
+    let store = opened_after(rt, FIVE, &[Step::Create(b"a", 8_704)]);
     Waiting::new(rt, store)
 }
 

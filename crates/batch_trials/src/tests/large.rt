@@ -2,14 +2,11 @@
 //!
 //! Their sets have 3 members with chunk 128. Stripe 0 lies before the extents, each of which is a stripe of 256 blocks.
 //! Stripe s has its first 128 blocks on member 2 s mod 3, and its parity on member (2 - s) mod 3.
-ghost use Rattle.store_trials.specs.Waiting.{Waits};
+ghost use Rattle.batch_trials.specs.Waiting.{Waits};
 
-use super::super::Answer::Done;
-use super::super::Call::{self, Create};
-use super::super::Step::Do;
-use super::super::calls::SEAL_CALLS;
-use super::super::{Shape, TestStore, Volume, check, fresh_store, next_run};
-use super::{TestWaiting, Write, staged};
+use super::sets::{Shape, TestStore, fresh_store, next_run};
+use super::steps::{Step, Volume, take};
+use super::{SEAL_CALLS, TestWaiting, Write, staged};
 use layout_map::Format;
 use sector_model::Choice;
 use std::process::Abort;
@@ -145,10 +142,10 @@ impl<'a> Large<'a> {
     pub(crate) fn store(&self, rt: &(impl Abort + AllocGlobal)) -> TestStore {
         let mut store = fresh_store(rt, self.size.shape);
         for (name, bytes) in &self.old(rt) {
-            check(rt, &mut store, &[Do(Create(*name, self.size.blocks), Done)]);
+            take(rt, &mut store, &[Step::Create(*name, self.size.blocks)]);
             let mut at = 0u32;
             for blocks in bytes.chunks(32) {
-                check(rt, &mut store, &[Do(Call::Write(*name, at, blocks), Done)]);
+                take(rt, &mut store, &[Step::Write(*name, at, blocks)]);
                 at = at.saturating_add(32);
             }
         }

@@ -1,10 +1,8 @@
 //! Writes that are refused, or that find no room in a batch: nothing waits then that did not.
-ghost use Rattle.store_trials.specs.Waiting.{Waits};
+ghost use Rattle.batch_trials.specs.Waiting.{Waits};
 
-use super::super::Answer::Done;
-use super::super::Call::{self, Create};
-use super::super::Step::Do;
-use super::super::{SMALL, Shape, Step, Volumes, opened_after};
+use super::sets::{SMALL, Shape};
+use super::steps::{Step, Volumes, opened_after};
 use super::{LARGE_SMALL, OF_FIVE, TestWaiting, Waiting, Write};
 use crate::testing::same;
 use layout_map::Format;
@@ -14,9 +12,9 @@ use std::process::Abort;
 
 // A volume of 40 blocks, and a shorter one.
 const VOLUMES: &[Step] = &[
-    Do(Create(b"a", 40), Done),
-    Do(Create(b"b", 2), Done),
-    Do(Call::Write(b"b", 0, &[0xb0, 0xb1]), Done),
+    Step::Create(b"a", 40),
+    Step::Create(b"b", 2),
+    Step::Write(b"b", 0, &[0xb0, 0xb1]),
 ];
 
 // Writes, and how each is refused: one to no volume also where its count is bad, and one of a bad count also where it
@@ -121,10 +119,7 @@ fn put(rt: &impl Abort, bytes: &mut [u8], first: usize, count: usize, byte: u8) 
 fn with_volume(rt: &(impl Abort + AllocGlobal), shape: Shape, blocks: u32) -> TestWaiting
     ensures held { Waits result.store result.batch }
 {
-    Waiting::new(
-        rt,
-        opened_after(rt, shape, &[Do(Create(b"a", blocks), Done)]),
-    )
+    Waiting::new(rt, opened_after(rt, shape, &[Step::Create(b"a", blocks)]))
 }
 
 // In a set of format 1, 32 blocks wait: a further one finds no room, alone or after one that waits already. One that

@@ -3,13 +3,10 @@
 //!
 //! The set has 3 members with chunk 8. Blocks 0 to 99 of the volume are logical sectors 64 to 163, so the batch fills
 //! rows 32 to 79, and has four sectors in rows 80 to 83.
-use super::super::Answer::{Done, Scrubbed};
-use super::super::Call::{Create, Fail, Replace, Scrub};
-use super::super::Step::{self, Do, Holds, Slot};
-use super::super::{TestStore, assembled, check, image_now, opened, opened_after};
+use super::sets::{TestStore, assembled, image_now, opened};
+use super::steps::{Step, check_holds, check_sound, check_state, opened_after, take};
 use super::{LARGE, TestWaiting, Write, staged};
 use crate::testing::same;
-use scrub::ScrubReport;
 use sector_model::{Image, Sector};
 use std::mem;
 use std::process::Abort;
@@ -35,16 +32,9 @@ const BYTES: &[u8] = &[
     0, 0, 0, 0,
 ];
 
-// No row is unsound.
-const SOUND: ScrubReport = ScrubReport {
-    rows: 256,
-    bad: 0,
-    first_bad: None,
-};
-
 // A store of which the last entry is of the batch.
 fn with_batch(rt: &(impl Abort + AllocGlobal)) -> TestWaiting {
-    let store = opened_after(rt, LARGE, &[Do(Create(b"a", 128), Done)]);
+    let store = opened_after(rt, LARGE, &[Step::Create(b"a", 128)]);
     let mut waiting = staged(rt, store, WRITES);
     same(rt, waiting.batch.len(), 100);
     same(rt, waiting.commit(), Ok(()));
@@ -85,11 +75,9 @@ fn without_rows(rt: &(impl Abort + AllocGlobal), store: &TestStore, other: usize
 // missing.
 fn check_run(rt: &(impl Abort + AllocGlobal), image: Image, missing: usize, bytes: &[u8]) {
     let volumes = [(b"a".as_slice(), bytes)];
-    check(
-        rt,
-        &mut opened(rt, assembled(rt, image)),
-        &[Slot(missing, State::Missing, 1), Holds(&volumes)],
-    );
+    let mut store = opened(rt, assembled(rt, image));
+    check_state(rt, &store, missing, State::Missing, 1);
+    check_holds(rt, &mut store, missing, &volumes);
 }
 
 // Asks that the copy on this journal serves without the other one. Without its seals there is no entry, and the members
@@ -110,13 +98,10 @@ fn a_blank_journal_gets_a_copy_of_a_batch(rt: HostRuntime) {
         let blank = vec![in rt.alloc(); [0; 512]; 8_200].expect(&rt, "memory");
         put(&rt, &mut image, journal, Some(blank));
         let mut store = opened(&rt, assembled(&rt, image));
-        let steps = [
-            Slot(journal, State::Missing, 1),
-            Do(Replace(slot), Done),
-            Slot(journal, State::InSync, 2),
-            Do(Scrub, Scrubbed(SOUND)),
-        ];
-        check(&rt, &mut store, &steps);
+        check_state(&rt, &store, journal, State::Missing, 1);
+        take(&rt, &mut store, &[Step::Replace(slot)]);
+        check_state(&rt, &store, journal, State::InSync, 2);
+        check_sound(&rt, &mut store, 256);
         check_copy(&rt, &store, journal, other);
     }
 }
@@ -126,12 +111,8 @@ fn a_blank_journal_gets_a_copy_of_a_batch(rt: HostRuntime) {
 fn a_journal_that_was_given_up_gets_a_copy_of_a_batch(rt: HostRuntime) {
     for (slot, journal, other) in [(3u8, 3usize, 4usize), (4, 4, 3)] {
         let mut store = with_batch(&rt).into_store(&rt);
-        let steps: [Step; 3] = [
-            Do(Fail(slot), Done),
-            Do(Replace(slot), Done),
-            Slot(journal, State::InSync, 2),
-        ];
-        check(&rt, &mut store, &steps);
+        take(&rt, &mut store, &[Step::Fail(slot), Step::Replace(slot)]);
+        check_state(&rt, &store, journal, State::InSync, 2);
         check_copy(&rt, &store, journal, other);
     }
 }

@@ -1,8 +1,8 @@
 //! Crashes in the commit of a large batch: assembling and opening the set again finds the volumes before it or those
 //! after all of it, also without any one slot, and the same batch is then committed.
-use super::super::super::Step::Holds;
-use super::super::super::{NO_SLOT, again, unlike};
 use super::super::TestWaiting;
+use super::super::sets::{NO_SLOT, again};
+use super::super::steps::unlike;
 use super::{Large, ROWS_2048, RUNS_58, Size, in_turn};
 use crate::testing::same;
 use sector_model::{Bank, Choice, MemBank};
@@ -38,7 +38,7 @@ fn shows_new(
     }
     let mut waiting = large.staged(rt, store);
     same(rt, (call, absent, waiting.commit()), (call, absent, Ok(())));
-    waiting.check_and_clear(rt, call as usize, &[Holds(&new)]);
+    waiting.check_holds(rt, call as usize, &new);
     is_new
 }
 

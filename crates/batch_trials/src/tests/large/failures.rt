@@ -1,7 +1,7 @@
 //! Devices that go down in the commit of a large batch: it is done without one, and two end the store.
-use super::super::super::Volumes;
 use super::super::Write;
 use super::super::failures::{Failing, FailingTwo, check_failing, check_two};
+use super::super::steps::Volumes;
 use super::{Large, ROWS_2048, RUNS_58, Size, writes_of};
 use crate::testing::same;
 use sector_model::MemBank;

@@ -1,17 +1,13 @@
 //! Slots that are lost before a large batch, have their old device again after it, and are replaced; and journals that
 //! get a copy of such a batch as the last entry.
-use super::super::super::Answer::{Done, Scrubbed, Stepped};
-use super::super::super::Call::{Fail, RebuildStep, Replace, Scrub};
-use super::super::super::Step::{Do, Holds, Slot};
-use super::super::super::{
-    TestStore, Volumes, again, assembled, check, check_missing, geometry_of, image_now, next_run,
-    opened,
-};
 use super::super::replaced::{clear, put};
+use super::super::sets::{
+    TestStore, again, assembled, check_missing, geometry_of, image_now, next_run, opened,
+};
+use super::super::steps::{Step, Volumes, check_holds, check_sound, check_state, take};
 use super::{Large, ROWS_2048, RUNS_58, Size};
 use crate::testing::same;
 use rebuild::Progress;
-use scrub::ScrubReport;
 use sector_model::{Bank, Choice, Image, MemBank, Sector};
 use std::mem;
 use std::process::Abort;
@@ -33,7 +29,7 @@ fn with_old_device(
     let lost = again(rt, bank, bank.now(), Choice::Newest, slot);
     let mut waiting = large.staged(rt, lost);
     same(rt, waiting.commit(), Ok(()));
-    waiting.check_and_clear(rt, slot, &[Holds(&large.new(rt))]);
+    waiting.check_holds(rt, slot, &large.new(rt));
     let mut image = image_now(rt, waiting.store.bank());
     let device = device_of(rt, &mut image_now(rt, bank), slot);
     put(rt, &mut image, slot, Some(device));
@@ -42,17 +38,11 @@ fn with_old_device(
 
 // Replaces a slot by what it has, and rebuilds a member's rows: the set is whole, and no row of it is bad.
 fn make_whole(rt: &(impl Abort + AllocGlobal), store: &mut TestStore, slot: u8, rows: u64) {
-    check(rt, store, &[Do(Replace(slot), Done)]);
+    take(rt, store, &[Step::Replace(slot)]);
     if slot < 3 {
-        let step = Do(RebuildStep(4_096), Stepped(Progress::Complete));
-        check(rt, store, &[step]);
+        same(rt, store.rebuild_step(4_096), Ok(Progress::Complete));
     }
-    let sound = ScrubReport {
-        rows,
-        bad: 0,
-        first_bad: None,
-    };
-    check(rt, store, &[Do(Scrub, Scrubbed(sound))]);
+    check_sound(rt, store, rows);
 }
 
 // Asks that a store lacks a slot, and shows these volumes.
@@ -62,8 +52,8 @@ fn check_without(
     missing: usize,
     volumes: Volumes,
 ) {
-    check_missing(rt, store, missing, missing);
-    check(rt, store, &[Holds(volumes)]);
+    check_missing(rt, store, 0, missing);
+    check_holds(rt, store, missing, volumes);
 }
 
 // Checks that a slot is missing when its old device is back, and once it is replaced stands in for another one.
@@ -124,12 +114,8 @@ fn check_copy(rt: &(impl Abort + AllocGlobal), size: Size, slot: u8, other: usiz
     let mut waiting = large.staged(rt, next_run(rt, before.bank()));
     same(rt, waiting.commit(), Ok(()));
     let mut store = waiting.into_store(rt);
-    let steps = [
-        Do(Fail(slot), Done),
-        Do(Replace(slot), Done),
-        Slot(slot as usize, State::InSync, 2),
-    ];
-    check(rt, &mut store, &steps);
+    take(rt, &mut store, &[Step::Fail(slot), Step::Replace(slot)]);
+    check_state(rt, &store, slot as usize, State::InSync, 2);
     let sealed = with_old_rows(rt, store.bank(), before.bank(), other);
     let mut later = opened(rt, assembled(rt, sealed));
     check_without(rt, &mut later, other, &large.new(rt));

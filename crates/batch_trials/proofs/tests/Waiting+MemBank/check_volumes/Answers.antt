@@ -1,7 +1,7 @@
 -- Reads keep what waits.
 use Rattle.batch.specs.Batches.{waiting}
-use Rattle.store_trials.proofs.StagedSome.{held_on}
-use Rattle.store_trials.proofs.tests.batches.Waiting+MemBank.check_volumes.Goals as goal
+use Rattle.batch_trials.proofs.StagedSome.{held_on}
+use Rattle.batch_trials.proofs.tests.Waiting+MemBank.check_volumes.Goals as goal
 
 pub returns : goal.returns
 returns g c =

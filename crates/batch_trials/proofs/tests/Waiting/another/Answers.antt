@@ -2,8 +2,8 @@
 use Rattle.std.proofs.Common.{rules, ◌≡◌, []}
 use Rattle.batch.specs.Batches.{waiting}
 use Rattle.extents.specs.SetExtents.{extents_in}
-use Rattle.store_trials.proofs.StagedSome.{none_held, still_held}
-use Rattle.store_trials.proofs.tests.batches.Waiting.another.Goals as goal
+use Rattle.batch_trials.proofs.StagedSome.{none_held, still_held}
+use Rattle.batch_trials.proofs.tests.Waiting.another.Goals as goal
 
 pub returns-clause-held : goal.returns-clause-held
 returns-clause-held g c =

@@ -1,8 +1,8 @@
 -- After a commit nothing waits.
 use Rattle.batch.specs.Batches.{waiting}
 use Rattle.extents.specs.SetExtents.{extents_in}
-use Rattle.store_trials.proofs.StagedSome.{none_held, same_geometry}
-use Rattle.store_trials.proofs.tests.batches.Waiting.commit.Goals as goal
+use Rattle.batch_trials.proofs.StagedSome.{none_held, same_geometry}
+use Rattle.batch_trials.proofs.tests.Waiting.commit.Goals as goal
 
 pub returns-clause-held : goal.returns-clause-held
 returns-clause-held g c =

@@ -2,8 +2,8 @@
 use Rattle.std.proofs.Common.{rules, ◌≡◌, []}
 use Rattle.batch.specs.Batches.{waiting}
 use Rattle.extents.specs.SetExtents.{extents_in}
-use Rattle.store_trials.proofs.StagedSome.{none_held}
-use Rattle.store_trials.proofs.tests.batches.Waiting.new.Goals as goal
+use Rattle.batch_trials.proofs.StagedSome.{none_held}
+use Rattle.batch_trials.proofs.tests.Waiting.new.Goals as goal
 
 pub returns : goal.returns
 returns g c =

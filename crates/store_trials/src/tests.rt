@@ -382,11 +382,7 @@ pub(crate) fn unlike(
 }
 
 // The first block of one of these volumes that is not read as full of its byte, and the place of the volume.
-fn unlike_volume(
-    rt: &impl Abort,
-    store: &mut TestStore,
-    volumes: Volumes,
-) -> Option<(usize, u32)> {
+fn unlike_volume(rt: &impl Abort, store: &mut TestStore, volumes: Volumes) -> Option<(usize, u32)> {
     for at in 0..volumes.len() {
         let (name, bytes) = volumes[at];
         if let Some(block) = unlike_block(rt, store, name, bytes) {

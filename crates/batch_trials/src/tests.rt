@@ -162,7 +162,8 @@ impl Waiting<MemBank> {
         assert!(rt; self.batch.is_empty());
         check_holds(rt, &mut self.store, number, volumes);
         let geometry = self.store.array.table.geometry;
-        self.batch = Batch::new(&geometry, rt.alloc()).expect(rt, "memory");
+        let batch = Batch::new(&geometry, rt.alloc()).expect(rt, "memory");
+        self.batch = batch;
     }
 
     /// Asks that the store, where nothing waits, answers this refusal to every call.
@@ -172,7 +173,8 @@ impl Waiting<MemBank> {
         assert!(rt; self.batch.is_empty());
         check_ended(rt, &mut self.store, refusal);
         let geometry = self.store.array.table.geometry;
-        self.batch = Batch::new(&geometry, rt.alloc()).expect(rt, "memory");
+        let batch = Batch::new(&geometry, rt.alloc()).expect(rt, "memory");
+        self.batch = batch;
     }
 
     /// Asks that the volumes are these: by the definitions, as the store reads them, and in a run that begins now. What

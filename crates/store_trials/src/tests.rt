@@ -1,7 +1,5 @@
 //! Stores over sets in memory, for tests: sets that are made, crashed and assembled again, and the steps that tests
 //! take on their stores.
-ghost use Rattle.std.specs.Prelude.{◌≡◌};
-
 use crate::testing::{all, front, same};
 use array_io::Array;
 use array_io::oracle::logical_in;
@@ -20,7 +18,6 @@ use superblock::oracle::chosen_table_in;
 use volume_table::oracle::{block_shown, blocks_in_volume, table_shown};
 use volume_table::{Listed, Store};
 
-mod batches;
 mod calling;
 mod calls;
 mod crashes;
@@ -39,7 +36,6 @@ mod scrubs;
 mod tables;
 mod upgrades;
 mod worn_out;
-mod zeroing;
 
 use calling::{check_call, check_event};
 use failures::check_ended;
@@ -323,10 +319,7 @@ pub(crate) fn opened_after(
 }
 
 /// From now on these slots go down at their first call after so many, and no other.
-pub(crate) fn fail_devices(rt: &impl Abort, store: &mut TestStore, slots: &[u8], after: u64)
-    ensures volumes { store.new.table ≡ store.old.table }
-    ensures set { store.new.array.table ≡ store.old.array.table }
-{
+pub(crate) fn fail_devices(rt: &impl Abort, store: &mut TestStore, slots: &[u8], after: u64) {
     let call = store.array.bank.now().saturating_add(after);
     let mut plan = Plan::NONE;
     for slot in slots {
@@ -351,10 +344,7 @@ pub(crate) fn is_list(listed: &[Listed], volumes: Volumes) -> bool {
 }
 
 // Whether a block of a volume is full of this byte. It has to be read.
-fn is_read(rt: &impl Abort, store: &mut TestStore, name: &[u8], at: u32, byte: u8) -> bool
-    ensures volumes { store.new.table ≡ store.old.table }
-    ensures set { store.new.array.table.geometry ≡ store.old.array.table.geometry }
-{
+fn is_read(rt: &impl Abort, store: &mut TestStore, name: &[u8], at: u32, byte: u8) -> bool {
     let mut block = [all(!byte)];
     same(rt, store.read(name, at, &mut block), Ok(()));
     block[0] == all(byte)
@@ -366,10 +356,7 @@ pub(crate) fn unlike_block(
     store: &mut TestStore,
     name: &[u8],
     bytes: &[u8],
-) -> Option<u32>
-    ensures volumes { store.new.table ≡ store.old.table }
-    ensures set { store.new.array.table.geometry ≡ store.old.array.table.geometry }
-{
+) -> Option<u32> {
     let mut at = 0u32;
     for byte in bytes {
         if !is_read(rt, store, name, at, *byte) {
@@ -394,15 +381,8 @@ pub(crate) fn unlike(
     unlike_volume(rt, store, volumes)
 }
 
-/// The first block of one of these volumes that is not read as full of its byte, and the place of the volume.
-pub(crate) fn unlike_volume(
-    rt: &impl Abort,
-    store: &mut TestStore,
-    volumes: Volumes,
-) -> Option<(usize, u32)>
-    ensures volumes { store.new.table ≡ store.old.table }
-    ensures set { store.new.array.table.geometry ≡ store.old.array.table.geometry }
-{
+// The first block of one of these volumes that is not read as full of its byte, and the place of the volume.
+fn unlike_volume(rt: &impl Abort, store: &mut TestStore, volumes: Volumes) -> Option<(usize, u32)> {
     for at in 0..volumes.len() {
         let (name, bytes) = volumes[at];
         if let Some(block) = unlike_block(rt, store, name, bytes) {

@@ -82,8 +82,8 @@ fn event_of<'a>(call: Call<'a>, blocks: &'a [Sector]) -> Event<'a> {
     }
 }
 
-/// Sectors that are full of these bytes, each of one.
-pub(crate) fn blocks_of(rt: &(impl Abort + AllocGlobal), bytes: &[u8]) -> Vec<Sector> {
+// Sectors that are full of these bytes, each of one.
+fn blocks_of(rt: &(impl Abort + AllocGlobal), bytes: &[u8]) -> Vec<Sector> {
     let mut blocks = Vec::new(rt.alloc());
     for byte in bytes {
         blocks.push(all(*byte)).expect(rt, "memory");

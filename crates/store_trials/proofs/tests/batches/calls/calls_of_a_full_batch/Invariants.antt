@@ -1,6 +1,0 @@
--- What waits holds writes to the volumes of the store.
-use Rattle.store_trials.specs.Waiting.{Waits}
-use Rattle.store_trials.proofs.tests.batches.calls.calls_of_a_full_batch.Given as goal
-
-abbrev pub invariant-loop-number : goal.invariant-loop-number
-invariant-loop-number g l = Waits l.waiting.store l.waiting.batch

@@ -1,6 +1,0 @@
--- A read keeps the geometry.
-use Rattle.store_trials.proofs.StagedSome.{applied_geometry}
-use Rattle.store_trials.proofs.tests.is_read.Goals as goal
-
-pub returns-clause-set : goal.returns-clause-set
-returns-clause-set g c = applied_geometry c.read.ensures.reads

@@ -1,0 +1,8 @@
+//! Tests of blocks that a store makes zero: what each commit holds and costs, and what is there after crashes and device
+//! failures. They stand in a crate of their own, since a crate that has tests is proved twice.
+#![tactic(auto)]
+
+#[cfg(test)]
+mod testing;
+#[cfg(test)]
+mod tests;

@@ -15,3 +15,4 @@ pub mod Answered
 pub mod Limits
 pub mod Finished
 pub mod Opened
+pub mod ServedSets

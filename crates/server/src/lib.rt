@@ -18,6 +18,6 @@ mod waiting;
 
 pub use counts::{MOST_LINES_TOGETHER, MOST_WRITTEN_AT_ONCE};
 pub use ending::Ending;
-pub use law::law_of_serving;
+pub use law::{law_of_served_sets, law_of_serving};
 pub use on_bank::{serve_replaced, serve_set, write_last};
 pub use serving::serve_requests;

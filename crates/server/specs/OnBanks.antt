@@ -32,13 +32,13 @@ pub data TellsReplaced (honest : Type 0) (slot : ℕ) (old new : StoreView) (was
 
 -- after that requests were served, or that was the last line
 pub data ReplacesAndServes (honest : Type 0) (slot : ℕ) (old : StoreView) (was : Streams) : (new : StoreView) (is : Streams) → Result Ending Refusal → Type 0
-    where
-  then_served : {new : StoreView} {is : Streams} {result : Result Ending Refusal} (mid : StoreView) (between : Option (List ℕ))
-      → TellsReplaced honest slot old mid was.contents between (Ok tt) → HasServed honest mid new (streams was.remaining between) is result
-      → ReplacesAndServes honest slot old was new is result
-  then_stopped : {new : StoreView} {contents : Option (List ℕ)} (refusal : Refusal)
-      → TellsReplaced honest slot old new was.contents contents (Err refusal)
-      → ReplacesAndServes honest slot old was new (streams was.remaining contents) (Err refusal)
+  where
+    then_served : {new : StoreView} {is : Streams} {result : Result Ending Refusal} (mid : StoreView) (between : Option (List ℕ))
+        → TellsReplaced honest slot old mid was.contents between (Ok tt) → HasServed honest mid new (streams was.remaining between) is result
+        → ReplacesAndServes honest slot old was new is result
+    then_stopped : {new : StoreView} {contents : Option (List ℕ)} (refusal : Refusal)
+        → TellsReplaced honest slot old new was.contents contents (Err refusal)
+        → ReplacesAndServes honest slot old was new (streams was.remaining contents) (Err refusal)
 
 -- a refusal was written as the last line, or a beginning of it
 pub data TellsLast (was is : Option (List ℕ)) (refusal : Refusal) : Result Ending Refusal → Type 0 where

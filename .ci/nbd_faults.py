@@ -139,7 +139,7 @@ def two_lost(sets):
         (folder / f"dev{slot}.img").rename(folder / f"away{slot}")
     served.kill("program")
     began = time.monotonic()
-    if done_by_qemu(served.uri, "read 0 512") or time.monotonic() - began < 20 or not served.says("the set serves no more: refused 15 TwoLost"):
+    if done_by_qemu(served.uri, "read 0 512") or time.monotonic() - began < 20 or not all(map(served.says, ("refused 15 TwoLost", "the set serves no more"))):
         raise Failed(f"with two device files away a request was answered, or they were not waited for: {served.told()}")
     for slot in (0, 3):
         (folder / f"away{slot}").rename(folder / f"dev{slot}.img")
@@ -279,14 +279,13 @@ def room(sets):
 
 def small_pipes(sets):
     """The plugin serves as well where its pipes have room for less than a line, which the system may not give."""
-    plugin, sources = sets.top / "small.so", sets.top / "small"
-    shutil.copytree(TOP / "nbd", sources)
-    text = (sources / "program.c").read_text(encoding="utf-8")
+    plugin, source = sets.top / "small.so", sets.top / "small.c"
+    text = (TOP / "nbd/plugin.c").read_text(encoding="utf-8")
     small = text.replace("PIPE_BYTES = 1 << 20", "PIPE_BYTES = 4096")
     if small == text:
-        raise Failed("nbd/program.c names the size of its pipes otherwise")
-    (sources / "program.c").write_text(small, encoding="utf-8")
-    run([c_compiler(), "-O2", "-shared", "-fPIC", "-o", plugin, *sources.glob("*.c"), "-lpthread"])
+        raise Failed("nbd/plugin.c names the size of its pipes otherwise")
+    source.write_text(small, encoding="utf-8")
+    run([c_compiler(), "-O2", "-shared", "-fPIC", "-o", plugin, source, "-lpthread"])
     folder = sets.make("pipes", ("disk", SMALL_BLOCKS))
     with plugin_alone(sets, folder, sets.program, plugin) as (_, uri):
         wanted = copied_in_and_out(sets, uri)

@@ -261,7 +261,7 @@ def fio(sets):
 def lines(sets):
     """Lines of the program by themselves: what is cut short, or no line, is not done, nor what follows it, and bytes of a client are never lines."""
     block = (b"remove other\n" * 40)[:BLOCK_BYTES]
-    good, bad = b"write disk 0 1\n" + block, b"refused 20 BadLine\n"
+    good, bad, bad_count = b"write disk 0 1\n" + block, b"refused 20 BadLine\n", b"refused 7 BadCount\n"
     cases = {
         b"": (0, b""),
         good + b"read disk 0 1\n": (0, b"ok\nblocks 1\n" + block),
@@ -277,10 +277,10 @@ def lines(sets):
         b"write disk 0 99999999999\n" + block: (1, bad),
         good + b"nothing\nremove other\n": (1, b"ok\n" + bad),
         good + b"\nremove other\n": (1, b"ok\n" + bad),
-        b"write disk 0 2049\nremove other\n": (1, b"refused 7 BadCount\n"),
-        b"write disk 0 0\nremove other\n": (1, b"refused 7 BadCount\n"),
-        b"read nobody 0 2049\nremove other\n": (1, b"refused 7 BadCount\n"),
-        b"zero disk 0 65537\nremove other\n": (1, b"refused 7 BadCount\n"),
+        b"write disk 0 2049\nremove other\n": (1, bad_count),
+        b"write disk 0 0\nremove other\n": (1, bad_count),
+        b"read nobody 0 2049\nremove other\n": (1, bad_count),
+        b"zero disk 0 65537\nremove other\n": (1, bad_count),
         b"write nobody 0 1\n" + block + good: (0, b"refused 6 NoVolume\nok\n"),
         b"write disk %d 2\n" % (SMALL_BLOCKS - 1) + 2 * block + good: (0, b"refused 8 OutOfRange\nok\n"),
         b"read disk %d 2\n" % (SMALL_BLOCKS - 1) + b"zero disk %d 2\n" % (SMALL_BLOCKS - 1): (0, 2 * b"refused 8 OutOfRange\n"),
@@ -288,8 +288,9 @@ def lines(sets):
         b"together 2\n" + good + b"write disk 1 2\n" + block: (1, b"ok\n"),
         b"together 2\n" + good: (1, b"ok\n"),
         b"together 2\n" + good + b"remove other\n": (1, b"ok\n" + bad),
-        b"together 0\nremove other\n": (1, bad),
-        b"together 257\nremove other\n": (1, bad),
+        b"together 2\n" + good + b"write disk 1 2049\nremove other\n": (1, b"ok\n" + bad_count),
+        b"together 0\nremove other\n": (1, bad_count),
+        b"together 257\nremove other\n": (1, bad_count),
     }
     folder = sets.make("lines", ("disk", SMALL_BLOCKS), ("other", 20))
     for script, wanted in cases.items():

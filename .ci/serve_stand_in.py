@@ -189,7 +189,7 @@ class Serve:
         if found[0] in MOST and not 1 <= found[3] <= MOST[found[0]]:
             raise Refused(7)
         if found[0] == "together" and not 1 <= found[1] <= 256:
-            raise Refused(20)
+            raise Refused(7)
         return found
 
     def bytes_of(self, count):

@@ -15,11 +15,11 @@
 #include <poll.h>
 #include <pthread.h>
 #include <signal.h>
-#include <stdatomic.h>
 #include <stdbool.h>
 #include <stdio.h>
 #include <stdlib.h>
 #include <string.h>
+#include <sys/prctl.h>
 #include <sys/queue.h>
 #include <sys/wait.h>
 #include <time.h>
@@ -76,7 +76,7 @@ static const char *program_path = "raidtool", *set_folder, *set_id;
 /* The process, and its pipes. They change only where nobody else uses them. */
 static _Atomic pid_t process;
 static FILE *to_program, *replies;
-static atomic_bool is_ending;
+static _Atomic bool is_ending;
 static pthread_t keeper;
 
 /* A write that reads first is alone; others are not, since of two writes to one block that are under way at once either may be the last. Who waits has the
@@ -172,8 +172,6 @@ static bool take_reply(const struct line *line, int *error)
     bool is_reply = line->word == LIST ? take_volumes(line->found, text) : strcmp(text, wanted) == 0;
     return is_reply && (line->word != READ || fread(line->bytes, BLOCK_BYTES, line->count, replies) == line->count);
 }
-
-/* Lines, under the lock. */
 
 static void wake(const struct line *line)
 {
@@ -341,6 +339,8 @@ static void *keep(void *nothing)
 static int begin(void)
 {
     struct volumes found;
+    /* Else nbdkit in the foreground ends with the process that started it, and what is not written yet with it. */
+    prctl(PR_SET_PDEATHSIG, 0);
     state = start(WHEN_FREE SERVE) ? UP : LOST;
     return list(&found) == 0 ? -pthread_create(&keeper, NULL, keep, NULL) : -1;
 }

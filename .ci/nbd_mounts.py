@@ -7,6 +7,8 @@ from nbd_served import DISK_BLOCKS, LONGEST, SMALL_BLOCKS, Mounted, Raidmount, S
 from shared import ID, TOP, Failed, answered, run
 
 KILLS = 10
+# Of these kills nobody sees anything: the program is started again, and what raidmount has mounted stays.
+UNSEEN = (("program",), ("raidmount",))
 TRANSACTIONS = (3, 25)
 TOOLS = ("mkfs.ext4", "e2fsck", "dumpe2fs", "blkid", "umount")
 
@@ -214,29 +216,41 @@ class Transactions:
         return self.answered()
 
 
-def kill_in_the_middle(sets, folder, victims):
-    """Kills these processes in the middle of transactions on one volume, while a tree is copied to another. Returns how many were answered."""
+def kill_in_the_middle(sets, folder, victims, *before):
+    """Kills these processes in the middle of transactions on one volume, while a tree is copied to another, and some before. Returns how many were answered."""
     mounts = [Mounted(sets, folder), Mounted(sets, folder, **on_second(sets))]
-    processes = [mounts[1].process(name) for name in victims]
     transactions = Transactions(sets)
     copied = subprocess.Popen(["cp", "-r", TOP / "docs", sets.mountpoint], stdin=subprocess.DEVNULL, stderr=subprocess.DEVNULL)
-    transactions.await_answers(random.randint(*TRANSACTIONS))
-    time.sleep(random.uniform(0, 0.03))
-    for process in processes:
-        os.kill(process, signal.SIGKILL)
-    if victims == ("program",):
-        # It is started again, and nobody sees it.
+    for names in (before, victims) if before else (victims,):
+        transactions.await_answers(transactions.answered() + random.randint(*TRANSACTIONS))
+        processes = [mounts[1].process(name) for name in names]
+        time.sleep(random.uniform(0, 0.03))
+        for process in processes:
+            os.kill(process, signal.SIGKILL)
+    if victims in UNSEEN:
         transactions.await_answers(transactions.answered() + 5)
-        number = transactions.end(signal.SIGKILL)
-        copied.wait(LONGEST)
+    number = transactions.end(signal.SIGKILL if victims in UNSEEN else None)
+    copied.wait(LONGEST)
+    take_down(sets, folder, mounts, victims)
+    return number
+
+
+def take_down(sets, folder, mounts, victims):
+    """Ends two mounts after the kill of processes of the second one."""
+    if victims == ("raidmount",):
+        mounts[0].unmount()
+        mounts[1].end(None, -signal.SIGKILL)
+        # What it left is taken down by the next one.
+        Mounted(sets, folder).unmount()
+    elif victims == ("program",):
         for mounted in mounts:
             mounted.unmount()
-        return number
-    number = transactions.end()
-    copied.wait(LONGEST)
-    for mounted in mounts:
-        mounted.end(None, 1)
-    return number
+    else:
+        mounts[1].end(None, 1)
+        if victims == ("nbdfuse",):
+            mounts[0].unmount()
+        else:
+            mounts[0].end(None, 1)
 
 
 def check_transactions(sets, folder, number):
@@ -261,7 +275,7 @@ def kills(sets, victims):
         recovered += check_transactions(sets, folder, kill_in_the_middle(sets, folder, victims))
         shutil.rmtree(folder)
         sets.count(what)
-    if recovered != (0 if victims == ("program",) else KILLS):
+    if recovered != (0 if victims in UNSEEN else KILLS):
         raise Failed(f"{what}: {recovered} of {KILLS} times the journal of the file system had anything to be replayed")
 
 
@@ -278,6 +292,16 @@ def kills_of_nbdkit(sets):
 @mounting
 def kills_of_both(sets):
     kills(sets, tuple(random.sample(("program", "nbdkit"), 2)))
+
+
+@mounting
+def kills_of_nbdfuse(sets):
+    kills(sets, ("nbdfuse",))
+
+
+@mounting
+def kills_of_raidmount(sets):
+    kills(sets, ("raidmount",))
 
 
 @mounting
@@ -365,4 +389,6 @@ MOUNTS = {
     kills_of_the_program: TOOLS,
     kills_of_nbdkit: TOOLS,
     kills_of_both: TOOLS,
+    kills_of_nbdfuse: TOOLS,
+    kills_of_raidmount: TOOLS,
 }

@@ -180,7 +180,9 @@ class Raidmount:
             raise Failed(f"raidmount had to be refused with {text!r}, and ended with {self.ran.returncode}: {self.told()}")
 
     def process(self, name):
-        """The process of nbdkit or of the program, which are the set's, or of nbdfuse or a second nbdkit, which are this raidmount's own."""
+        """The process of nbdkit or of the program, which are the set's, or of nbdfuse or a second nbdkit, which are this raidmount's own, or this itself."""
+        if name == "raidmount":
+            return self.ran.pid
         shared = {"nbdkit": [f"folder={self.folder}"], "program": [self.sets.program, "serve", self.folder]}
         own = {"nbdfuse": ["nbdfuse"], "front": ["dynamic-export=true"]}
         found = [it for it in processes(*{**shared, **own}[name]) if name in shared or parent_of(it) == self.ran.pid]

@@ -1,6 +1,6 @@
 #!/usr/bin/env python3
 """serve_stand_in.py: stands in for the program where the bridge of block devices is tried, and the program can't be. It speaks the lines of `raidtool serve`
-and has the few commands that `.ci/nbd` asks for, over files in which each member has a copy of all blocks. It is no set: a power cut takes what it will.
+and has the few commands that `.ci/nbd` asks for, over files in which each member has a copy of all blocks, synced before a reply.
 
 Variables of the environment: FAULT names what it does wrongly, from the line of FAULT_AT on (1) that reads, writes or zeroes, and where FAULT_ONCE names a file
 only while that is not there, which is then made; SERVED_LINES names a file to which each line is added; SYNC_MILLISECONDS is what a commit waits.
@@ -74,11 +74,18 @@ class Set:
         text = json.dumps(self.table).encode().ljust(HEADER, b"\0")
         for slot in self.live():
             self.put(slot, text, 0)
+            self.sync(slot)
 
     def put(self, slot, sectors, at):
         try:
             if os.pwrite(self.files[slot], sectors, at) != len(sectors):
                 raise OSError
+        except OSError:
+            self.lose(slot)
+
+    def sync(self, slot):
+        try:
+            os.fdatasync(self.files[slot])
         except OSError:
             self.lose(slot)
 
@@ -92,7 +99,13 @@ class Set:
         return HEADER + (start + at) * BLOCK
 
     def read(self, name, at, count):
-        return os.pread(self.files[self.live()[0]], count * BLOCK, self.start(name, at, count))
+        place = self.start(name, at, count)
+        while True:
+            slot = self.live()[0]
+            try:
+                return os.pread(self.files[slot], count * BLOCK, place)
+            except OSError:
+                self.lose(slot)
 
     def commit(self, writes):
         """Writes what waits, each to all members, 32 blocks at a time, and a sector to the journals."""
@@ -105,7 +118,7 @@ class Set:
         for slot in self.live():
             if slot >= MEMBERS:
                 self.put(slot, sectors[:BLOCK], HEADER + self.commits % 4096 * BLOCK)
-            os.fdatasync(self.files[slot])
+            self.sync(slot)
         time.sleep(float(os.environ.get("SYNC_MILLISECONDS", 0)) / 1000)
 
     def change(self, word, name, *more):

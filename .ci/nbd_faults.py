@@ -286,10 +286,13 @@ def small_pipes(sets):
         raise Failed("nbd/plugin.c names the size of its pipes otherwise")
     source.write_text(small, encoding="utf-8")
     run([c_compiler(), "-O2", "-shared", "-fPIC", "-o", plugin, source, "-lpthread"])
-    folder = sets.make("pipes", ("disk", SMALL_BLOCKS))
+    folder = sets.make("pipes", ("disk", SMALL_BLOCKS), ("other", SMALL_BLOCKS))
     with plugin_alone(sets, folder, sets.program, plugin) as (_, uri):
+        # Another volume is read meanwhile, by large requests.
+        beside = [subprocess.Popen(["nbdcopy", uri.replace("disk", "other", 1), "null:"], stdin=subprocess.DEVNULL) for _ in range(4)]
         wanted = copied_in_and_out(sets, uri)
-    if sets.image(folder) != wanted:
+        fails = any([ran.wait(LONGEST) for ran in beside])
+    if fails or sets.image(folder) != wanted:
         raise Failed("through small pipes the program was given other blocks")
     sets.count("small pipes")
 

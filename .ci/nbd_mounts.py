@@ -6,7 +6,7 @@ from nbd_requests import asked_by_qemu
 from nbd_served import DISK_BLOCKS, LONGEST, SMALL_BLOCKS, Mounted, Raidmount, Served, until
 from shared import ID, TOP, Failed, answered, run
 
-KILLS = 10
+KILLS, FEWER_KILLS = 10, 3
 # Of these kills nobody sees anything: the program is started again, and what raidmount has mounted stays.
 UNSEEN = (("program",), ("raidmount",))
 TRANSACTIONS = (3, 25)
@@ -267,16 +267,16 @@ def check_transactions(sets, folder, number):
     return needs_recovery
 
 
-def kills(sets, victims):
+def kills(sets, victims, many=KILLS):
     what = f"a kill of {' and '.join(victims)}"
     recovered = 0
-    for k in range(KILLS):
+    for k in range(many):
         folder = sets.copy(with_file_system(sets), f"kill-{k}")
         recovered += check_transactions(sets, folder, kill_in_the_middle(sets, folder, victims))
         shutil.rmtree(folder)
         sets.count(what)
-    if recovered != (0 if victims in UNSEEN else KILLS):
-        raise Failed(f"{what}: {recovered} of {KILLS} times the journal of the file system had anything to be replayed")
+    if recovered != (0 if victims in UNSEEN else many):
+        raise Failed(f"{what}: {recovered} of {many} times the journal of the file system had anything to be replayed")
 
 
 @mounting
@@ -296,12 +296,12 @@ def kills_of_both(sets):
 
 @mounting
 def kills_of_nbdfuse(sets):
-    kills(sets, ("nbdfuse",))
+    kills(sets, ("nbdfuse",), FEWER_KILLS)
 
 
 @mounting
 def kills_of_raidmount(sets):
-    kills(sets, ("raidmount",))
+    kills(sets, ("raidmount",), FEWER_KILLS)
 
 
 @mounting

@@ -216,11 +216,11 @@ static void recover(void)
     refuse_if_lost();
 }
 
-/* Takes the reply to the line that was sent first. Where that is the only one it is looked for before the thread sleeps: on a free processor that is quicker
- * than to be woken. */
+/* Takes the reply to the line that was sent first. Where that is the only one, and a read, it is looked for before the thread sleeps: on a free processor that
+ * is quicker than to be woken. */
 static void await_reply(struct line *line)
 {
-    int error = 0, looks = many.lines == 1 ? LOOKS : 0;
+    int error = 0, looks = many.lines == 1 && line->word == READ ? LOOKS : 0;
     pthread_mutex_unlock(&lock);
     while (looks > 0 && poll(&(struct pollfd){fileno(replies), POLLIN, 0}, 1, 0) == 0)
         looks--;
@@ -342,7 +342,7 @@ static int begin(void)
     /* Else nbdkit in the foreground ends with the process that started it, and what is not written yet with it. */
     prctl(PR_SET_PDEATHSIG, 0);
     state = start(WHEN_FREE SERVE) ? UP : LOST;
-    return list(&found) == 0 ? -pthread_create(&keeper, NULL, keep, NULL) : -1;
+    return list(&found) == 0 && pthread_create(&keeper, NULL, keep, NULL) == 0 ? 0 : -1;
 }
 
 static void end(void)

@@ -241,7 +241,7 @@ def dying_programs(sets):
 def together(sets):
     """Writes that wait go together, and a read passes them; a list of lines is what the program was given, so this asks the one that stands in."""
     folder, log = stand_in(sets, "together"), sets.top / "lines"
-    with plugin_alone(sets, folder, STAND_IN, SERVED_LINES=str(log), SYNC_MILLISECONDS="100") as (_, uri):
+    with plugin_alone(sets, folder, STAND_IN, SERVED_LINES=str(log), SYNC_MILLISECONDS="1000") as (_, uri):
         with contextlib.ExitStack() as stack:
             clients = [stack.enter_context(ByHand(sets.top / "alone.sock")) for _ in range(20)]
             clients[0].send(WRITE, 0, 512, sent=bytes(512))

@@ -21,9 +21,12 @@ def refusals(sets):
     for line in ((), ("disk",), ("--attach",), ("--serve", "disk"), ("--serve", "--mkfs"), ("--serve", "--id", "1"), ("--serve", "--tls", "on")):
         if answered([sets.raidmount, folder, *line], timeout=LONGEST)[0] != 2:
             raise Failed(f"the words {line} are not refused")
+    (sets.top / "strange").mkdir()
     run([sets.program, "make", sets.top / "strange", "--id", 32 * "5", *shape(3, 128, 66)])
-    shutil.copyfile(sets.top / "strange/dev0.img", folder / "dev9.img")
+    (folder / "dev1.img").rename(sets.top / "away.img")
+    shutil.copyfile(sets.top / "strange/dev1.img", folder / "dev1.img")
     refused(f"several sets: {ID} {32 * '5'}: say which by --id", folder, "--serve")
+    (sets.top / "away.img").rename(folder / "dev1.img")
     served = Served(sets, folder)
     refused("is served by another program", sets.make("others", ("disk", SMALL_BLOCKS)), "--serve", "--socket", served.socket, name="second")
     refused(f"is served as the set {ID}", folder, "--serve", "--id", 32 * "e", name="second")
@@ -193,6 +196,7 @@ def plugin_alone(sets, folder, program, plugin=None, **variables):
 def stand_in(sets, name):
     """A set of the program that stands in, which can be told to do wrong."""
     folder = sets.top / name
+    folder.mkdir()
     run([STAND_IN, "make", folder, "--id", ID, "--stripes", "66", "--chunk", "128"])
     run([STAND_IN, "serve", folder, "--id", ID], f"create disk {SMALL_BLOCKS}\n")
     return folder

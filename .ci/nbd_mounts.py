@@ -65,7 +65,7 @@ def with_file_system(sets):
     """A set with a file system on each of its two volumes, which are made once, in the same time."""
     folder = sets.top / "formatted"
     if not folder.exists():
-        sets.make("formatted", ("disk", DISK_BLOCKS), ("base", DISK_BLOCKS), stripes=140)
+        sets.make("formatted", ("disk", DISK_BLOCKS), ("base", DISK_BLOCKS), size="20M")
         first, second = (Mounted(sets, folder, "--mkfs", waits=False, **it) for it in ({}, on_second(sets)))
         for mounted in (first, second):
             mounted.await_start()

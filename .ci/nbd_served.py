@@ -65,11 +65,11 @@ class Sets:
             place.mkdir()
         self.cases, self.served, self.places = 0, [], set()
 
-    def make(self, name, *volumes, stripes=66):
-        """A set with these volumes."""
+    def make(self, name, *volumes, size=None):
+        """A set with these volumes, where a size is given of format 2."""
         folder = self.place_of(name)
         folder.mkdir()
-        run([self.program, *words("make", folder, *shape(3, 128, stripes))])
+        run([self.program, *words("make", folder, *(["--members", "3", "--size", size] if size else shape(3, 128, 66)))])
         script = "".join(f"create {volume} {blocks}\n" for volume, blocks in volumes)
         self.script(folder, script, b"ok\n" * len(volumes))
         return folder

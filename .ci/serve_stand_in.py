@@ -323,7 +323,6 @@ class Serve:
 
 
 def make(words):
-    os.makedirs(words.folder, exist_ok=True)
     blocks = (words.stripes or 2080) * (words.chunk or 8) * (MEMBERS - 1)
     table = {"id": words.id, "generation": 1, "slots": ["in-sync"] * SLOTS, "volumes": {}, "blocks": blocks}
     for slot in range(SLOTS):

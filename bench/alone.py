@@ -2,7 +2,7 @@
 
 A library (.ci/unsynced.c) records the calls of a run; replay.c makes them again, and writes the bytes of blocks that are read to standard output, which is a
 pipe to `cat` for both. Each time is that of a whole process, from its start to its end; of some runs in turn the best counts."""
-import os, random, struct, subprocess, sys, time
+import os, random, shutil, struct, subprocess, sys, time
 
 sys.path.insert(0, f"{os.path.dirname(os.path.realpath(__file__))}/../.ci")
 from shared import TOP, Failed, c_compiler, run, words
@@ -20,12 +20,14 @@ def build(source, to, *how):
 class Alone:
     """The program over a set with the volume `disk`."""
 
-    def __init__(self, top, program, folder, blocks):
-        self.top, self.program, self.folder, self.blocks = top, program, folder, blocks
+    def __init__(self, top, program, folder):
+        self.top = top
         self.replayer = build(TOP / "bench/replay.c", f"{top}/replay")
         self.recorder = build(TOP / ".ci/unsynced.c", f"{top}/calls.so", "-shared", "-fPIC", "-ldl")
         self.syncs = build(TOP / ".ci/syncs.c", f"{top}/alone-syncs.so", "-shared", "-fPIC", "-ldl")
         self.serve = [program, *words("serve", folder)]
+        # What the loop writes is no set.
+        self.copy = shutil.copytree(folder, f"{top}/copy")
 
     def timed(self, line, script, wait=0):
         """The seconds of a process whose output `cat` reads, and its syncs."""
@@ -62,7 +64,7 @@ class Alone:
             for number, call in enumerate(self.recorded(script)):
                 kind = "P" if are_shown and number >= start and call.kind == "R" else call.kind
                 file.write(CALL.pack(ord(kind), call.slot, call.at, call.bytes))
-        return [self.replayer, self.folder, path]
+        return [self.replayer, self.copy, path]
 
     def beside(self, what, script, count, runs, wait=0, are_shown=False):
         """Prints the times of a script of so many lines beside those of the loop. Returns the seconds and the syncs of a line."""
@@ -81,7 +83,7 @@ def write(at, count):
 
 
 def time_alone(top, program, folder, blocks, runs, waits):
-    alone = Alone(top, program, folder, blocks)
+    alone = Alone(top, program, folder)
     places = random.sample(range(0, blocks, 8), 512)
     ones = alone.script("ones", [write(at, 8) for at in places[:64]])
     groups = alone.script("groups", [part for k in range(0, 512, 16) for part in (b"together 16\n", *(write(at, 8) for at in places[k : k + 16]))])

@@ -83,9 +83,10 @@ def ends_of_the_program(sets):
     """A program that is killed is started again, at most once in ten seconds, and what was asked is answered then, also what was under way."""
     folder = sets.make("ends", ("disk", SMALL_BLOCKS))
     served = Served(sets, folder)
-    for number, least in ((signal.SIGKILL, 0), (signal.SIGTERM, 9)):
+    began = time.monotonic()
+    for number, least in ((signal.SIGKILL, 0), (signal.SIGTERM, 10)):
         ran = subprocess.Popen(["nbdcopy", served.uri, "null:"], stdin=subprocess.DEVNULL)
-        program, began = served.kill("program", number), time.monotonic()
+        program = served.kill("program", number)
         asked_by_qemu(served.uri, f"write -P {number} 0 64k", f"read -P {number} 0 64k", "write -z 0 512", "read -P 0 0 512")
         if not served.says(f"was ended by signal {number}, and is started again") or served.process("program") == program:
             raise Failed(f"the log lacks the signal: {served.told()}")

@@ -373,7 +373,7 @@ def a_failing_file(sets):
 @mounting
 def tutorial(sets):
     """The commands of the page that mount print what stands after them there."""
-    if "stand-in" in run([sets.program, "--version"]):
+    if answered([sets.program, "--version"])[1].strip() == "stand-in":
         return "the program is only one that stands in"
     run([TOP / ".ci/tutorial", "--root", sets.program])
     sets.count("the tutorial")

@@ -33,7 +33,7 @@ enum { ROOM_BLOCKS = (16 << 20) / BLOCK_BYTES, ROOM_LINES = 256 };
 /* So many lines without blocks are given at once: less than a page, which fits into any pipe. */
 enum { SHORT_LINES = 32, PIPE_BYTES = 1 << 20, BUFFER_BYTES = 1 << 14 };
 /* So often the program is started again without a reply in between, with so many seconds between two starts; and so often it is looked for a reply. */
-enum { STARTS = 3, SECONDS_BETWEEN_STARTS = 10, LOOKS = 50, MEMORY = 14 };
+enum { STARTS = 3, SECONDS_BETWEEN_STARTS = 10, LOOKS = 50, LOOKS_LEFT_OUT = 15, MEMORY = 14 };
 
 struct volumes {
     unsigned many;
@@ -143,7 +143,6 @@ static bool start_again(void)
     return !is_ending && start(WHEN_THERE SERVE);
 }
 
-/* Takes the lines of volumes after their number. */
 static bool take_volumes(struct volumes *found, char *text)
 {
     unsigned count = 0;
@@ -181,10 +180,9 @@ static void wake(const struct line *line)
 
 static void end_line(struct lines *from, struct line *line, int error)
 {
-    struct line *last = line->last;
     TAILQ_REMOVE(from, line, entry);
-    last->left--;
-    last->error = last->error != 0 ? last->error : error;
+    line->last->left--;
+    line->last->error = line->last->error != 0 ? line->last->error : error;
 }
 
 static void refuse_if_lost(void)
@@ -216,14 +214,15 @@ static void recover(void)
     refuse_if_lost();
 }
 
-/* Takes the reply to the line that was sent first. Where that is the only one, and a read, it is looked for before the thread sleeps: on a free processor that
- * is quicker than to be woken. */
+/* Takes the reply to the line that was sent first. Where that is the only one, and a read, it is looked for before the thread sleeps, which on a free processor
+ * is quicker than to be woken; after looks in vain some are left out. */
 static void await_reply(struct line *line)
 {
-    int error = 0, looks = many.lines == 1 && line->word == READ ? LOOKS : 0;
+    static unsigned left_out;
+    int error = 0, looks = many.lines > 1 || line->word != READ || (left_out > 0 && left_out--) ? 0 : LOOKS;
     pthread_mutex_unlock(&lock);
     while (looks > 0 && poll(&(struct pollfd){fileno(replies), POLLIN, 0}, 1, 0) == 0)
-        looks--;
+        left_out = --looks > 0 ? 0 : LOOKS_LEFT_OUT;
     bool is_taken = take_reply(line, &error);
     pthread_mutex_lock(&lock);
     if (!is_taken) {

@@ -1,9 +1,10 @@
-/* Counts the syncs of a program. .ci/large builds this library and has it loaded before the
-   system's (LD_PRELOAD), with what is to happen in variables:
+/* Counts the syncs of a program, and makes them slower. .ci/large and bench/nbd build this library
+   and have it loaded before the system's (LD_PRELOAD), with what is to happen in variables:
 
    SYNCS_LOG    a file that gets a byte for each call of fsync and fdatasync, once it was made.
    SYNCS_STOP   a number: the process is killed right after the call with this number, counted
-                from 1. */
+                from 1.
+   SYNCS_WAIT   microseconds that each of these calls takes more. */
 #define _GNU_SOURCE
 #include <dlfcn.h>
 #include <fcntl.h>
@@ -12,11 +13,12 @@
 #include <sys/syscall.h>
 #include <unistd.h>
 
-static long made, stop;
+static long made, stop, wait;
 static int out = -1;
 
 __attribute__((constructor)) static void begin(void) {
-    const char *log = getenv("SYNCS_LOG"), *at = getenv("SYNCS_STOP");
+    const char *log = getenv("SYNCS_LOG"), *at = getenv("SYNCS_STOP"), *more = getenv("SYNCS_WAIT");
+    if (more) wait = atol(more);
     if (!log) return;
     /* A number that no file of the program gets. */
     int low = (int)syscall(SYS_openat, AT_FDCWD, log, O_WRONLY | O_CREAT | O_APPEND, 0600);
@@ -27,6 +29,7 @@ __attribute__((constructor)) static void begin(void) {
 }
 
 static int counted(int status) {
+    if (wait) usleep(wait);
     if (out >= 0 && syscall(SYS_write, out, "s", 1) != 1) abort();
     if (out >= 0 && ++made == stop) kill(getpid(), SIGKILL);
     return status;

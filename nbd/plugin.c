@@ -1,785 +1,497 @@
-/* A plugin of nbdkit that serves a volume of a set as a block device.
+/* A plugin of nbdkit that serves a set: each of its volumes is an export, a block device for any number of clients.
  *
- * It starts `raidtool run FOLDER --id H` beside nbdkit and speaks with it as docs/FORMATS.md says: a read or a write is a line of at most 32 blocks, and each
- * line has its reply. Only that program touches the set. A reply is durable, so a flush has nothing to do. After a refusal that ends the program, or its end,
- * every request is answered EIO, and the log has the reason.
+ * Beside nbdkit runs `raidtool serve FOLDER --id H`, and only that program touches the set. Lines go into its one pipe, and replies come out of the other in
+ * the order of lines, as docs/FORMATS.md says. A reply is durable, so a flush has nothing to do. Where the program is killed it is started again.
  *
- * Several threads of nbdkit ask at once. Each puts its line into the pipe; one of those that wait reads the replies of all, which come in the order of lines.
+ * No thread stands between. Each takes the replies to its own lines, in its turn; and one that has none under way gives what may be sent, also for others. So
+ * who waits with a full pipe owes the program no large reply. A write that comes while others have no reply yet waits, and those that wait go together.
  */
 #define _GNU_SOURCE
 #define NBDKIT_API_VERSION 2
 #include <nbdkit-plugin.h>
 
-#include <errno.h>
 #include <fcntl.h>
 #include <inttypes.h>
 #include <poll.h>
 #include <pthread.h>
 #include <signal.h>
-#include <spawn.h>
 #include <stdbool.h>
 #include <stdio.h>
 #include <stdlib.h>
 #include <string.h>
-#include <sys/eventfd.h>
-#include <sys/mman.h>
 #include <sys/prctl.h>
+#include <sys/queue.h>
 #include <sys/wait.h>
 #include <time.h>
 #include <unistd.h>
 
 #define THREAD_MODEL NBDKIT_THREAD_MODEL_PARALLEL
 
-extern char **environ;
+enum { BLOCK_BYTES = 512, PREFERRED_BYTES = 4096, MOST_BYTES = 1 << 20, MOST_VOLUMES = 64, LINE_BYTES = 112 };
+/* So much at most has no reply yet. A plugin that is killed leaves no more for the program to do before it lets the set go. */
+enum { ROOM_BLOCKS = (16 << 20) / BLOCK_BYTES, ROOM_LINES = 256 };
+/* So many lines without blocks are given at once: less than a page, which fits into any pipe. */
+enum { SHORT_LINES = 32, PIPE_BYTES = 1 << 20, BUFFER_BYTES = 1 << 14 };
+/* So often the program is started again without a reply in between, with so many seconds between two starts; and so often it is looked for a reply. */
+enum { STARTS = 3, SECONDS_BETWEEN_STARTS = 10, LOOKS = 50, LOOKS_LEFT_OUT = 15, MEMORY = 14 };
 
-enum {
-    BLOCK_BYTES = 512,
-    DIGITS = 2 * BLOCK_BYTES,
-    MOST_BLOCKS = 32,
-    /* So many lines at most have no reply yet. A plugin that is killed leaves no more for the program to do before it lets the set go. */
-    MOST_LINES = 16,
-    /* `write`, a name, a number, and the blocks, each after a space. */
-    LINE_BYTES = 64 + MOST_BLOCKS * (1 + DIGITS),
-    PIPE_BYTES = 1 << 20,
-    TEXT_BYTES = 1 << 16,
-    MOST_NAME = 63,
-    REASON_BYTES = 1024,
-    MEMORY_REFUSED = 14,
-    STEP_MILLISECONDS = 5,
-    STEPS_TO_END = 10 * 1000 / STEP_MILLISECONDS,
-    STEPS_TO_TELL = 1000 / STEP_MILLISECONDS,
-    /* So often a set that is in use is tried again, and so long between two times. */
-    TRIES = 16,
-    STEPS_BETWEEN = 300 / STEP_MILLISECONDS,
-    MOST_REQUEST = 32 << 20,
+struct volumes {
+    unsigned many;
+    struct volume {
+        char name[64];
+        uint64_t blocks;
+    } all[MOST_VOLUMES];
 };
 
-/* What a client asked for: how many of its lines have no reply yet, and the first error among them. Its thread waits for these, or for room for a line. */
-struct request {
-    unsigned lines;
-    int error;
-    bool wants_room;
-    pthread_cond_t changed;
-    struct request *next;
-};
-
-/* A line without its whole reply. Blocks that are read go to `into`; a write awaits none. */
+/* What is asked for: blocks of a volume, which `bytes` hold or take, or all volumes. Lines of one request are of one word. */
 struct line {
-    struct request *request;
-    unsigned char *into;
-    unsigned blocks;
+    enum word { READ, WRITE, ZERO, LIST } word;
+    const char *volume;
+    uint64_t at;
+    unsigned count;
+    char *bytes;
+    struct volumes *found;
+    TAILQ_ENTRY(line) entry;
+    /* The last line of the request, which has its first error, how many of its lines are to be done and are under way, and what wakes its thread. */
+    struct line *last;
+    unsigned left, under_way;
+    int error;
+    pthread_cond_t woken;
 };
 
-/* The words of the command line. */
-static char *folder, *volume, *set_id, *program_path;
-static int outlives;
+static const char *const forms[] = {
+    [READ] = "read %s %" PRIu64 " %u\n", [WRITE] = "write %s %" PRIu64 " %u\n", [ZERO] = "zero %s %" PRIu64 " %u\n", [LIST] = "list\n"};
+/* The most blocks of a line, and the most lines of a request, which has 64 MiB and a block at most. A large read is several, so that the program reads while
+ * what it read goes on. */
+static const unsigned most[] = {[READ] = 256, [WRITE] = 2048, [ZERO] = 32768};
+enum { MOST_LINES = (64 << 20) / (256 * BLOCK_BYTES) + 1 };
 
-static uint64_t volume_bytes;
+#define SERVE "exec \"$0\" serve \"$1\" --id \"$2\""
+/* A program whose plugin was killed has the set until its last lines are done, which is waited for. */
+#define WHEN_FREE "n=0; while \"$0\" status \"$1\" --id \"$2\" 2>&1 | grep -q '^in use ' && [ $((n += 1)) -lt 16 ]; do sleep 0.3; done; "
+/* Each device is waited for that the set counts on, for half a minute at most, by a look at the files: a start marks what is absent as missing. */
+#define WHEN_THERE "n=0; until \"$0\" examine \"$1\" --id \"$2\" 2>&1 | grep -q '^would assemble: ' || [ $((n += 1)) -gt 90 ]; do sleep 0.3; done; "
 
-/* The program, with the ends of its pipes and the file for its standard error. */
-static struct {
-    pid_t process;
-    int lines, replies, told;
-} program = {-1, -1, -1, -1};
+static const char *program_path = "raidtool", *set_folder, *set_id;
+/* The process, and its pipes. They change only where nobody else uses them. */
+static _Atomic pid_t process;
+static FILE *to_program, *replies;
+static _Atomic bool is_ending;
+static pthread_t keeper;
 
-/* Whoever adds what can't be sent yet wakes the thread that reads replies. */
-static int wake = -1;
+/* A write that reads first is alone; others are not, since of two writes to one block that are under way at once either may be the last. Who waits has the
+ * turn, so that nobody waits for ever. */
+static pthread_mutex_t turn = PTHREAD_MUTEX_INITIALIZER;
+static pthread_rwlock_t writes = PTHREAD_RWLOCK_INITIALIZER;
 
 /* All that follows is under the lock. */
 static pthread_mutex_t lock = PTHREAD_MUTEX_INITIALIZER;
-static bool is_reading, is_lost;
-/* The requests whose threads wait while another one reads. */
-static struct request *waiting;
-static struct line sent[MOST_LINES];
-static unsigned first_line, many_lines;
-static char unsent[MOST_LINES * LINE_BYTES];
-static size_t unsent_bytes;
-static char text[TEXT_BYTES];
-static size_t text_bytes;
+static pthread_cond_t is_given = PTHREAD_COND_INITIALIZER;
+static enum { DOWN, UP, LOST } state;
+static TAILQ_HEAD(lines, line) waiting = TAILQ_HEAD_INITIALIZER(waiting), sent = TAILQ_HEAD_INITIALIZER(sent);
+/* The first of the lines that are given just now, if any are; and how many lines are sent, of which so many are writes, and their blocks. */
+static struct line *giving;
+static struct { unsigned lines, writes, blocks; } many;
+static unsigned starts;
 
-static void unload(void)
+/* A pipe's end, of which the other one was given away. A smaller pipe serves as well. */
+static FILE *opened(int end, int given, const char *mode)
 {
-    free(folder);
-    free(volume);
-    free(set_id);
-    free(program_path);
+    close(given);
+    (void)fcntl(end, F_SETPIPE_SZ, PIPE_BYTES);
+    FILE *file = fdopen(end, mode);
+    return file == NULL || setvbuf(file, NULL, _IOFBF, BUFFER_BYTES) != 0 ? NULL : file;
 }
 
-/* Texts of blocks. */
-
-static bool is_even(const unsigned char *block)
-{
-    return memcmp(block, block + 1, BLOCK_BYTES - 1) == 0;
-}
-
-/* The digit of a value up to 15. No table and no branch, so that the compiler makes many at once. */
-static unsigned char digit_of(unsigned char value)
-{
-    return value + '0' + (value > 9) * ('a' - '0' - 10);
-}
-
-static char *put_digits(char *to, const unsigned char *bytes, size_t many)
-{
-    for (size_t at = 0; at < many; at++) {
-        to[2 * at] = digit_of(bytes[at] >> 4);
-        to[2 * at + 1] = digit_of(bytes[at] & 15);
-    }
-    return to + 2 * many;
-}
-
-/* Writes a block after a space. */
-static char *put_block(char *to, const unsigned char *block)
-{
-    *to++ = ' ';
-    if (!is_even(block))
-        return put_digits(to, block, BLOCK_BYTES);
-    to = put_digits(to, block, 1);
-    memcpy(to, "*512", 4);
-    return to + 4;
-}
-
-/* Reads bytes from their digits, or says that one is none: another one has their values. */
-static bool take_digits(unsigned char *to, const char *digits, size_t many)
-{
-    unsigned char values[DIGITS], wrong = 0;
-    for (size_t at = 0; at < 2 * many; at++) {
-        unsigned char digit = digits[at];
-        values[at] = ((digit & 15) + 9 * (digit >> 6)) & 15;
-        wrong |= digit ^ digit_of(values[at]);
-    }
-    for (size_t at = 0; at < many; at++)
-        to[at] = values[2 * at] << 4 | values[2 * at + 1];
-    return wrong == 0;
-}
-
-/* Reads a block's text, or says that it is none. */
-static bool take_block(unsigned char *to, const char *line, size_t bytes)
-{
-    if (bytes == DIGITS)
-        return take_digits(to, line, BLOCK_BYTES);
-    unsigned char byte;
-    if (bytes != 6 || memcmp(line + 2, "*512", 4) != 0 || !take_digits(&byte, line, 1))
-        return false;
-    memset(to, byte, BLOCK_BYTES);
-    return true;
-}
-
-/* The program. */
-
-static void sleep_steps(int many)
-{
-    nanosleep(&(struct timespec){.tv_nsec = many * STEP_MILLISECONDS * 1000000L}, NULL);
-}
-
-static void let_go(int *file)
-{
-    if (*file != -1)
-        close(*file);
-    *file = -1;
-}
-
-/* Whether the program has ended, within so many steps, and then how. */
-static bool has_ended(int steps, int *status)
-{
-    for (int step = 0; program.process != -1 && step < steps; step++) {
-        if (step > 0)
-            sleep_steps(1);
-        if (waitpid(program.process, status, WNOHANG) == program.process)
-            program.process = -1;
-    }
-    return program.process == -1;
-}
-
-/* Ends the program. What it was asked it does, since its script is at an end then, but for one that doesn't end. */
-static void stop(void)
-{
-    int status;
-    let_go(&program.lines);
-    let_go(&program.replies);
-    if (!has_ended(STEPS_TO_END, &status)) {
-        kill(program.process, SIGKILL);
-        while (waitpid(program.process, &status, 0) == -1 && errno == EINTR) {
-        }
-        program.process = -1;
-    }
-    let_go(&program.told);
-}
-
-/* Why the program has ended: what it told on standard error, or how it ended. */
-static void put_reason(char *reason)
-{
-    int status = 0;
-    bool is_over = has_ended(STEPS_TO_TELL, &status);
-    ssize_t got = pread(program.told, reason, REASON_BYTES - 1, 0);
-    while (got > 0 && reason[got - 1] == '\n')
-        got--;
-    reason[got > 0 ? got : 0] = 0;
-    if (got > 0)
-        return;
-    if (!is_over)
-        snprintf(reason, REASON_BYTES, "%s answers no more", program_path);
-    else if (WIFSIGNALED(status))
-        snprintf(reason, REASON_BYTES, "%s was ended by signal %d", program_path, WTERMSIG(status));
-    else
-        snprintf(reason, REASON_BYTES, "%s ended with status %d", program_path, WEXITSTATUS(status));
-}
-
-/* Starts the process over these files: in a session of its own, so that no signal of the terminal ends it before nbdkit, and none
-   of the system where nbdkit ends while it is stopped. */
-static int spawn(int input, int output, int errors)
-{
-    char *words[] = {program_path, "run", folder, "--id", set_id, NULL};
-    posix_spawn_file_actions_t files;
-    posix_spawnattr_t how;
-    sigset_t none, all;
-    sigemptyset(&none);
-    sigfillset(&all);
-    if (posix_spawn_file_actions_init(&files) != 0)
-        return ENOMEM;
-    if (posix_spawnattr_init(&how) != 0) {
-        posix_spawn_file_actions_destroy(&files);
-        return ENOMEM;
-    }
-    int fault = posix_spawn_file_actions_adddup2(&files, input, 0);
-    fault = fault ? fault : posix_spawn_file_actions_adddup2(&files, output, 1);
-    fault = fault ? fault : posix_spawn_file_actions_adddup2(&files, errors, 2);
-    posix_spawnattr_setflags(&how, POSIX_SPAWN_SETSIGMASK | POSIX_SPAWN_SETSIGDEF | POSIX_SPAWN_SETSID);
-    posix_spawnattr_setsigmask(&how, &none);
-    posix_spawnattr_setsigdefault(&how, &all);
-    fault = fault ? fault : posix_spawnp(&program.process, program_path, &files, &how, words, environ);
-    program.process = fault ? -1 : program.process;
-    posix_spawnattr_destroy(&how);
-    posix_spawn_file_actions_destroy(&files);
-    return fault;
-}
-
-/* Starts the program with its pipes. Both are asked without blocking: else both could be full, and each side wait for the other. */
-static int begin(void)
+/* Starts the program between two pipes: in a session of its own, so that no signal of the terminal ends it before nbdkit. */
+static bool start(const char *command)
 {
     int input[2] = {-1, -1}, output[2] = {-1, -1};
-    int fault = 0;
-    program.told = memfd_create("raidtool", MFD_CLOEXEC);
-    if (program.told == -1 || pipe2(input, O_CLOEXEC) == -1 || pipe2(output, O_CLOEXEC) == -1)
-        fault = errno;
-    fault = fault ? fault : spawn(input[0], output[1], program.told);
-    let_go(&input[0]);
-    let_go(&output[1]);
-    program.lines = input[1];
-    program.replies = output[0];
-    if (fault)
-        return fault;
-    /* Smaller pipes serve as well. */
-    (void)fcntl(program.lines, F_SETPIPE_SZ, PIPE_BYTES);
-    (void)fcntl(program.replies, F_SETPIPE_SZ, PIPE_BYTES);
-    if (fcntl(program.lines, F_SETFL, O_NONBLOCK) == -1 || fcntl(program.replies, F_SETFL, O_NONBLOCK) == -1)
-        return errno;
-    return 0;
+    process = pipe2(input, O_CLOEXEC) == 0 && pipe2(output, O_CLOEXEC) == 0 ? fork() : -1;
+    if (process == 0) {
+        setsid();
+        if (dup2(input[0], 0) != -1 && dup2(output[1], 1) != -1)
+            execl("/bin/sh", "sh", "-c", command, program_path, set_folder, set_id, NULL);
+        _exit(1);
+    }
+    if (process == -1)
+        nbdkit_error("%s can't be started: %m", program_path);
+    to_program = opened(input[1], input[0], "w");
+    replies = opened(output[0], output[1], "r");
+    return process != -1 && to_program != NULL && replies != NULL;
 }
 
-/* Waits for a reply, without the lock, and reads what is there after what was read. It says whether there is more to come. */
-static bool read_more(void)
+/* Waits for the end of the program, whose replies are at an end or none, and starts it again where it was killed. An end by itself is a fault or a refusal, and
+ * after 15 syncs may have failed. */
+static bool start_again(void)
 {
-    struct pollfd awaited = {.fd = program.replies, .events = POLLIN};
-    (void)poll(&awaited, 1, -1);
-    ssize_t got = read(program.replies, text + text_bytes, TEXT_BYTES - text_bytes);
-    text_bytes += got > 0 ? got : 0;
-    return got > 0 || (got == -1 && (errno == EAGAIN || errno == EINTR));
-}
-
-/* Looks for the volume in a line of the list. */
-static bool is_found_in(const char *line)
-{
-    size_t bytes = strlen(volume);
-    if (strncmp(line, volume, bytes) != 0 || line[bytes] != ' ')
+    static time_t next_start;
+    struct timespec now;
+    int status, is_at_end = feof(replies);
+    waitpid(process, &status, 0);
+    fclose(to_program);
+    fclose(replies);
+    if (!is_at_end || !WIFSIGNALED(status) || starts == STARTS) {
+        nbdkit_error("the set serves no more: the program %s", is_at_end ? "has ended" : "gives a reply that is none");
         return false;
-    volume_bytes = strtoull(line + bytes + 1, NULL, 10) * BLOCK_BYTES;
-    return volume_bytes > 0;
-}
-
-/* Reads the list of volumes, up to the reply to a line that is none. That reply is compared whole, since a volume may be named `refused`. */
-static bool find_volume(char *reason)
-{
-    static const char asked[] = "list\n\n", end[] = "refused 20 BadLine";
-    bool is_found = false, is_open = write(program.lines, asked, sizeof asked - 1) == sizeof asked - 1;
-    for (size_t at = 0;;) {
-        char *end_of_line = memchr(text + at, '\n', text_bytes - at);
-        if (end_of_line == NULL) {
-            is_open = is_open && text_bytes < TEXT_BYTES && read_more();
-            if (is_open)
-                continue;
-            put_reason(reason);
-            return false;
-        }
-        char *line = text + at;
-        *end_of_line = 0;
-        at = end_of_line + 1 - text;
-        if (strcmp(line, end) == 0)
-            break;
-        is_found = is_found || is_found_in(line);
-        if (strchr(line, ' ') != strrchr(line, ' ')) {
-            snprintf(reason, REASON_BYTES, "%s", line);
-            return false;
-        }
     }
-    if (!is_found)
-        snprintf(reason, REASON_BYTES, "the set has no volume %s", volume);
-    return is_found;
+    nbdkit_error("%s was ended by signal %d, and is started again", program_path, WTERMSIG(status));
+    while (clock_gettime(CLOCK_MONOTONIC, &now) == 0 && now.tv_sec <= next_start && !is_ending)
+        poll(NULL, 0, 20);
+    next_start = now.tv_sec + SECONDS_BETWEEN_STARTS;
+    starts++;
+    return !is_ending && start(WHEN_THERE SERVE);
 }
 
-/* Starts the program and finds the volume, or says why not. A program whose plugin was killed has the set until its last lines are done, which is waited for. */
-static int start(void)
+static bool take_volumes(struct volumes *found, char *text)
 {
-    char reason[REASON_BYTES];
-    for (int tries = 0; tries < TRIES; tries++) {
-        text_bytes = 0;
-        int fault = begin();
-        bool is_found = fault == 0 && find_volume(reason);
-        text_bytes = 0;
-        if (is_found)
-            return 0;
-        stop();
-        if (fault) {
-            nbdkit_error("%s can't be started: %s", program_path, strerror(fault));
-            return -1;
-        }
-        if (strncmp(reason, "in use ", 7) != 0)
-            break;
-        sleep_steps(STEPS_BETWEEN);
+    unsigned count = 0;
+    bool is_taken = sscanf(text, "volumes %u", &count) == 1 && count <= MOST_VOLUMES;
+    for (found->many = 0; is_taken && found->many < count; found->many++) {
+        struct volume *volume = &found->all[found->many];
+        is_taken = fgets(text, LINE_BYTES, replies) != NULL && sscanf(text, "%63s %" SCNu64, volume->name, &volume->blocks) == 2;
     }
-    nbdkit_error("%s", reason);
-    return -1;
+    return is_taken;
 }
 
-/* Lines and replies, under the lock. */
-
-/* From here on every request is answered EIO. */
-static void lose(const char *reason)
+/* Takes the reply to a line, if there is one. */
+static bool take_reply(const struct line *line, int *error)
 {
-    if (is_lost)
-        return;
-    is_lost = true;
-    nbdkit_error("the set serves no more: %s", reason);
-    (void)eventfd_write(wake, 1);
-    for (; many_lines > 0; many_lines--) {
-        sent[first_line].request->lines--;
-        sent[first_line].request->error = EIO;
-        first_line = (first_line + 1) % MOST_LINES;
-    }
-    unsent_bytes = 0;
-}
-
-static void lose_by_end(void)
-{
-    char reason[REASON_BYTES];
-    if (is_lost)
-        return;
-    put_reason(reason);
-    lose(reason);
-}
-
-static void end_line(int error)
-{
-    struct request *request = sent[first_line].request;
-    request->lines--;
-    request->error = request->error ? request->error : error;
-    first_line = (first_line + 1) % MOST_LINES;
-    many_lines--;
-}
-
-/* A refusal of the set ends the program; one of a line is the error of its request. */
-static void take_refusal(const char *reply)
-{
-    long number = strtol(reply + strlen("refused "), NULL, 10);
-    if (number > MEMORY_REFUSED && number != 20) {
-        lose(reply);
-        return;
-    }
-    nbdkit_error("a request was answered: %s", reply);
-    end_line(number == MEMORY_REFUSED ? ENOMEM : EIO);
-}
-
-/* A line of a reply, which ends in a zero byte. */
-static void take_reply(const char *reply, size_t bytes)
-{
-    struct line *line = &sent[first_line];
-    if (is_lost)
-        return;
-    if (many_lines == 0) {
-        lose("it answers what was not asked");
-    } else if (strncmp(reply, "refused ", 8) == 0) {
-        take_refusal(reply);
-    } else if (line->into == NULL ? strcmp(reply, "ok") != 0 : !take_block(line->into, reply, bytes)) {
-        lose("it gives a reply that is none");
-    } else if (line->into == NULL || --line->blocks == 0) {
-        end_line(0);
-    } else {
-        line->into += BLOCK_BYTES;
-    }
-}
-
-/* Takes the replies that are there, and keeps the beginning of one. */
-static void take_replies(void)
-{
-    ssize_t got = read(program.replies, text + text_bytes, TEXT_BYTES - text_bytes);
-    if (got == -1 && (errno == EAGAIN || errno == EINTR))
-        return;
-    if (got <= 0) {
-        lose_by_end();
-        return;
-    }
-    size_t at = 0;
-    text_bytes += got;
-    for (char *end; (end = memchr(text + at, '\n', text_bytes - at)) != NULL; at = end + 1 - text) {
-        *end = 0;
-        take_reply(text + at, end - text - at);
-    }
-    text_bytes -= at;
-    memmove(text, text + at, text_bytes);
-    if (text_bytes == TEXT_BYTES)
-        lose("it gives a reply that is none");
-}
-
-/* Gives the program what there is room for, and returns how much. A program that has ended takes all: that it has, the end of its replies tells. */
-static size_t give(const char *from, size_t bytes)
-{
-    size_t given = 0;
-    while (given < bytes) {
-        ssize_t wrote = write(program.lines, from + given, bytes - given);
-        if (wrote == -1 && errno == EINTR)
-            continue;
-        if (wrote == -1)
-            return errno == EAGAIN ? given : bytes;
-        given += wrote;
-    }
-    return given;
-}
-
-static void give_unsent(void)
-{
-    size_t given = give(unsent, unsent_bytes);
-    unsent_bytes -= given;
-    memmove(unsent, unsent + given, unsent_bytes);
-}
-
-/* Gives the program a line. What finds no room in the pipe is left to the thread that reads. */
-static void give_line(const char *line, size_t bytes)
-{
-    size_t given = unsent_bytes > 0 ? 0 : give(line, bytes);
-    if (given == bytes)
-        return;
-    if (bytes - given > sizeof unsent - unsent_bytes) {
-        lose("it answers what was not asked");
-        return;
-    }
-    memcpy(unsent + unsent_bytes, line + given, bytes - given);
-    unsent_bytes += bytes - given;
-    if (is_reading)
-        (void)eventfd_write(wake, 1);
-}
-
-/* Waits for replies, without the lock, and takes what is there. */
-static void read_for_all(void)
-{
-    struct pollfd awaited[] = {
-        {.fd = program.replies, .events = POLLIN},
-        {.fd = wake, .events = POLLIN},
-        {.fd = unsent_bytes > 0 ? program.lines : -1, .events = POLLOUT},
-    };
-    eventfd_t count;
-    is_reading = true;
-    pthread_mutex_unlock(&lock);
-    (void)poll(awaited, 3, -1);
-    pthread_mutex_lock(&lock);
-    is_reading = false;
-    if (awaited[1].revents)
-        (void)eventfd_read(wake, &count);
-    if (unsent_bytes > 0)
-        give_unsent();
-    take_replies();
-}
-
-static bool may_go_on(const struct request *request)
-{
-    return is_lost || (request->wants_room ? many_lines < MOST_LINES : request->lines == 0);
-}
-
-static void wake_those_that_may_go_on(void)
-{
-    for (struct request *it = waiting; it != NULL; it = it->next)
-        if (may_go_on(it))
-            pthread_cond_signal(&it->changed);
-}
-
-static void wait_while_another_reads(struct request *request)
-{
-    request->next = waiting;
-    waiting = request;
-    pthread_cond_wait(&request->changed, &lock);
-    struct request **at = &waiting;
-    while (*at != request)
-        at = &(*at)->next;
-    *at = request->next;
-}
-
-/* Waits until a request may go on. Where no other thread does, this one reads the replies of all; when it goes on, one of those that wait does. */
-static void await(struct request *request, bool wants_room)
-{
-    request->wants_room = wants_room;
-    while (!may_go_on(request)) {
-        if (is_reading) {
-            wait_while_another_reads(request);
-        } else {
-            read_for_all();
-            wake_those_that_may_go_on();
-        }
-    }
-    if (!is_reading && waiting != NULL)
-        pthread_cond_signal(&waiting->changed);
-}
-
-/* Asks for a line once there is room for one, and says whether it was asked. */
-static bool ask(struct request *request, const char *line, size_t bytes, unsigned char *into, unsigned blocks)
-{
-    pthread_mutex_lock(&lock);
-    await(request, true);
-    if (is_lost)
-        request->error = EIO;
-    bool is_asked = request->error == 0;
-    if (is_asked) {
-        sent[(first_line + many_lines++) % MOST_LINES] = (struct line){request, into, blocks};
-        request->lines++;
-        give_line(line, bytes);
-    }
-    pthread_mutex_unlock(&lock);
-    return is_asked;
-}
-
-/* Waits for the replies to all lines of a request. */
-static int end_of(struct request *request)
-{
-    pthread_mutex_lock(&lock);
-    await(request, false);
-    pthread_mutex_unlock(&lock);
-    pthread_cond_destroy(&request->changed);
-    if (request->error == 0)
-        return 0;
-    nbdkit_set_error(request->error);
-    return -1;
-}
-
-/* What nbdkit asks. */
-
-/* Whether whole blocks are asked for. `--filter=blocksize` sees to that, and nbdkit that they lie within the volume. */
-static bool is_whole(uint32_t count, uint64_t offset)
-{
-    if (count % BLOCK_BYTES == 0 && offset % BLOCK_BYTES == 0)
+    char text[LINE_BYTES], wanted[32] = "ok\n";
+    unsigned number;
+    if (line->word == READ)
+        sprintf(wanted, "blocks %u\n", line->count);
+    if (fgets(text, LINE_BYTES, replies) == NULL)
+        return false;
+    if (sscanf(text, "refused %u", &number) == 1) {
+        nbdkit_error("a request was answered: %.*s", (int)strcspn(text, "\n"), text);
+        *error = number == MEMORY ? ENOMEM : EIO;
         return true;
-    nbdkit_error("no whole blocks of %d bytes are asked for: --filter=blocksize is missing", BLOCK_BYTES);
-    nbdkit_set_error(EINVAL);
-    return false;
+    }
+    bool is_reply = line->word == LIST ? take_volumes(line->found, text) : strcmp(text, wanted) == 0;
+    return is_reply && (line->word != READ || fread(line->bytes, BLOCK_BYTES, line->count, replies) == line->count);
 }
 
-static unsigned blocks_of_line(uint32_t bytes)
+static void wake(const struct line *line)
 {
-    return bytes < MOST_BLOCKS * BLOCK_BYTES ? bytes / BLOCK_BYTES : MOST_BLOCKS;
+    if (line != NULL)
+        pthread_cond_signal(&line->last->woken);
 }
 
-static int read_blocks(void *handle, void *buffer, uint32_t count, uint64_t offset, uint32_t flags)
+static void end_line(struct lines *from, struct line *line, int error)
 {
-    struct request request = {.changed = PTHREAD_COND_INITIALIZER};
-    char line[128];
-    if (!is_whole(count, offset))
-        return -1;
-    for (uint32_t at = 0; at < count;) {
-        unsigned blocks = blocks_of_line(count - at);
-        int bytes = snprintf(line, sizeof line, "read %s %" PRIu64 " %u\n", volume, (offset + at) / BLOCK_BYTES, blocks);
-        if (!ask(&request, line, bytes, (unsigned char *)buffer + at, blocks))
+    TAILQ_REMOVE(from, line, entry);
+    line->last->left--;
+    line->last->error = line->last->error != 0 ? line->last->error : error;
+}
+
+static void refuse_if_lost(void)
+{
+    for (struct line *line; state == LOST && (line = TAILQ_FIRST(&waiting)) != NULL; wake(line))
+        end_line(&waiting, line, EIO);
+}
+
+/* After the end of replies, or one that is none: what was sent waits again, in its order and before all else, for a program that is started again, or all is
+ * lost. */
+static void recover(void)
+{
+    struct line *line;
+    state = DOWN;
+    if (!feof(replies))
+        kill(process, SIGKILL);
+    /* Who gives finds nobody at the other end. */
+    while (giving != NULL)
+        pthread_cond_wait(&is_given, &lock);
+    pthread_mutex_unlock(&lock);
+    bool is_started = start_again();
+    pthread_mutex_lock(&lock);
+    TAILQ_FOREACH(line, &sent, entry)
+        line->last->under_way = 0;
+    memset(&many, 0, sizeof many);
+    TAILQ_CONCAT(&sent, &waiting, entry);
+    TAILQ_CONCAT(&waiting, &sent, entry);
+    state = is_started ? UP : LOST;
+    refuse_if_lost();
+}
+
+/* Takes the reply to the line that was sent first. Where that is the only one, and a read, it is looked for before the thread sleeps, which on a free processor
+ * is quicker than to be woken; after looks in vain some are left out. */
+static void await_reply(struct line *line)
+{
+    static unsigned left_out;
+    int error = 0, looks = many.lines > 1 || line->word != READ || (left_out > 0 && left_out--) ? 0 : LOOKS;
+    pthread_mutex_unlock(&lock);
+    while (looks > 0 && poll(&(struct pollfd){fileno(replies), POLLIN, 0}, 1, 0) == 0)
+        left_out = --looks > 0 ? 0 : LOOKS_LEFT_OUT;
+    bool is_taken = take_reply(line, &error);
+    pthread_mutex_lock(&lock);
+    if (!is_taken) {
+        recover();
+        return;
+    }
+    /* Who gives it, and those after it, is done with their memory then. */
+    while (giving == line)
+        pthread_cond_wait(&is_given, &lock);
+    many.lines--;
+    many.writes -= line->word == WRITE;
+    many.blocks -= line->count;
+    line->last->under_way--;
+    starts = 0;
+    end_line(&sent, line, error);
+    wake(TAILQ_FIRST(&sent));
+}
+
+/* The first line that may be sent now, if there is one. */
+static struct line *first_to_send(void)
+{
+    struct line *line = state == UP && giving == NULL ? TAILQ_FIRST(&waiting) : NULL;
+    while (line != NULL && line->word == WRITE && many.writes > 0)
+        line = TAILQ_NEXT(line, entry);
+    return line != NULL && many.lines < ROOM_LINES && many.blocks + line->count <= ROOM_BLOCKS ? line : NULL;
+}
+
+/* Gives the program lines, without the lock, unless it has ended, which the end of its replies tells. */
+static void give(const struct line *line, unsigned together)
+{
+    if (together > 1)
+        fprintf(to_program, "together %u\n", together);
+    for (; line != NULL && !ferror(to_program); line = TAILQ_NEXT(line, entry)) {
+        fprintf(to_program, forms[line->word], line->volume, line->at, line->count);
+        if (line->word == WRITE)
+            fwrite(line->bytes, BLOCK_BYTES, line->count, to_program);
+    }
+    fflush(to_program);
+}
+
+/* Sends a line and those of its kind that wait right behind it, writes together. */
+static void send_from(struct line *line)
+{
+    struct line *first = line;
+    bool are_writes = line->word == WRITE;
+    unsigned added = 0, most_added = are_writes ? ROOM_LINES : SHORT_LINES;
+    do {
+        TAILQ_REMOVE(&waiting, line, entry);
+        TAILQ_INSERT_TAIL(&sent, line, entry);
+        line->last->under_way++;
+        many.lines++;
+        many.blocks += line->count;
+        line = first_to_send();
+    } while (++added < most_added && line != NULL && (line->word == WRITE) == are_writes);
+    many.writes += are_writes ? added : 0;
+    giving = first;
+    wake(TAILQ_FIRST(&sent));
+    pthread_mutex_unlock(&lock);
+    give(first, are_writes ? added : 0);
+    pthread_mutex_lock(&lock);
+    giving = NULL;
+    pthread_cond_broadcast(&is_given);
+    wake(first_to_send());
+}
+
+/* Waits until lines of one word are done, does meanwhile what is to be done for all, and returns the first error, 0 for none. */
+static int ask_program(struct line *lines, unsigned count)
+{
+    struct line *last = lines + count - 1, *next;
+    last->left = count;
+    pthread_cond_init(&last->woken, NULL);
+    pthread_mutex_lock(&lock);
+    for (struct line *line = lines; line <= last; line++) {
+        line->last = last;
+        TAILQ_INSERT_TAIL(&waiting, line, entry);
+    }
+    refuse_if_lost();
+    for (;;) {
+        if (last->under_way == 0 && (next = first_to_send()) != NULL)
+            send_from(next);
+        else if (last->left == 0)
             break;
-        at += blocks * BLOCK_BYTES;
+        else if ((next = TAILQ_FIRST(&sent)) != NULL && next->last == last)
+            await_reply(next);
+        else
+            pthread_cond_wait(&last->woken, &lock);
     }
-    return end_of(&request);
+    pthread_mutex_unlock(&lock);
+    pthread_cond_destroy(&last->woken);
+    return last->error;
 }
 
-/* Writes blocks that follow each other in memory, or the same one over and over. */
-static int write_all(const unsigned char *from, size_t stride, uint32_t count, uint64_t offset)
+/* What nbdkit is told of the end of a request. */
+static int ended(int error)
 {
-    struct request request = {.changed = PTHREAD_COND_INITIALIZER};
-    char line[LINE_BYTES];
-    if (!is_whole(count, offset))
-        return -1;
-    for (uint32_t at = 0; at < count;) {
-        unsigned blocks = blocks_of_line(count - at);
-        char *end = line + sprintf(line, "write %s %" PRIu64, volume, (offset + at) / BLOCK_BYTES);
-        for (unsigned block = 0; block < blocks; block++, from += stride)
-            end = put_block(end, from);
-        *end++ = '\n';
-        if (!ask(&request, line, end - line, NULL, 0))
-            break;
-        at += blocks * BLOCK_BYTES;
-    }
-    return end_of(&request);
+    if (error != 0)
+        nbdkit_set_error(error);
+    return error == 0 ? 0 : -1;
 }
 
-static int write_blocks(void *handle, const void *buffer, uint32_t count, uint64_t offset, uint32_t flags)
+static int list(struct volumes *found) { return ended(ask_program(&(struct line){.word = LIST, .found = found}, 1)); }
+
+/* Sees to it that a program that is killed is started again, also where nobody asks for anything. */
+static void *keep(void *nothing)
 {
-    return write_all(buffer, BLOCK_BYTES, count, offset);
+    struct volumes found;
+    siginfo_t how;
+    while (!is_ending && list(&found) == 0)
+        waitid(P_PID, process, &how, WEXITED | WNOWAIT);
+    return nothing;
 }
 
-/* Zeros are written as other blocks are. So a client that asks for them only where that is quicker is told at once that it is not. */
-static int write_zeros(void *handle, uint32_t count, uint64_t offset, uint32_t flags)
+static int begin(void)
 {
-    static const unsigned char zeros[BLOCK_BYTES];
-    if (flags & NBDKIT_FLAG_FAST_ZERO) {
-        nbdkit_set_error(EOPNOTSUPP);
-        return -1;
-    }
-    return write_all(zeros, 0, count, offset);
+    struct volumes found;
+    /* Else nbdkit in the foreground ends with the process that started it, and what is not written yet with it. */
+    prctl(PR_SET_PDEATHSIG, 0);
+    state = start(WHEN_FREE SERVE) ? UP : LOST;
+    return list(&found) == 0 && pthread_create(&keeper, NULL, keep, NULL) == 0 ? 0 : -1;
 }
 
-/* A reply is durable. */
-static int flush(void *handle, uint32_t flags)
+static void end(void)
 {
-    return 0;
+    pthread_mutex_lock(&lock);
+    is_ending = true;
+    /* A program that was started again, and has not answered yet, may wait for devices. */
+    if (state == UP && !TAILQ_EMPTY(&sent))
+        kill(process, SIGKILL);
+    else if (state == UP)
+        close(fileno(to_program));
+    pthread_mutex_unlock(&lock);
+    if (keeper != 0)
+        pthread_join(keeper, NULL);
 }
 
-static void *open_volume(int is_readonly)
-{
-    return NBDKIT_HANDLE_NOT_NEEDED;
-}
-
-static int64_t size_of(void *handle)
-{
-    return volume_bytes;
-}
-
-static int sizes_of_requests(void *handle, uint32_t *least, uint32_t *preferred, uint32_t *most)
-{
-    *least = BLOCK_BYTES;
-    *preferred = 4096;
-    *most = MOST_REQUEST;
-    return 0;
-}
-
-static int yes(void *handle)
-{
-    return 1;
-}
-
-static int no(void *handle)
-{
-    return 0;
-}
-
-static int by_itself(void *handle)
-{
-    return NBDKIT_FUA_NATIVE;
-}
-
-/* The words of the command line. */
-
-/* Whether it is a name: no other goes into a line. */
-static bool is_name(const char *word)
-{
-    size_t bytes = strlen(word);
-    return bytes >= 1 && bytes <= MOST_NAME && word[0] >= 'a' && word[0] <= 'z'
-        && strspn(word, "abcdefghijklmnopqrstuvwxyz0123456789-_") == bytes;
-}
-
-static int keep(char **to, char *word)
-{
-    free(*to);
-    *to = word;
-    return word == NULL ? -1 : 0;
-}
-
-/* nbdkit leaves the folder where it was started, so paths are kept from the root on. */
+/* A word of the command line. nbdkit leaves the folder where it was started, so paths are kept from the root on. */
 static int config(const char *key, const char *word)
 {
-    if (strcmp(key, "folder") == 0)
-        return keep(&folder, nbdkit_realpath(word));
-    if (strcmp(key, "id") == 0)
-        return keep(&set_id, strdup(word));
-    if (strcmp(key, "program") == 0)
-        return keep(&program_path, strchr(word, '/') ? nbdkit_realpath(word) : strdup(word));
-    if (strcmp(key, "outlive") == 0)
-        return (outlives = nbdkit_parse_bool(word)) == -1 ? -1 : 0;
-    if (strcmp(key, "volume") == 0 && is_name(word))
-        return keep(&volume, strdup(word));
-    if (strcmp(key, "volume") == 0)
-        nbdkit_error("%s is no name of a volume", word);
+    bool is_folder = strcmp(key, "folder") == 0, is_program = strcmp(key, "program") == 0;
+    const char **to = is_folder ? &set_folder : is_program ? &program_path : strcmp(key, "id") == 0 ? &set_id : NULL;
+    if (to != NULL)
+        *to = is_folder || (is_program && strchr(word, '/') != NULL) ? nbdkit_realpath(word) : strdup(word);
     else
         nbdkit_error("there is no parameter %s", key);
-    return -1;
+    return to != NULL && *to != NULL ? 0 : -1;
 }
 
 static int config_complete(void)
 {
-    if (folder == NULL || set_id == NULL || volume == NULL) {
-        nbdkit_error("folder=, id= and volume= have to be given");
-        return -1;
-    }
-    return program_path != NULL ? 0 : keep(&program_path, strdup("raidtool"));
+    if (set_folder != NULL && set_id != NULL)
+        return 0;
+    nbdkit_error("folder= and id=, the id of the set, have to be given");
+    return -1;
 }
 
-/* Tries the start while errors still reach the terminal. The program that serves is started after the fork. */
-static int get_ready(void)
+static int list_exports(int is_readonly, int is_tls, struct nbdkit_exports *exports)
 {
-    /* nbdkit does so, too, but later. */
-    signal(SIGPIPE, SIG_IGN);
-    if (start() == -1)
-        return -1;
-    stop();
+    struct volumes found;
+    int fault = list(&found);
+    for (unsigned at = 0; fault == 0 && at < found.many; at++)
+        fault = nbdkit_add_export(exports, found.all[at].name, NULL);
+    return fault;
+}
+
+/* The volume that the client names, or the only one where it names none. What it names goes into a line only where it is, whole, the name of a volume. */
+static void *open_volume(int is_readonly)
+{
+    struct volumes found;
+    char names[sizeof found.all] = "";
+    const char *name = nbdkit_export_name();
+    if (name == NULL || list(&found) == -1)
+        return NULL;
+    for (const struct volume *it = found.all; it < found.all + found.many; it++) {
+        struct volume *volume = strcmp(it->name, name) == 0 || (*name == 0 && found.many == 1) ? malloc(sizeof *it) : NULL;
+        if (volume != NULL)
+            return memcpy(volume, it, sizeof *it);
+        strcat(strcat(names, *names ? ", " : ""), it->name);
+    }
+    nbdkit_error("an export has to be named by a volume of the set: %s", names);
+    return NULL;
+}
+
+static int sizes_of_requests(void *volume, uint32_t *least, uint32_t *preferred, uint32_t *largest)
+{
+    *least = BLOCK_BYTES;
+    *preferred = PREFERRED_BYTES;
+    *largest = MOST_BYTES;
     return 0;
 }
 
-static int after_fork(void)
+/* Has lines done for these blocks, and returns the error. */
+static int ask(enum word word, const char *volume, uint64_t at, uint64_t after, char *bytes)
 {
-    wake = eventfd(0, EFD_CLOEXEC | EFD_NONBLOCK);
-    if (wake == -1) {
-        nbdkit_error("eventfd: %m");
-        return -1;
+    struct line lines[MOST_LINES];
+    unsigned lines_now = 0;
+    for (; at < after; at += lines[lines_now++].count) {
+        unsigned count = after - at < most[word] ? after - at : most[word];
+        lines[lines_now] = (struct line){.word = word, .volume = volume, .at = at, .count = count, .bytes = bytes};
+        bytes += word == ZERO ? 0 : count * BLOCK_BYTES;
     }
-    /* In the foreground nbdkit has itself ended with the process that started it, and what is not written yet with it. */
-    if (outlives && prctl(PR_SET_PDEATHSIG, 0) == -1)
-        nbdkit_error("prctl: %m");
-    return start();
+    return ask_program(lines, lines_now);
 }
 
-#define HELP \
-    "folder=FOLDER     (required) The folder of the device files.\n" \
-    "id=H              (required) The id of the set.\n" \
-    "volume=NAME       (required) The volume.\n" \
-    "program=PATH      The program, if it is not the raidtool on the path.\n" \
-    "outlive=true      In the foreground, go on where the process that started nbdkit ends."
+/* Reads or writes what begins or ends within a block: reads the blocks, and gives a part of them, or changes it and writes them. */
+static int ask_part(enum word word, const char *volume, uint64_t at, uint64_t after, char *bytes, uint32_t count, uint64_t offset)
+{
+    char *whole = malloc((after - at) * BLOCK_BYTES), *part = whole + offset % BLOCK_BYTES;
+    int error = whole == NULL ? ENOMEM : ask(READ, volume, at, after, whole);
+    if (error == 0)
+        memcpy(word == READ ? bytes : part, word == READ ? part : bytes, count);
+    if (error == 0 && word == WRITE)
+        error = ask(WRITE, volume, at, after, whole);
+    free(whole);
+    return error;
+}
+
+/* Does what is asked for. */
+static int done(enum word word, const struct volume *volume, char *bytes, uint32_t count, uint64_t offset)
+{
+    uint64_t at = offset / BLOCK_BYTES, after = (offset + count + BLOCK_BYTES - 1) / BLOCK_BYTES;
+    bool is_whole = offset % BLOCK_BYTES == 0 && count % BLOCK_BYTES == 0;
+    if (word != READ) {
+        pthread_mutex_lock(&turn);
+        (is_whole ? pthread_rwlock_rdlock : pthread_rwlock_wrlock)(&writes);
+        pthread_mutex_unlock(&turn);
+    }
+    int error = is_whole ? ask(word, volume->name, at, after, bytes) : ask_part(word, volume->name, at, after, bytes, count, offset);
+    if (word != READ)
+        pthread_rwlock_unlock(&writes);
+    return ended(error);
+}
+
+/* Zeros that are wanted only where they are quicker than a write are refused, and those of parts of blocks: nbdkit writes these then. */
+static int write_zeros(void *volume, uint32_t count, uint64_t offset, uint32_t flags)
+{
+    bool is_refused = flags & NBDKIT_FLAG_FAST_ZERO || count % BLOCK_BYTES != 0 || offset % BLOCK_BYTES != 0;
+    return is_refused ? ended(EOPNOTSUPP) : done(ZERO, volume, NULL, count, offset);
+}
+
+/* The rest of what nbdkit asks. A reply is durable, and a flush has nothing to do. */
+static int read_bytes(void *volume, void *to, uint32_t count, uint64_t at, uint32_t flags) { return done(READ, volume, to, count, at); }
+static int write_bytes(void *volume, const void *from, uint32_t count, uint64_t at, uint32_t flags) { return done(WRITE, volume, (char *)from, count, at); }
+static int flush(void *volume, uint32_t flags) { return 0; }
+static int64_t size_of(void *volume) { return ((struct volume *)volume)->blocks * BLOCK_BYTES; }
+static int by_itself(void *volume) { return NBDKIT_FUA_NATIVE; }
+static int yes(void *volume) { return 1; }
 
 static struct nbdkit_plugin plugin = {
     .name = "raidtool",
-    .longname = "nbdkit raidtool plugin",
-    .description = "a volume of a RAID 5 set with a mirrored stripe journal",
-    .unload = unload,
+    .description = "the volumes of a RAID 5 set with a mirrored stripe journal",
     .config = config,
     .config_complete = config_complete,
-    .config_help = HELP,
+    .config_help = "folder=FOLDER  the folder of the device files\nid=H           the id of the set\n"
+                   "program=PATH   the program, if it is not the raidtool on the path",
     .magic_config_key = "folder",
-    .get_ready = get_ready,
-    .after_fork = after_fork,
-    .cleanup = stop,
+    .after_fork = begin,
+    .cleanup = end,
+    .list_exports = list_exports,
     .open = open_volume,
+    .close = free,
     .get_size = size_of,
     .block_size = sizes_of_requests,
-    .can_write = yes,
-    .can_flush = yes,
     .can_fua = by_itself,
-    .can_zero = yes,
     /* Else nbdkit 1.32 ends by an assertion of its own when a client asks for it all the same. */
     .can_fast_zero = yes,
-    .can_trim = yes,
     .can_multi_conn = yes,
-    .is_rotational = no,
-    .pread = read_blocks,
-    .pwrite = write_blocks,
+    .pread = read_bytes,
+    .pwrite = write_bytes,
     .zero = write_zeros,
-    .trim = write_zeros,
     .flush = flush,
 };
 

@@ -1,5 +1,5 @@
 //! Requests are served over the device files of a folder.
-ghost use Rattle.std.specs.Prelude.{◌≡◌, ◌≢◌, ◌<◌, Some, [], None, IfErr, IfSome, Ok, OnOk, length, ℕ};
+ghost use Rattle.std.specs.Prelude.{◌≡◌, ◌≢◌, ◌<◌, Some, [], None, IfErr, IfSome, IsSome, Ok, OnOk, length, ℕ, ◌⊎◌};
 ghost use Rattle.sector_model.specs.declared.refusal.Refusal.{Refusal};
 ghost use Rattle.device_files.specs.declared.FolderFault.{FolderFault};
 ghost use Rattle.device_files.specs.BankFiles.{AreAllSafe};
@@ -14,7 +14,8 @@ ghost use Rattle.raidtool.specs.Stops.{HasPassed, IsBlamed, IsServeFault};
 ghost use Rattle.raidtool.specs.Tool.{IsOfFiles};
 
 use device_files::{
-    BankFile, FolderFault, Growing, SlotFiles, bank_on, open_folder, pass_over, reopen_slot,
+    BankFile, FolderFault, FolderSync, Growing, SlotFiles, bank_on, open_folder, pass_over,
+    reopen_slot, sync_folders,
 };
 use sector_model::{Bank, Refusal};
 use server::{Ending, serve_replaced, serve_set, write_last};
@@ -40,7 +41,7 @@ pub(crate) fn serve_in_folder<D, R: BufRead, W: Write, E: Write>(
     err: &mut E,
 ) -> Result<(), FolderFault>
 where
-    D: SlotFiles,
+    D: SlotFiles + FolderSync,
     D::File: BankFile,
     ensures passed { HasPassed E.contents err.old err.new }
     ensures served { OnOk result (ServesFolder ⟦<D::File as Growing>⟧ D.File.left (D.opens disk.now) folder.now id
@@ -73,7 +74,7 @@ fn serve_runs<D, R: BufRead, W: Write>(
     out: &mut W,
 ) -> Result<(), Refusal>
 where
-    D: SlotFiles,
+    D: SlotFiles + FolderSync,
     D::File: BankFile,
     requires ten { length files.old ≡ 10 }
     requires safe { AreAllSafe D.File.is_safe files.old }
@@ -150,7 +151,7 @@ fn serve_again<D, R: BufRead, W: Write>(
     out: &mut W,
 ) -> Result<Ending, Refusal>
 where
-    D: SlotFiles,
+    D: SlotFiles + FolderSync,
     D::File: BankFile,
     requires ten { length files.old ≡ 10 }
     ensures again { ServesAgain ⟦<D::File as Growing>⟧ D.File.left (λ slot. D.opens disk.now (slot_path folder.now slot))
@@ -165,7 +166,8 @@ where
     }
 }
 
-// Makes the files of a further run ready, and room for its entries.
+// Makes the files of a further run ready, and room for its entries. The folder is synced, and so is the one to which the
+// path of the slot leads: a file that was made there since may be unsafe in it. Where that fails, the slot has no file.
 fn ready_again<D>(
     alloc: Global,
     disk: &D,
@@ -174,17 +176,36 @@ fn ready_again<D>(
     files: &mut [Option<D::File>],
 ) -> Result<Entry, Refusal>
 where
-    D: SlotFiles,
+    D: SlotFiles + FolderSync,
     D::File: BankFile,
     requires ten { length files.old ≡ 10 }
     ensures ten { length files.new ≡ 10 }
     ensures safe { OnOk result (AreAllSafe D.File.is_safe files.new) }
     ensures opened { OnOk result (IsReopened D.File.tells D.File.told (D.opens disk.now (slot_path folder.now slot))
         (file_in files.new slot)) }
+    ensures synced { OnOk result (IsSome (file_in files.new slot)
+        → D.is_safe disk.now folder.now ⊎ D.is_never disk.now folder.now) }
     ensures err { IfErr result (λ refusal. refusal ≡ Refusal.Memory) }
 {
     reopen_slot(alloc, disk, folder, slot, files)?;
+    if sync_folders(alloc, disk, folder, slot, slot.saturating_add(1)).is_err() {
+        close_slot(slot, files);
+    }
     Ok(Entry::new(alloc)?)
+}
+
+// Closes the file of a slot.
+fn close_slot<F: BankFile>(slot: u8, files: &mut [Option<F>])
+    requires ten { length files.old ≡ 10 }
+    requires safe { AreAllSafe F.is_safe files.old }
+    ensures ten { length files.new ≡ 10 }
+    ensures safe { AreAllSafe F.is_safe files.new }
+    ensures closed { file_in files.new slot ≡ None }
+{
+    let at = slot as usize;
+    if at < files.len() {
+        files[at] = None;
+    }
 }
 
 // Serves over files that are ready.

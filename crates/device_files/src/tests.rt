@@ -2,6 +2,7 @@
 //! faults.
 ghost use Rattle.std.specs.Prelude.{◌≡◌, true};
 
+mod reopening;
 mod superblocks;
 mod system_files;
 

@@ -7,6 +7,7 @@ mod locked;
 mod program;
 mod renames;
 mod repair;
+mod requests;
 mod sending;
 mod starting;
 mod unsynced;

@@ -7,7 +7,7 @@ mod locked;
 mod program;
 mod renames;
 mod repair;
-mod requests;
+mod served;
 mod sending;
 mod starting;
 mod unsynced;
